@@ -1,0 +1,19 @@
+-- What is promised. A reader must believe these files and nothing else; docs/ARCHITECTURE.md says how they hang together.
+pub mod Lists
+pub mod Names
+pub mod Answers
+pub mod Cards
+pub mod Headings
+pub mod Catalogue
+pub mod Errors
+pub mod Merge
+pub mod Refusals
+pub mod Store
+pub mod LentRows
+pub mod Lookups
+pub mod Outcomes
+pub mod Account
+pub mod Opened
+pub mod Shown
+pub mod Table
+pub mod Examples

@@ -1,0 +1,204 @@
+-- 01, "Store": where things stand in it, 21 and 22, what it holds, and what opening, filing and turning a switch on write.
+-- A store is a slice of text bytes and a slice of words. It is decoded, never trusted.
+use mathlib.Core.List.{List, [], _∷_, map}
+use mathlib.Core.Bool.{Bool, true, false, _&&_, _||_}
+use mathlib.Core.Option.{Option, none, some}
+use Prim.Native.Nat.{ℕ, _+_, _-_, _*_}
+use lib.Dec.{eqb, leb, ltb}
+use lib.ListN.{length, take, drop, getD, set}
+use lib.Seq.{sets}
+use Rattle.definition.specs.Lists.{choose, found, first, flatMap, chunks, written}
+use Rattle.definition.specs.Names.{bytesAt}
+use Rattle.definition.specs.Cards.{Card, cardWords, cardsFrom, wordsOfCard, isUnnamed, cardFault}
+use Rattle.definition.specs.Headings.{Document}
+use Rattle.definition.specs.Refusals.{Account, textRoom, documentRoom, cardRoom, zeroFault}
+
+-- ---- Positions: five words, the documents' rows, the cards.
+
+abbrev pub rowsAt : ℕ
+rowsAt = 5
+
+abbrev pub rowWords : ℕ
+rowWords = 4
+
+abbrev pub cardsAt : ℕ
+cardsAt = rowsAt + rowWords * documentRoom
+
+abbrev pub wordsRoom : ℕ
+wordsRoom = cardsAt + cardWords * cardRoom
+
+unfoldable pub documentCount : List ℕ → ℕ
+documentCount words = getD words 0 0
+
+unfoldable pub adoptWord : List ℕ → ℕ
+adoptWord words = getD words 1 0
+
+unfoldable pub ignoreWord : List ℕ → ℕ
+ignoreWord words = getD words 2 0
+
+unfoldable pub textUsed : List ℕ → ℕ
+textUsed words = getD words 3 0
+
+unfoldable pub cardsUsed : List ℕ → ℕ
+cardsUsed words = getD words 4 0
+
+-- A document's row: where its text begins and how long it is, how many cards it has, and the ignore switch when it was filed.
+pub record StoredRow : Type 0 where
+  pub textAt : ℕ
+  pub textLen : ℕ
+  pub cardCount : ℕ
+  pub ignored : ℕ
+
+unfoldable pub rowFrom : List ℕ → StoredRow
+rowFrom ws = record { textAt = getD ws 0 0; textLen = getD ws 1 0; cardCount = getD ws 2 0; ignored = getD ws 3 0 }
+
+unfoldable pub storedRows : List ℕ → List StoredRow
+storedRows words = chunks rowWords rowFrom (documentCount words) (drop rowsAt words)
+
+unfoldable pub storedCards : List ℕ → List Card
+storedCards words = cardsFrom (cardsUsed words) (drop cardsAt words)
+
+-- ---- What a store holds.
+
+-- A stored card's spans are moved by its document's offset; an absent name is not.
+unfoldable pub moved : ℕ → Card → Card
+moved base c = record {
+  kind = c .kind;
+  itemAt = c .itemAt + base;
+  itemLen = c .itemLen;
+  nameAt = choose (isUnnamed c) (c .nameAt) (c .nameAt + base);
+  nameLen = c .nameLen;
+}
+
+unfoldable pub unmoved : ℕ → Card → Card
+unmoved base c = record {
+  kind = c .kind;
+  itemAt = c .itemAt - base;
+  itemLen = c .itemLen;
+  nameAt = choose (isUnnamed c) (c .nameAt) (c .nameAt - base);
+  nameLen = c .nameLen;
+}
+
+unfoldable pub storedDocument : List ℕ → StoredRow → List Card → Document
+storedDocument text r cs = record {
+  text = bytesAt text (r .textAt) (r .textLen);
+  cards = map (unmoved (r .textAt)) cs;
+  ignored = eqb (r .ignored) 1;
+}
+
+-- The documents of the rows; cs are the cards not yet given to a row.
+unfoldable pub documentsFrom : List ℕ → List StoredRow → List Card → List Document
+documentsFrom text [] cs = []
+documentsFrom text (r ∷ rs) cs = storedDocument text r (take (r .cardCount) cs) ∷ documentsFrom text rs (drop (r .cardCount) cs)
+
+unfoldable pub accountIn : List ℕ → List ℕ → Account
+accountIn text words = record {
+  documents = documentsFrom text (storedRows words) (storedCards words);
+  adopt = eqb (adoptWord words) 1;
+  ignore = eqb (ignoreWord words) 1;
+}
+
+-- ---- 21: either slice shorter than stated.
+unfoldable pub tooShort : List ℕ → List ℕ → Bool
+tooShort text words = ltb (length text) textRoom || ltb (length words) wordsRoom
+
+-- ---- 22: what filing can't leave. Only the used part is asked.
+
+-- The counts and switches: 1 to 64 documents, each switch 0 or 1, no more text and cards than there is room for.
+unfoldable pub countsSound : List ℕ → Bool
+countsSound words =
+    leb 1 (documentCount words) && leb (documentCount words) documentRoom &&
+    leb (adoptWord words) 1 && leb (ignoreWord words) 1 &&
+    leb (textUsed words) textRoom && leb (cardsUsed words) cardRoom
+
+-- The rows touch, from 0 on to the text used;
+unfoldable pub rowsTouch : ℕ → ℕ → List StoredRow → Bool
+rowsTouch used at [] = eqb at used
+rowsTouch used at (r ∷ rs) = eqb (r .textAt) at && rowsTouch used (at + r .textLen) rs
+
+-- their card counts come to the cards used;
+unfoldable pub cardsCounted : ℕ → ℕ → List StoredRow → Bool
+cardsCounted used n [] = eqb n used
+cardsCounted used n (r ∷ rs) = cardsCounted used (n + r .cardCount) rs
+
+-- their ignore switches never fall, and end no higher than the switch is, which is turned on and never off;
+unfoldable pub switchesRise : ℕ → ℕ → List StoredRow → Bool
+switchesRise switch last [] = leb last switch
+switchesRise switch last (r ∷ rs) = leb last (r .ignored) && switchesRise switch (r .ignored) rs
+
+-- and document 0 was filed with the switch 0.
+unfoldable pub zeroUnignored : List StoredRow → Bool
+zeroUnignored rs = found (first rs) (λ r. eqb (r .ignored) 0) false
+
+unfoldable pub rowsSound : List ℕ → List StoredRow → Bool
+rowsSound words rs =
+    rowsTouch (textUsed words) 0 rs && cardsCounted (cardsUsed words) 0 rs && switchesRise (ignoreWord words) 0 rs && zeroUnignored rs
+
+-- Every document's cards pass 2 to 5 against its own text,
+unfoldable pub cardsSound : List ℕ → List StoredRow → List Card → Bool
+cardsSound text [] cs = true
+cardsSound text (r ∷ rs) cs =
+    let rest = cardsSound text rs (drop (r .cardCount) cs) in
+    found (cardFault text (r .textAt) (r .textLen) (take (r .cardCount) cs)) (λ f. false) rest
+
+-- and document 0 passes 6.
+unfoldable pub zeroSound : List Document → Bool
+zeroSound ds = found (first ds) (λ d. found (zeroFault d) (λ f. false) true) false
+
+-- Each test is asked only where those before it hold: a count is read after its range.
+unfoldable pub sound : List ℕ → List ℕ → Bool
+sound text words =
+    let zero = zeroSound (accountIn text words .documents) in
+    let cards = choose (cardsSound text (storedRows words) (storedCards words)) zero false in
+    let rows = choose (rowsSound words (storedRows words)) cards false in
+    choose (countsSound words) rows false
+
+-- The account of a store: none exactly where 22 holds.
+unfoldable pub decode : List ℕ → List ℕ → Option Account
+decode text words = let a = some (accountIn text words) in choose (sound text words) a none
+
+-- 21, then 22, else 0.
+unfoldable pub storeRefusal : List ℕ → List ℕ → ℕ
+storeRefusal text words =
+    let n22 : ℕ = choose (sound text words) 0 22 in
+    choose (tooShort text words) 21 n22
+
+-- ---- What is written.
+
+-- A document's cards as they are stored, where its text begins at `base`.
+unfoldable pub movedWords : ℕ → List Card → List ℕ
+movedWords base cs = flatMap wordsOfCard (map (moved base) cs)
+
+-- Opening files document 0 with both switches 0; all other words and bytes stay.
+unfoldable pub openedWords : List ℕ → Document → List ℕ
+openedWords words d =
+    written
+    (sets words 0 (1 ∷ 0 ∷ 0 ∷ length (d .text) ∷ length (d .cards) ∷ 0 ∷ length (d .text) ∷ length (d .cards) ∷ 0 ∷ []))
+    cardsAt (movedWords 0 (d .cards))
+
+unfoldable pub openedText : List ℕ → Document → List ℕ
+openedText text d = written text 0 (d .text)
+
+-- Filing writes its row, cards, text and three counts, each at the beginning of its unused part; all else stays.
+unfoldable pub filedRow : List ℕ → Document → List ℕ
+filedRow words d = textUsed words ∷ length (d .text) ∷ length (d .cards) ∷ ignoreWord words ∷ []
+
+unfoldable pub filedCounts : List ℕ → Document → List ℕ
+filedCounts words d =
+    sets (set words 0 (documentCount words + 1)) 3 ((textUsed words + length (d .text)) ∷ (cardsUsed words + length (d .cards)) ∷ [])
+
+unfoldable pub filedWords : List ℕ → Document → List ℕ
+filedWords words d =
+    written
+    (sets (filedCounts words d) (rowsAt + rowWords * documentCount words) (filedRow words d))
+    (cardsAt + cardWords * cardsUsed words) (movedWords (textUsed words) (d .cards))
+
+unfoldable pub filedText : List ℕ → List ℕ → Document → List ℕ
+filedText text words d = written text (textUsed words) (d .text)
+
+-- Turning a switch on writes that word alone.
+unfoldable pub adoptingWords : List ℕ → List ℕ
+adoptingWords words = set words 1 1
+
+unfoldable pub ignoringWords : List ℕ → List ℕ
+ignoringWords words = set words 2 1
