@@ -1,11 +1,11 @@
 // The answers of the public entries. Contracts and definitions share these types; specs/ says what each case stands for.
 
 // A refusal and, for 2 to 6, the number of the card in its document, else 0. An accepted call answers 0 and 0; a call that fills a slice
-// answers 0 and how many things it wrote.
+// answers 0 and how many things it wrote. A lent document may have more cards than 32 bits count, so the card's number is a usize.
 #[repr(C)]
 pub struct Answer {
     pub number: u32,
-    pub card: u32,
+    pub card: usize,
 }
 
 // One tally for each error number, 1 to 16, and how many errors there are in all.
