@@ -1,0 +1,161 @@
+-- The search for a name among cards, and a card that is added where none has its name.
+use mathlib.Core.Path.{_≡_, refl, sym, _∙_, ap}
+use mathlib.Core.List.{List, [], _∷_, _++_, map}
+use mathlib.Core.Bool.{true, false}
+use mathlib.Core.Option.{Option, none, some}
+use Prim.Native.Nat.{ℕ, zero, suc, _+_, _-_, _≤_, _<_}
+use native.Mathlib.Numerals.{add-one}
+use native.Mathlib.Nat.{sub-zero}
+use native.Mathlib.Omega.{arith}
+use lib.ListN.{length, take, drop, getD, getElem?, set, length-map, drop-of-length-le}
+use lib.Seq.{drop-cons, getD-take, take-suc, take-suc-set, take-all}
+use Rattle.definition.specs.Lists.{firstWhere, All}
+use Rattle.definition.specs.Headings.{Part}
+use Rattle.definition.specs.Refusals.{cardRoom}
+use Rattle.definition.specs.Store.{cardsUsed, wordsRoom}
+use Rattle.index.specs.declared.Entry.{Entry}
+use Rattle.index.specs.declared.Entry.the-variants.{Occupied, Vacant}
+use Rattle.index.specs.Index.{fingerprint, partPrint, sameCards, Printed}
+use Rattle.index.specs.Turns.{Searched, Entering, cardPrint, entryOf, enteredIn, firstEntered, Entered}
+use Rattle.stored.specs.Stored.{storedParts, cardAt, cardName}
+use Rattle.stored.proofs.Words.{length-stored, stored-at}
+use Rattle.index.proofs.Lists.{none-some, first-yes, first-no, first-empty, map-append}
+use Rattle.index.proofs.Prints.{prints-differ}
+
+-- ---- Cards that are stored.
+
+pub all-at : (P : ℕ → Type 0) (xs : List ℕ) → All P xs → (i : ℕ) → i < length xs → P (getD xs i 0)
+all-at P [] a i h = absurd (omega arith)
+all-at P (x ∷ xs) a zero h = a .0
+all-at P (x ∷ xs) a (suc i) h = all-at P xs (a .1) i (omega arith)
+
+-- ---- A turn of the search.
+
+module _ (text words cards : List ℕ) (card i : ℕ) where
+  at-card : i < length cards → drop i cards ≡ getD cards i 0 ∷ drop (i + 1) cards
+  at-card h = rw (add-one, drop-cons cards i 0)
+
+  pub search-hit : i < length cards → sameCards text words card (getD cards i 0) ≡ true →
+      entryOf (firstWhere (sameCards text words card) (drop i cards)) ≡ Occupied (getD cards i 0)
+  search-hit h e = rw (at-card h) (ap entryOf (first-yes (sameCards text words card) (getD cards i 0) (drop (i + 1) cards) e))
+
+  pub search-miss : i < length cards → sameCards text words card (getD cards i 0) ≡ false →
+      entryOf (firstWhere (sameCards text words card) (drop i cards)) ≡ entryOf (firstWhere (sameCards text words card) (drop (i + 1) cards))
+  search-miss h e = rw (at-card h) (ap entryOf (first-no (sameCards text words card) (getD cards i 0) (drop (i + 1) cards) e))
+
+  pub search-end : length cards ≤ i → entryOf (firstWhere (sameCards text words card) (drop i cards)) ≡ Vacant
+  search-end h = rw (drop-of-length-le cards h) (ap entryOf (first-empty (sameCards text words card)))
+
+-- The prints beside the cards tell other names.
+getD-print : (text words cards : List ℕ) (i : ℕ) → i < length cards → getD (map (cardPrint text words) cards) i 0 ≡ cardPrint text words (getD cards i 0)
+getD-print text words [] i h = absurd (omega arith)
+getD-print text words (x ∷ xs) zero h = refl
+getD-print text words (x ∷ xs) (suc i) h = getD-print text words xs i (omega arith)
+
+module _ (text words cards prints : List ℕ) (card print : ℕ) (s : Searched text words cards prints card print) where
+  pub search-length : length prints ≡ length cards
+  search-length = ap length (s .prints-are) ∙ length-map cards (cardPrint text words)
+
+  pub search-differ : (i : ℕ) → i < length cards → (getD prints i 0 ≡ print → ⊥) → sameCards text words card (getD cards i 0) ≡ false
+  unfolding sameCards cardPrint
+  search-differ i h d =
+      prints-differ _ _
+      (λ e. d (ap (λ (l : List ℕ). getD l i 0) (s .prints-are) ∙ getD-print text words cards i h ∙ sym e ∙ sym (s .print-is)))
+
+-- ---- Fingerprints of all cards.
+
+getD-named : (cs : List Part) (i : ℕ) (c : Part) → getElem? cs i ≡ some c → getD (map partPrint cs) i 0 ≡ partPrint c
+getD-named [] i c e = absurd (none-some c e)
+getD-named (x ∷ xs) zero c e = let q : x ≡ c = cc in ap partPrint q
+getD-named (x ∷ xs) (suc i) c e = getD-named xs i c e
+
+-- What `same_cards` reads.
+module _ (text words prints : List ℕ) (p : Printed text words prints) where
+  pub print-at : (a : ℕ) → a < cardsUsed words → getD prints a 0 ≡ cardPrint text words a
+  unfolding partPrint cardPrint
+  print-at a h =
+      let l : length (storedParts text words) ≡ cardsUsed words = length-stored text words in
+      sym (getD-take (cardsUsed words) prints a 0 h)
+      ∙ ap (λ (xs : List ℕ). getD xs a 0) (p .prints-are)
+      ∙ getD-named (storedParts text words) a (cardAt text words a) (stored-at text words a h)
+      ∙ card-print
+    where
+      card-print : partPrint (cardAt text words a) ≡ cardPrint text words a
+      card-print = refl
+
+  pub cards-differ : (a b : ℕ) → a < cardsUsed words → b < cardsUsed words → (getD prints a 0 ≡ getD prints b 0 → ⊥) → sameCards text words a b ≡ false
+  unfolding sameCards cardPrint
+  cards-differ a b h k d = prints-differ _ _ (λ e. d (print-at a h ∙ e ∙ sym (print-at b k)))
+
+-- ---- A card that comes to the first ones.
+
+pub occupied : (o : Option ℕ) (d : ℕ) → entryOf o ≡ Occupied d → o ≡ some d
+occupied (some x) d e = let q : x ≡ d = cc in ap some q
+occupied none d e = absurd (let z : _≡_ {A = ℕ} 0 1 = cc in omega arith)
+
+pub vacant : (o : Option ℕ) → entryOf o ≡ Vacant → o ≡ none
+vacant (some x) e = absurd (let z : _≡_ {A = ℕ} 0 1 = cc in omega arith)
+vacant none e = refl
+
+module _ (text words cards prints : List ℕ) (count card print : ℕ) (s : Entering text words cards prints count card print) where
+  -- The search goes over the part from 0 to `count`.
+  pub entered-old : (f : Entry) (d : ℕ) → f ≡ entryOf (firstWhere (sameCards text words card) (take (count - 0) cards)) → f ≡ Occupied d →
+      Entered text words card count (record { card = d; count = count }) cards cards prints
+  unfolding firstEntered enteredIn
+  entered-old f d r e =
+      let q = occupied (firstWhere (sameCards text words card) (take count cards)) d (rw sub-zero at (sym r ∙ e)) in
+      record {
+        first-is = rw q;
+        cards-are = rw q;
+        prints-are = s .searched .prints-are;
+        count-most = omega arith;
+      }
+
+  pub entered-new : (f : Entry) → f ≡ entryOf (firstWhere (sameCards text words card) (take (count - 0) cards)) → f ≡ Vacant →
+      Entered text words card count (record { card = card; count = count + 1 }) cards (set cards count card)
+      (set prints count print)
+  unfolding firstEntered enteredIn
+  entered-new f r e =
+      let q = vacant (firstWhere (sameCards text words card) (take count cards)) (rw sub-zero at (sym r ∙ e)) in
+      let taken : take (count + 1) (set cards count card) ≡ take count cards ++ (card ∷ []) = rw add-one (take-suc-set cards count card (s .cards-room)) in
+      let printed : take (count + 1) (set prints count print) ≡ take count prints ++ (print ∷ []) = rw add-one (take-suc-set prints count print (s .prints-room)) in
+      record {
+        first-is = rw q;
+        cards-are = rw q taken;
+        prints-are =
+            printed
+            ∙ ap (λ (l : List ℕ). l ++ (print ∷ [])) (s .searched .prints-are)
+            ∙ ap (λ (p : ℕ). map (cardPrint text words) (take count cards) ++ (p ∷ [])) (s .searched .print-is)
+            ∙ sym (map-append (cardPrint text words) (take count cards) (card ∷ []))
+            ∙ ap (map (cardPrint text words)) (sym taken);
+        count-most = omega arith;
+      }
+
+-- ---- A turn of the walk that makes all fingerprints.
+
+named-print : (text words : List ℕ) (i : ℕ) → i < cardsUsed words → getD (map partPrint (storedParts text words)) i 0 ≡ fingerprint (cardName text words i)
+unfolding partPrint
+named-print text words i h = getD-named (storedParts text words) i (cardAt text words i) (stored-at text words i h)
+
+length-prints : (text words : List ℕ) → length (map partPrint (storedParts text words)) ≡ cardsUsed words
+length-prints text words = length-map (storedParts text words) partPrint ∙ length-stored text words
+
+module _ (text words prints : List ℕ) (i : ℕ) (same : take i prints ≡ take i (map partPrint (storedParts text words))) where
+  pub print-turned : (v : ℕ) → i < cardsUsed words → i < length prints → v ≡ fingerprint (cardName text words i) →
+      take (i + 1) (set prints i v) ≡ take (i + 1) (map partPrint (storedParts text words))
+  print-turned v h room e =
+      let l : i < length (map partPrint (storedParts text words)) = omega (arith, length-prints text words) in
+      (rw add-one (take-suc-set prints i v room))
+      ∙ ap (λ (xs : List ℕ). xs ++ (v ∷ [])) same
+      ∙ ap (λ (x : ℕ). take i (map partPrint (storedParts text words)) ++ (x ∷ [])) (e ∙ sym (named-print text words i h))
+      ∙ (rw add-one (sym (take-suc (map partPrint (storedParts text words)) i 0 l)))
+
+  pub prints-made : i ≡ cardsUsed words → wordsRoom ≤ length words → cardsUsed words ≤ cardRoom → cardRoom ≤ length prints → Printed text words prints
+  prints-made e w n l = record {
+    prints-are =
+        ap (λ (k : ℕ). take k prints) (sym e) ∙ same
+        ∙ take-all i (map partPrint (storedParts text words)) (omega (arith, length-prints text words));
+    prints-length = l;
+    cards-most = n;
+    words-length = w;
+  }

@@ -1,0 +1,3 @@
+-- What the arrays of a drawing hold.
+pub mod Index
+pub mod Turns

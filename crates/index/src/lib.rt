@@ -1,0 +1,428 @@
+// The arrays that a drawing's walks read: filled once, from the stored cards.
+ghost use mathlib.Core.Path.{_≡_};
+ghost use Prim.Native.Nat.{_≤_, _<_};
+ghost use lib.ListN.{length};
+ghost use Rattle.definition.specs.Lists.{firstWhere};
+ghost use Rattle.definition.specs.Refusals.{cardRoom};
+ghost use Rattle.definition.specs.Cards.{isType};
+ghost use Rattle.definition.specs.Store.{cardsUsed, wordsRoom};
+ghost use Rattle.index.specs.Index.{fingerprint, sameCards, Printed, IndexAsked, Indexed};
+ghost use Rattle.index.specs.Turns.{
+  extendsType,
+  entryOf,
+  Searched,
+  Entering,
+  Entered,
+  HeadsAsked,
+  HeadsAre,
+  TypeAsked,
+  TypeTurn,
+  TypesAsked,
+  TypesAre,
+  ExtensionAsked,
+  ExtensionTurn,
+  ExtensionsAsked,
+  ExtensionsAre,
+  OrphanAsked,
+  OrphanTurn,
+  OrphansAsked,
+  OrphansAre,
+  OwnersAsked,
+  OwnersAre,
+};
+
+// The word that stands for no card.
+const ABSENT: u32 = 4294967295;
+
+// How many headings, types, orphaned names and type extensions there are.
+pub struct Counts {
+    pub headings: usize,
+    pub types: usize,
+    pub orphans: usize,
+    pub extensions: usize,
+}
+
+// What a search for a name finds: the first card that has it.
+pub enum Entry {
+    Occupied(u32),
+    Vacant,
+}
+
+// The first card of a name, and how many names there are now.
+pub struct First {
+    pub card: u32,
+    pub count: usize,
+}
+
+// A number made of a name's bytes: where two differ, so do the names.
+pub fn fingerprint(name: &[u8]) -> u32
+    ensures { λ r. ⌜ r ≡ fingerprint (now (name .entry)) ⌝ }
+{
+    let mut print: u64 = 0;
+    let mut i = 0;
+    while i < name.len() {
+        print = (print * 16777619 + name[i] as u64) % 4294967296;
+        i += 1;
+    }
+    print as u32
+}
+
+// Whether two cards have one name, by the bytes.
+fn same_names(text: &[u8], words: &[u32], a: u32, b: u32) -> bool
+    ensures { λ r. ⌜ r ≡ sameCards (now (text .entry)) (now (words .entry)) a b ⌝ }
+{
+    name::same_name(
+        stored::card_name(text, words, a as usize),
+        stored::card_name(text, words, b as usize),
+    )
+}
+
+// Whether two cards have one name. Most that have not are told by their fingerprints.
+pub fn same_cards(text: &[u8], words: &[u32], prints: &[u32], a: u32, b: u32) -> bool
+    requires { ⌜ Printed (now text) (now words) (now prints) × (a < cardsUsed (now words)) × (b < cardsUsed (now words)) ⌝ }
+    ensures { λ r. ⌜ r ≡ sameCards (now (text .entry)) (now (words .entry)) a b ⌝ }
+{
+    if prints[a as usize] != prints[b as usize] {
+        return false;
+    }
+    same_names(text, words, a, b)
+}
+
+// The first of the cards that has the name of the card; beside the cards stand their fingerprints.
+fn find(text: &[u8], words: &[u32], cards: &[u32], prints: &[u32], card: u32, print: u32) -> Entry
+    requires { ⌜ Searched (now text) (now words) (now cards) (now prints) card print ⌝ }
+    ensures { λ r. ⌜ r ≡ entryOf (firstWhere (sameCards (now (text .entry)) (now (words .entry)) card) (now (cards .entry))) ⌝ }
+{
+    let mut i = 0;
+    while i < prints.len() {
+        if prints[i] == print {
+            let other = cards[i];
+            if same_names(text, words, card, other) {
+                return Entry::Occupied(other);
+            }
+        }
+        i += 1;
+    }
+    Entry::Vacant
+}
+
+// Adds the card to the first `count` cards where none of them has its name.
+fn enter(
+    text: &[u8],
+    words: &[u32],
+    card: u32,
+    print: u32,
+    cards: &mut [u32],
+    prints: &mut [u32],
+    count: usize,
+) -> First
+    requires { ⌜ Entering (now text) (now words) (now cards) (now prints) count card print ⌝ }
+    ensures { λ r. ⌜ Entered (now (text .entry)) (now (words .entry)) card count r (now (cards .entry)) (now (cards .exit)) (now (prints .exit)) ⌝ }
+{
+    let Entry::Occupied(first) = find(
+        text,
+        words,
+        &cards[0..count],
+        &prints[0..count],
+        card,
+        print,
+    ) else {
+        cards[count] = card;
+        prints[count] = print;
+        return First {
+            card,
+            count: count + 1,
+        };
+    };
+    First { card: first, count }
+}
+
+// The cards of the headings in order, then the number of cards.
+pub fn index_headings(words: &[u32], heads: &mut [u32]) -> usize
+    requires { ⌜ HeadsAsked (now words) (now heads) ⌝ }
+    ensures { λ r. ⌜ HeadsAre (now (words .entry)) (now (heads .exit)) r ⌝ }
+{
+    let used = stored::cards_used(words);
+    let mut count = 0;
+    let mut card = 0;
+    while card < used {
+        heads[count] = card as u32;
+        count += 1;
+        card = stored::next_heading(words, card);
+    }
+    heads[count] = used as u32;
+    count
+}
+
+// The fingerprint of each card's name.
+pub fn fingerprints(text: &[u8], words: &[u32], prints: &mut [u32])
+    requires { ⌜ (wordsRoom ≤ length (now words)) × (cardsUsed (now words) ≤ cardRoom) × (cardRoom ≤ length (now prints)) ⌝ }
+    ensures { λ _. ⌜ Printed (now (text .entry)) (now (words .entry)) (now (prints .exit)) ⌝ }
+{
+    let used = stored::cards_used(words);
+    let mut i = 0;
+    while i < used {
+        prints[i] = fingerprint(stored::card_name(text, words, i));
+        i += 1;
+    }
+}
+
+// A type definition's kind.
+pub fn is_type(kind: u32) -> bool
+    ensures { λ r. ⌜ r ≡ isType kind ⌝ }
+{
+    if kind < 5 {
+        return false;
+    }
+    kind <= 10
+}
+
+// A type extension's kind.
+pub fn is_type_extension(kind: u32) -> bool
+    ensures { λ r. ⌜ r ≡ extendsType kind ⌝ }
+{
+    if kind < 12 {
+        return false;
+    }
+    kind <= 17
+}
+
+// One heading: a definition is the first of its name, or its name's first one owns it.
+fn index_type(
+    text: &[u8],
+    words: &[u32],
+    prints: &[u32],
+    card: u32,
+    owners: &mut [u32],
+    types: &mut [u32],
+    type_prints: &mut [u32],
+    count: usize,
+) -> usize
+    requires { ⌜ TypeAsked (now text) (now words) (now prints) (now owners) (now types) (now «type_prints») card count ⌝ }
+    ensures { λ r. ⌜ TypeTurn (now (text .entry)) (now (words .entry)) card count r (now (owners .entry)) (now (owners .exit)) (now (types .entry)) (now (types .exit)) (now («type_prints» .exit)) ⌝ }
+{
+    let at = card as usize;
+    if !is_type(stored::card_kind(words, at)) {
+        return count;
+    }
+    let first = enter(text, words, card, prints[at], types, type_prints, count);
+    owners[at] = first.card;
+    first.count
+}
+
+// The first definition of each type, and for each definition the first one of its name.
+pub fn index_types(
+    text: &[u8],
+    words: &[u32],
+    prints: &[u32],
+    heads: &[u32],
+    owners: &mut [u32],
+    types: &mut [u32],
+    type_prints: &mut [u32],
+) -> usize
+    requires { ⌜ TypesAsked (now text) (now words) (now prints) (now heads) (now owners) (now types) (now «type_prints») ⌝ }
+    ensures { λ r. ⌜ TypesAre (now (text .entry)) (now (words .entry)) (now (heads .entry)) (now (owners .exit)) (now (types .exit)) (now («type_prints» .exit)) (length (now (heads .entry))) r ⌝ }
+{
+    let mut count = 0;
+    let mut k = 0;
+    while k < heads.len() {
+        count = index_type(
+            text,
+            words,
+            prints,
+            heads[k],
+            owners,
+            types,
+            type_prints,
+            count,
+        );
+        k += 1;
+    }
+    count
+}
+
+// One heading: an extension is listed, and the first definition of its name owns it.
+fn index_extension(
+    text: &[u8],
+    words: &[u32],
+    prints: &[u32],
+    types: &[u32],
+    type_prints: &[u32],
+    card: u32,
+    owners: &mut [u32],
+    extensions: &mut [u32],
+    count: usize,
+) -> usize
+    requires { ⌜ ExtensionAsked (now text) (now words) (now prints) (now types) (now «type_prints») (now owners) (now extensions) card count ⌝ }
+    ensures { λ r. ⌜ ExtensionTurn (now (text .entry)) (now (words .entry)) (now (types .entry)) card count r (now (owners .entry)) (now (owners .exit)) (now (extensions .entry)) (now (extensions .exit)) ⌝ }
+{
+    let at = card as usize;
+    if !is_type_extension(stored::card_kind(words, at)) {
+        return count;
+    }
+    extensions[count] = card;
+    let Entry::Occupied(first) = find(text, words, types, type_prints, card, prints[at]) else {
+        owners[at] = ABSENT;
+        return count + 1;
+    };
+    owners[at] = first;
+    count + 1
+}
+
+// All type extensions, and for each the first definition of its name: every definition is known here.
+pub fn index_extensions(
+    text: &[u8],
+    words: &[u32],
+    prints: &[u32],
+    heads: &[u32],
+    types: &[u32],
+    type_prints: &[u32],
+    owners: &mut [u32],
+    extensions: &mut [u32],
+) -> usize
+    requires { ⌜ ExtensionsAsked (now text) (now words) (now prints) (now heads) (now types) (now «type_prints») (now owners) (now extensions) ⌝ }
+    ensures { λ r. ⌜ ExtensionsAre (now (text .entry)) (now (words .entry)) (now (heads .entry)) (now (types .entry)) (now (owners .entry)) (now (owners .exit)) (now (extensions .exit)) (length (now (heads .entry))) r ⌝ }
+{
+    let mut count = 0;
+    let mut k = 0;
+    while k < heads.len() {
+        count = index_extension(
+            text,
+            words,
+            prints,
+            types,
+            type_prints,
+            heads[k],
+            owners,
+            extensions,
+            count,
+        );
+        k += 1;
+    }
+    count
+}
+
+// One extension: where it has no owner it is an orphan, perhaps the first of its name.
+fn index_orphan(
+    text: &[u8],
+    words: &[u32],
+    prints: &[u32],
+    owners: &[u32],
+    card: u32,
+    orphans: &mut [u32],
+    orphan_prints: &mut [u32],
+    count: usize,
+) -> usize
+    requires { ⌜ OrphanAsked (now text) (now words) (now prints) (now owners) (now orphans) (now «orphan_prints») card count ⌝ }
+    ensures { λ r. ⌜ OrphanTurn (now (text .entry)) (now (words .entry)) (now (owners .entry)) card count r (now (orphans .entry)) (now (orphans .exit)) (now («orphan_prints» .exit)) ⌝ }
+{
+    let at = card as usize;
+    if owners[at] != ABSENT {
+        return count;
+    }
+    let first = enter(text, words, card, prints[at], orphans, orphan_prints, count);
+    first.count
+}
+
+// The first orphan of each name.
+pub fn index_orphans(
+    text: &[u8],
+    words: &[u32],
+    prints: &[u32],
+    owners: &[u32],
+    extensions: &[u32],
+    orphans: &mut [u32],
+    orphan_prints: &mut [u32],
+) -> usize
+    requires { ⌜ OrphansAsked (now text) (now words) (now prints) (now owners) (now extensions) (now orphans) (now «orphan_prints») ⌝ }
+    ensures { λ r. ⌜ OrphansAre (now (text .entry)) (now (words .entry)) (now (owners .entry)) (now (extensions .entry)) (now (orphans .exit)) (now («orphan_prints» .exit)) (length (now (extensions .entry))) r ⌝ }
+{
+    let mut count = 0;
+    let mut k = 0;
+    while k < extensions.len() {
+        count = index_orphan(
+            text,
+            words,
+            prints,
+            owners,
+            extensions[k],
+            orphans,
+            orphan_prints,
+            count,
+        );
+        k += 1;
+    }
+    count
+}
+
+// Types, extensions, orphans and owners, from the headings' cards.
+fn index_owners(
+    text: &[u8],
+    words: &[u32],
+    prints: &[u32],
+    heads: &[u32],
+    owners: &mut [u32],
+    types: &mut [u32],
+    orphans: &mut [u32],
+    extensions: &mut [u32],
+) -> Counts
+    requires { ⌜ OwnersAsked (now text) (now words) (now prints) (now heads) (now owners) (now types) (now orphans) (now extensions) ⌝ }
+    ensures { λ r. ⌜ OwnersAre (now (text .entry)) (now (words .entry)) (now (heads .entry)) (now (owners .exit)) (now (types .exit)) (now (orphans .exit)) (now (extensions .exit)) r ⌝ }
+{
+    let mut type_prints = [0u32; 2300];
+    let mut orphan_prints = [0u32; 2300];
+    let t = index_types(text, words, prints, heads, owners, types, &mut type_prints);
+    let e = index_extensions(
+        text,
+        words,
+        prints,
+        heads,
+        &types[0..t],
+        &type_prints[0..t],
+        owners,
+        extensions,
+    );
+    let o = index_orphans(
+        text,
+        words,
+        prints,
+        owners,
+        &extensions[0..e],
+        orphans,
+        &mut orphan_prints,
+    );
+    Counts {
+        headings: heads.len(),
+        types: t,
+        orphans: o,
+        extensions: e,
+    }
+}
+
+// Fills all arrays.
+pub fn index(
+    text: &[u8],
+    words: &[u32],
+    heads: &mut [u32],
+    prints: &mut [u32],
+    owners: &mut [u32],
+    types: &mut [u32],
+    orphans: &mut [u32],
+    extensions: &mut [u32],
+) -> Counts
+    requires { ⌜ IndexAsked (now text) (now words) (now heads) (now prints) (now owners) (now types) (now orphans) (now extensions) ⌝ }
+    ensures { λ r. ⌜ Indexed (now (text .entry)) (now (words .entry)) (now (heads .exit)) (now (prints .exit)) (now (owners .exit)) (now (types .exit)) (now (orphans .exit)) (now (extensions .exit)) (r .headings) (r .types) (r .orphans) (r .extensions) ⌝ }
+{
+    let count = index_headings(words, heads);
+    fingerprints(text, words, prints);
+    index_owners(
+        text,
+        words,
+        prints,
+        &heads[0..count],
+        owners,
+        types,
+        orphans,
+        extensions,
+    )
+}

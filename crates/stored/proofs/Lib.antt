@@ -1,0 +1,9 @@
+-- Laws, Words and Group are for callers; the others serve them.
+pub mod Lists
+pub mod Fine
+pub mod Laid
+pub mod Group
+pub mod Documents
+pub mod Spans
+pub mod Words
+pub mod Laws

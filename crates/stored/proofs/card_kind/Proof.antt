@@ -1,0 +1,15 @@
+-- Word 0 of the card.
+use Rattle.stored.specs.Stored.{cardKind}
+use Rattle.stored.proofs.card_kind.Statement.{statement}
+use Rattle.stored.proofs.card_kind.Tie as tie
+use borrow.Author.Needs.{needs}
+
+card-word-requires : tie.Need-card-word-requires
+card-word-requires c κs = search needs
+
+returns : tie.Need-returns
+unfolding cardKind
+returns c = c .card-word .ensures
+
+pub card-kind-spec : {M : Type 1} → statement M
+card-kind-spec = tie.close (tie.spec card-word-requires returns)
