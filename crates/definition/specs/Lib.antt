@@ -13,6 +13,9 @@ pub mod LentRows
 pub mod Lookups
 pub mod Outcomes
 pub mod Account
+pub mod Runs
+pub mod Growth
+pub mod Demands
 pub mod Opened
 pub mod Shown
 pub mod Table

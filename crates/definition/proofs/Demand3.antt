@@ -1,0 +1,217 @@
+-- Demand 3: each statement of specs/Demands.antt is proved here or, where it stands alone, in the file that is cited.
+use mathlib.Core.Path.{_≡_, refl, sym, _∙_, ap}
+use mathlib.Core.List.{List, [], _∷_, _++_}
+use mathlib.Core.Bool.{Bool, true, false}
+use mathlib.Core.Option.{Option, none, some}
+use Prim.Native.Nat.{ℕ, suc, _≤_}
+use native.Mathlib.Omega.{arith}
+use lib.Dec.{eqb}
+use lib.ListN.{take, getElem?}
+use borrow.Author.Tests.{eqb-true, eqb-false}
+use Rattle.definition.specs.Answers.{answer}
+use Rattle.definition.specs.Refusals.{Account, openingRefusal}
+use Rattle.definition.specs.Store.{accountIn, decode, storeRefusal, adoptingWords, ignoringWords}
+use Rattle.definition.specs.Outcomes.{DrawOutcome, accepted, undrawn, open-store, add-ast, adopt-orphan-extensions, ignore-builtin-redefinitions, drawOf, build}
+use Rattle.definition.specs.Account.{Call, opening, drawing, Reply, answered, drawn, opened, joined, adoptingFrom, ignoringFrom, orRefused, step, runAccount, after, Store, store, leaves, stepStore}
+use Rattle.definition.specs.Runs.{Accepted, Holds, Start, storeLeft, firstStore, firstAccount, storeAfter, storeAt, DrawnAt, NoneOpenedBetween}
+use Rattle.definition.specs.Growth.{rowsOf, readingErrorsOf}
+use Rattle.definition.specs.Demands.{OpeningHolds, FilingHolds, AdoptingHolds, IgnoringHolds, Agrees, NeverArise, OpensAnew, Growing, DrawnRowsPass, Bounded, DrawingsBounded, Demand3}
+use Rattle.definition.proofs.Tests.{zero-one}
+use Rattle.definition.proofs.StoreHolds.{account-held, long-held, sound-held, opening-held, filing-held, adopting-held, ignoring-held}
+use Rattle.definition.proofs.StoreAgrees.{HoldsIn, agree, holds-after, same as account-same, sound as store-sound}
+use Rattle.definition.proofs.StoreSound.{unrefused-holds}
+use Rattle.definition.proofs.StoreWrites.{opening-done, filing-done, turned-done, opening-writes, filing-writes, turning-writes}
+use Rattle.definition.proofs.RefusalNumbers.{opening-accepted, filing-accepted, turning-accepted, replies-own}
+use Rattle.definition.proofs.RefusedCalls.{refused-leaves, reading-leaves}
+use Rattle.definition.proofs.RunPlaces.{reply-at, account-next, later-between, Later}
+use Rattle.definition.proofs.DrawnWords.{rows-written, reading-written, bounded, rowWordsOf, readingWordsOf}
+use Rattle.definition.proofs.StoreGrowth.{grown, check-store, rows-pass}
+
+-- ==== The store holds the account.
+
+-- The layout of StoreHolds says what Holds of specs/Runs.antt says.
+held : (s : Store) (a : Account) → HoldsIn s a → Holds s a
+unfolding decode
+held s a h = (
+  long-held (s .text) (s .words) (a .documents) (a .adopt) (a .ignore) h,
+  rw (sound-held (s .text) (s .words) (a .documents) (a .adopt) (a .ignore) h, account-held (s .text) (s .words) (a .documents) (a .adopt) (a .ignore) h),
+)
+
+here : (text words : List ℕ) → storeRefusal text words ≡ 0 → HoldsIn (store text words) (accountIn text words)
+unfolding store
+here text words e = unrefused-holds text words e
+
+opened-holds : (text words lent ws : List ℕ) → Accepted (open-store text words lent ws) → HoldsIn (storeLeft (open-store text words lent ws)) (opened lent ws)
+unfolding leaves store accepted opened
+opened-holds text words lent ws e =
+    let q = opening-accepted text words lent ws e in
+    rw (opening-done text words lent ws (q .0) (q .1)) (opening-held text words lent ws (q .0) (q .1))
+
+pub opening-holds : OpeningHolds
+opening-holds text words lent ws e = held (storeLeft (open-store text words lent ws)) (opened lent ws) (opened-holds text words lent ws e)
+
+filed-holds : (text words lent ws : List ℕ) → Accepted (add-ast text words lent ws) → HoldsIn (storeLeft (add-ast text words lent ws)) (joined (accountIn text words) lent ws)
+unfolding leaves store accepted joined
+filed-holds text words lent ws e =
+    let q = filing-accepted text words lent ws e in
+    rw (filing-done text words lent ws (q .0) (q .1)) (filing-held text words (accountIn text words) lent ws (unrefused-holds text words (q .0)) (q .1))
+
+pub filing-holds : FilingHolds
+filing-holds text words lent ws e =
+    let a = accountIn text words in
+    (a, held (store text words) a (here text words (filing-accepted text words lent ws e .0)), held (storeLeft (add-ast text words lent ws)) (joined a lent ws) (filed-holds text words lent ws e))
+
+adopted-holds : (text words : List ℕ) → storeRefusal text words ≡ 0 → HoldsIn (storeLeft (adopt-orphan-extensions text words)) (adoptingFrom (accountIn text words))
+unfolding leaves store accepted adoptingFrom adopt-orphan-extensions
+adopted-holds text words e =
+    let a = accountIn text words in
+    rw (turned-done text words (adoptingWords words) e) (adopting-held text words (a .documents) (a .adopt) (a .ignore) (unrefused-holds text words e))
+
+pub adopting-holds : AdoptingHolds
+unfolding adopt-orphan-extensions
+adopting-holds text words e =
+    let a = accountIn text words in
+    let q = turning-accepted text words (adoptingWords words) e in
+    (a, held (store text words) a (here text words q), held (storeLeft (adopt-orphan-extensions text words)) (adoptingFrom a) (adopted-holds text words q))
+
+ignored-holds : (text words : List ℕ) → storeRefusal text words ≡ 0 → HoldsIn (storeLeft (ignore-builtin-redefinitions text words)) (ignoringFrom (accountIn text words))
+unfolding leaves store accepted ignoringFrom ignore-builtin-redefinitions
+ignored-holds text words e =
+    let a = accountIn text words in
+    rw (turned-done text words (ignoringWords words) e) (ignoring-held text words (a .documents) (a .adopt) (a .ignore) (unrefused-holds text words e))
+
+pub ignoring-holds : IgnoringHolds
+unfolding ignore-builtin-redefinitions
+ignoring-holds text words e =
+    let a = accountIn text words in
+    let q = turning-accepted text words (ignoringWords words) e in
+    (a, held (store text words) a (here text words q), held (storeLeft (ignore-builtin-redefinitions text words)) (ignoringFrom a) (ignored-holds text words q))
+
+-- ==== The plain account of a run.
+
+first-holds : (b : Start) → HoldsIn (firstStore b) (firstAccount b)
+first-holds b = opened-holds (b .text) (b .words) (b .lent) (b .cards) (b .accepted)
+
+pub agrees : Agrees
+agrees b calls = agree calls (firstStore b) (firstAccount b) (first-holds b)
+
+pub never-arise : NeverArise
+never-arise b calls = (
+  store-sound (storeAfter (firstStore b) calls) (after (firstAccount b) calls) (holds-after calls (firstStore b) (firstAccount b) (first-holds b)),
+  rw (agrees b calls) (replies-own (firstAccount b) calls),
+)
+
+-- The replies to a list of calls, cut anywhere.
+run-append : (a : Account) (cs ds : List Call) → runAccount a (cs ++ ds) ≡ runAccount a cs ++ runAccount (after a cs) ds
+unfolding runAccount after
+run-append a [] ds = refl
+run-append a (c ∷ cs) ds = ap (λ l. step a c .1 ∷ l) (run-append (step a c .0) cs ds)
+
+anew : (a : Account) (lent ws : List ℕ) (more : List Call) → openingRefusal lent ws ≡ none →
+    runAccount a (opening lent ws ∷ more) ≡ answered (answer 0 0) ∷ runAccount (opened lent ws) more
+unfolding runAccount step orRefused
+anew a lent ws more e = rw e
+
+pub opens-anew : OpensAnew
+opens-anew b calls more lent ws e =
+    agrees b (calls ++ (opening lent ws ∷ more))
+    ∙ run-append (firstAccount b) calls (opening lent ws ∷ more)
+    ∙ (λ i. sym (agrees b calls) i ++ anew (after (firstAccount b) calls) lent ws more e i)
+
+-- ==== Between two drawings.
+
+module _ (b : Start) (calls : List Call) where
+  accountAt : ℕ → Account
+  accountAt k = after (firstAccount b) (take k calls)
+
+  holdsAt : (k : ℕ) → HoldsIn (storeAfter (firstStore b) (take k calls)) (accountAt k)
+  unfolding accountAt
+  holdsAt k = holds-after (take k calls) (firstStore b) (firstAccount b) (first-holds b)
+
+  drawn-same : (s : Store) (a : Account) (h : HoldsIn s a) (rows errors : List ℕ) → build (s .text) (s .words) rows errors ≡ drawOf a rows errors
+  unfolding build
+  drawn-same s a h rows errors = rw (store-sound s a h, account-same s a h)
+
+  drawn-injective : (o p : DrawOutcome) → _≡_ {A = Option Reply} (some (drawn o)) (some (drawn p)) → o ≡ p
+  drawn-injective o p e = cc
+
+  -- The drawing at place i writes the rows and the reading errors of the account, which stays.
+  at : (i : ℕ) (o : DrawOutcome) → DrawnAt (firstStore b) calls i o →
+      (rowsOf o ≡ rowWordsOf (accountAt (suc i))) × (readingErrorsOf o ≡ readingWordsOf (accountAt (suc i)))
+  unfolding stepStore step accountAt
+  at i o d =
+      let s = storeAfter (firstStore b) (take i calls) in
+      let e : accountAt i ≡ accountAt (suc i) = sym (account-next (firstAccount b) calls i (drawing (d .rows) (d .errors)) (d .call)) in
+      let q : o ≡ drawOf (accountAt (suc i)) (d .rows) (d .errors) =
+      drawn-injective o (build (s .text) (s .words) (d .rows) (d .errors)) (sym (d .reply) ∙ reply-at (firstStore b) calls i (drawing (d .rows) (d .errors)) (d .call))
+      ∙ drawn-same s (accountAt i) (holdsAt i) (d .rows) (d .errors)
+      ∙ ap (λ a. drawOf a (d .rows) (d .errors)) e in
+      let n : drawOf (accountAt (suc i)) (d .rows) (d .errors) .drawing .number ≡ 0 = rw q at (d .unrefused) in
+      (ap rowsOf q ∙ rows-written (accountAt (suc i)) (d .rows) (d .errors) n, ap readingErrorsOf q ∙ reading-written (accountAt (suc i)) (d .rows) (d .errors) n)
+
+  later : (i j : ℕ) → i ≤ j → NoneOpenedBetween (firstStore b) calls i (suc j) → Later (accountAt (suc i)) (accountAt (suc j))
+  unfolding accountAt
+  later i j l n = later-between (firstStore b) (firstAccount b) (first-holds b) calls i (suc j) (omega arith) n
+
+  -- No drawing opens.
+  none-opened : (i j : ℕ) (p : DrawOutcome) → DrawnAt (firstStore b) calls j p → NoneOpenedBetween (firstStore b) calls i j → NoneOpenedBetween (firstStore b) calls i (suc j)
+  none-opened i j p d n k u v q = go (eqb k j) refl
+    where
+      go : (t : Bool) → eqb k j ≡ t → ⊥
+      go true e =
+          let z : getElem? calls j ≡ some (opening (q .text) (q .cards)) = rw (eqb-true k j e) at (q .call) in
+          zero-one (cc (d .call))
+      go false e = let w = eqb-false k j e in n k u (omega arith) q
+
+pub growing : Growing
+growing b calls i j l n o p d e =
+    let x = at b calls i o d in
+    let y = at b calls j p e in
+    grown (storeAt (firstStore b) calls i) (storeAt (firstStore b) calls j) (accountAt b calls (suc i)) (accountAt b calls (suc j)) (holdsAt b calls (suc i)) (holdsAt b calls (suc j))
+    (later b calls i j (omega arith) (none-opened b calls i j p e n)) o p (x .0) (y .0) (x .1) (y .1)
+
+pub drawn-rows-pass : DrawnRowsPass
+drawn-rows-pass b calls i j l n o d =
+    let x = at b calls i o d in
+    let s = storeAt (firstStore b) calls j in
+    check-store s (accountAt b calls (suc j)) (holdsAt b calls (suc j)) (rowsOf o)
+    ∙ rw (x .0) (rows-pass (accountAt b calls (suc i)) (holdsAt b calls (suc i) .admitted) (accountAt b calls (suc j)) (later b calls i j l n))
+
+-- ==== A drawing.
+
+undrawn-number : (rows errors : List ℕ) (n : ℕ) → undrawn rows errors n .drawing .number ≡ n
+unfolding undrawn
+undrawn-number rows errors n = refl
+
+pub drawings-bounded : DrawingsBounded
+unfolding build
+drawings-bounded text words rows errors e = go (eqb (storeRefusal text words) 0) refl
+  where
+    go : (t : Bool) → eqb (storeRefusal text words) 0 ≡ t → Bounded rows errors (build text words rows errors)
+    go true q =
+        let r : storeRefusal text words ≡ 0 = eqb-true _ _ q in
+        let h = unrefused-holds text words r in
+        let n : drawOf (accountIn text words) rows errors .drawing .number ≡ 0 = rw q at e in
+        rw q (bounded (accountIn text words) rows errors n (h .admitted .cards))
+    go false q = absurd (eqb-false _ _ q (sym (undrawn-number rows errors (storeRefusal text words)) ∙ (rw q at e)))
+
+-- ==== Demand 3, whole.
+
+pub demand3 : Demand3
+demand3 = record {
+  openingHolds = opening-holds;
+  filingHolds = filing-holds;
+  adoptingHolds = adopting-holds;
+  ignoringHolds = ignoring-holds;
+  openingWrites = opening-writes;
+  filingWrites = filing-writes;
+  turningWrites = turning-writes;
+  refusedLeaves = refused-leaves;
+  readingLeaves = reading-leaves;
+  agrees = agrees;
+  neverArise = never-arise;
+  opensAnew = opens-anew;
+  growing = growing;
+  drawnRowsPass = drawn-rows-pass;
+  drawingsBounded = drawings-bounded;
+}

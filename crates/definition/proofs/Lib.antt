@@ -1,0 +1,42 @@
+-- The laws of the definitions and, over them, demand 3. Each file comes after those that it leans on.
+
+-- Lists.
+pub mod Tests
+pub mod Lists
+pub mod All
+pub mod Sums
+-- Headings of documents, and cards as they are stored.
+pub mod AddedHeadings
+pub mod DocumentHeadings
+pub mod CleanCards
+pub mod MovedCards
+-- The store holds the account.
+pub mod StoreLayout
+pub mod Admitted
+pub mod StoreHolds
+pub mod RootNames
+pub mod StoreAgrees
+pub mod RefusalNumbers
+pub mod StoreSound
+pub mod StoreWrites
+pub mod StoredNames
+pub mod RefusedCalls
+-- Drawings.
+pub mod DrawnRows
+pub mod DrawnTypes
+pub mod TypesGrow
+pub mod DrawingsGrow
+pub mod RowBound
+pub mod ErrorBound
+pub mod Bounds
+pub mod PartKinds
+pub mod RowOrder
+pub mod RowCards
+pub mod DrawnWords
+pub mod RowsPass
+pub mod RowsStay
+-- Runs.
+pub mod RunPlaces
+pub mod StoreGrowth
+pub mod Demand3
+pub mod Examples
