@@ -126,6 +126,12 @@ third-field : shown false false scalarInt (
 unfolding opened
 third-field = refl
 
+-- Types stand in the order of first definitions; a second one adds nothing.
+types-by-first : shown false false scalarInt (source "type A type B type A" (6 ∷ 0 ∷ 6 ∷ 5 ∷ 1 ∷ 6 ∷ 7 ∷ 6 ∷ 12 ∷ 1 ∷ 6 ∷ 14 ∷ 6 ∷ 19 ∷ 1 ∷ []) ∷ []) ≡
+    shows (row 4 ∅ ∅ ∷ row 5 0 ∅ ∷ row 6 1 ∅ ∷ row 6 2 ∅ ∷ []) (err 4 3 1 ∷ []) []
+unfolding opened
+types-by-first = refl
+
 -- Orphans go name by name, in the order of the first of each; adopted types come after defined ones.
 abbrev orphansABA : Source
 orphansABA =
