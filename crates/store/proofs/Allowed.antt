@@ -1,0 +1,146 @@
+-- What may be filed: the refusals of a lent document, one after the other, and what is known where none holds.
+use mathlib.Core.Path.{_≡_, refl, sym, _∙_}
+use mathlib.Core.List.{List, [], _∷_}
+use mathlib.Core.Bool.{Bool, true, false}
+use mathlib.Core.Option.{Option, none, some}
+use Prim.Native.Nat.{ℕ, _+_, _/_, _%_, _<_, _≤_}
+use native.Mathlib.Omega.{arith}
+use lib.Dec.{ltb}
+use lib.ListN.{length}
+use borrow.Author.Tests.{eqb-true, ltb-false, lt-ltb, le-ltb, le-leb, lt-leb, not-false}
+use Rattle.definition.specs.declared.Answer.{Answer}
+use Rattle.definition.specs.Lists.{All, choose, orElse}
+use Rattle.definition.specs.Answers.{answer}
+use Rattle.definition.specs.Cards.{Card, cardsOf, isPart, faultFrom, cardFault, brokenCards, documentFault}
+use Rattle.definition.specs.Headings.{Document}
+use Rattle.definition.specs.Refusals.{textHeld, cardsHeld, document, zeroFault, refuse, roomRefusal, openingRefusal, filingRefusal}
+use Rattle.definition.specs.Store.{accountIn, documentCount, textUsed, cardsUsed}
+use Rattle.store_check.proofs.Sound.{documents-held, text-held, cards-held}
+use Rattle.store.proofs.Clean.{item-in-text, name-in-text, fine-part, fine-heading}
+use Rattle.store_check.proofs.Checked.{SoundStore}
+use Rattle.store.specs.Filing.{Within, Fits, Opens}
+use Rattle.store.specs.Room.{roomFor}
+use Rattle.store.proofs.Filed.{count-cards}
+
+-- ---- A document that passes 1 to 5.
+
+fine-within : (bytes : List ℕ) (size n i : ℕ) (h s : Option Card) (cs : List Card) → size ≤ n → faultFrom bytes 0 size i h s cs ≡ none → All (Within n) cs
+fine-within bytes size n i h s [] l e = tt
+fine-within bytes size n i h s (c ∷ cs) l e = go (isPart (c .kind)) refl (fine-within bytes size n (i + 1) h (some c) cs l) (fine-within bytes size n (i + 1) (some c) none cs l)
+  where
+    go : (b : Bool) → isPart (c .kind) ≡ b →
+        (faultFrom bytes 0 size (i + 1) h (some c) cs ≡ none → All (Within n) cs) →
+        (faultFrom bytes 0 size (i + 1) (some c) none cs ≡ none → All (Within n) cs) →
+        All (Within n) (c ∷ cs)
+    go true p under new =
+        let q = fine-part bytes 0 size i h s c cs p e in
+        ((omega (arith, item-in-text bytes size h s c (q .0)), omega (arith, name-in-text bytes size h s c (q .0))), under (q .1))
+    go false p under new =
+        let q = fine-heading bytes 0 size i h s c cs p e in
+        ((omega (arith, item-in-text bytes size none h c (q .0)), omega (arith, name-in-text bytes size none h c (q .0))), new (q .1))
+
+broken-first : (b : Bool) (r : Option Answer) → choose b (some (answer 1 0)) r ≡ none → (b ≡ false) × (r ≡ none)
+broken-first true r e = absurd (let z : _≡_ {A = ℕ} 0 1 = cc in omega arith)
+broken-first false r e = (refl, e)
+
+module _ (lent cards : List ℕ) (e : documentFault lent cards ≡ none) where
+  parts : (brokenCards cards ≡ false) × (cardFault lent 0 (length lent) (cardsOf cards) ≡ none)
+  unfolding documentFault
+  parts = broken-first (brokenCards cards) _ e
+
+  whole-cards : length cards % 5 ≡ 0
+  unfolding brokenCards
+  whole-cards = eqb-true _ _ (not-false _ (parts .0))
+
+  within-text : (n : ℕ) → length lent ≤ n → All (Within n) (cardsOf cards)
+  unfolding cardFault
+  within-text n l = fine-within lent (length lent) n 0 none none (cardsOf cards) l (parts .1)
+
+-- ---- 24 and 25.
+
+module _ (t c l k : ℕ) where
+  pub text-full : 65536 < t + l → some (answer 24 0) ≡ roomFor t c l k
+  unfolding roomFor refuse
+  text-full h = rw (lt-ltb 65536 (t + l) h)
+
+  pub cards-full : t + l ≤ 65536 → 2300 < c + k → some (answer 25 0) ≡ roomFor t c l k
+  unfolding roomFor refuse
+  cards-full h q = rw (le-ltb 65536 (t + l) h, lt-ltb 2300 (c + k) q)
+
+  pub enough : t + l ≤ 65536 → c + k ≤ 2300 → none ≡ roomFor t c l k
+  unfolding roomFor refuse
+  enough h q = rw (le-ltb 65536 (t + l) h, le-ltb 2300 (c + k) q)
+
+  two-none : (a b : Bool) → orElse (choose a (some (answer 24 0)) none) (choose b (some (answer 25 0)) none) ≡ none → (a ≡ false) × (b ≡ false)
+  two-none true b e = absurd (let z : _≡_ {A = ℕ} 0 1 = cc in omega arith)
+  two-none false true e = absurd (let z : _≡_ {A = ℕ} 0 1 = cc in omega arith)
+  two-none false false e = (refl, refl)
+
+  room-left : roomFor t c l k ≡ none → (t + l ≤ 65536) × (c + k ≤ 2300)
+  unfolding roomFor refuse
+  room-left e = let q = two-none (ltb 65536 (t + l)) (ltb 2300 (c + k)) e in (ltb-false _ _ (q .0), ltb-false _ _ (q .1))
+
+room-for : (ds : List Document) (lent cards : List ℕ) → roomRefusal ds (document false lent cards) ≡ roomFor (textHeld ds) (cardsHeld ds) (length lent) (length cards / 5)
+unfolding roomRefusal roomFor document
+room-for ds lent cards = rw (count-cards cards)
+
+-- ---- Opening.
+
+module _ (lent cards : List ℕ) where
+  pub opening-faulty : (a : Answer) → documentFault lent cards ≡ some a → openingRefusal lent cards ≡ some a
+  unfolding openingRefusal
+  opening-faulty a e = rw e
+
+  module _ (f : documentFault lent cards ≡ none) where
+    pub opening-barred : (a : Answer) → zeroFault (document false lent cards) ≡ some a → openingRefusal lent cards ≡ some a
+    unfolding openingRefusal
+    opening-barred a e = rw (f, e)
+
+    pub opening-room : (o : Option Answer) → zeroFault (document false lent cards) ≡ none → o ≡ roomFor 0 0 (length lent) (length cards / 5) → openingRefusal lent cards ≡ o
+    unfolding openingRefusal textHeld cardsHeld
+    opening-room o z e = rw (f, z) (room-for [] lent cards ∙ sym e)
+
+    pub opens : (text words : List ℕ) → 65536 ≤ length text → 11761 ≤ length words → none ≡ roomFor 0 0 (length lent) (length cards / 5) → Opens text words lent cards
+    opens text words t w e =
+        let q = room-left 0 0 (length lent) (length cards / 5) (sym e) in
+        record {
+          textLong = t;
+          wordsLong = w;
+          textFits = omega arith;
+          cardsFit = omega arith;
+          whole = whole-cards lent cards f;
+          within = within-text lent cards f 65536 (omega arith);
+        }
+
+-- ---- Filing.
+
+module _ (text words lent cards : List ℕ) where
+  pub filing-faulty : (a : Answer) → documentFault lent cards ≡ some a → filingRefusal (accountIn text words) lent cards ≡ some a
+  unfolding filingRefusal
+  filing-faulty a e = rw e
+
+  module _ (s : SoundStore text words) (f : documentFault lent cards ≡ none) where
+    pub filing-full : 64 ≤ documentCount words → filingRefusal (accountIn text words) lent cards ≡ some (answer 23 0)
+    unfolding filingRefusal refuse
+    filing-full h = rw (f, documents-held text words, le-leb 64 (documentCount words) h)
+
+    pub filing-room : (o : Option Answer) → documentCount words < 64 → o ≡ roomFor (textUsed words) (cardsUsed words) (length lent) (length cards / 5) →
+        filingRefusal (accountIn text words) lent cards ≡ o
+    unfolding filingRefusal refuse
+    filing-room o h e =
+        rw (f, documents-held text words, lt-leb 64 (documentCount words) h)
+        (room-for (accountIn text words .documents) lent cards
+        ∙ rw (text-held text words (s .textLong) (s .sound), cards-held text words (s .sound)) (sym e))
+
+    pub fits : documentCount words < 64 → none ≡ roomFor (textUsed words) (cardsUsed words) (length lent) (length cards / 5) → Fits text words lent cards
+    fits h e =
+        let q = room-left (textUsed words) (cardsUsed words) (length lent) (length cards / 5) (sym e) in
+        record {
+          textLong = s .textLong;
+          wordsLong = s .wordsLong;
+          few = h;
+          textFits = q .0;
+          cardsFit = q .1;
+          whole = whole-cards lent cards f;
+          within = within-text lent cards f 65536 (omega arith);
+        }

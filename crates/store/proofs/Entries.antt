@@ -1,0 +1,76 @@
+-- The outcome of each entry, return by return.
+use mathlib.Core.Path.{_≡_}
+use mathlib.Core.List.{List}
+use mathlib.Core.Bool.{false}
+use mathlib.Core.Option.{none, some}
+use Prim.Native.Nat.{ℕ, _<_, _≤_}
+use lib.Dec.{eqb}
+use lib.ListN.{length, set}
+use borrow.Author.Tests.{lt-ltb, le-ltb}
+use Rattle.definition.specs.declared.Answer.{Answer}
+use Rattle.definition.specs.Answers.{answer}
+use Rattle.definition.specs.Refusals.{document, openingRefusal, filingRefusal}
+use Rattle.definition.specs.Store.{accountIn, tooShort, storeRefusal, openedText, openedWords, filedText, filedWords, adoptingWords, ignoringWords}
+use Rattle.definition.specs.Outcomes.{StoreOutcome, unchanged, accepted, open-store, add-ast, turned, adopt-orphan-extensions, ignore-builtin-redefinitions}
+
+abbrev pub left : Answer → List ℕ → List ℕ → StoreOutcome
+left a text words = record { answer = a; text = text; words = words }
+
+-- ---- Opening.
+
+module _ (text words lent cards : List ℕ) where
+  pub open-short-text : length text < 65536 → left (answer 21 0) text words ≡ open-store text words lent cards
+  unfolding open-store unchanged tooShort
+  open-short-text h = rw (lt-ltb (length text) 65536 h)
+
+  module _ (t : 65536 ≤ length text) where
+    pub open-short-words : length words < 11761 → left (answer 21 0) text words ≡ open-store text words lent cards
+    unfolding open-store unchanged tooShort
+    open-short-words h = rw (le-ltb (length text) 65536 t, lt-ltb (length words) 11761 h)
+
+    module _ (w : 11761 ≤ length words) where
+      pub open-refused : (a : Answer) → openingRefusal lent cards ≡ some a → left a text words ≡ open-store text words lent cards
+      unfolding open-store unchanged tooShort
+      open-refused a e = rw (le-ltb (length text) 65536 t, le-ltb (length words) 11761 w, e)
+
+      pub open-done : (a : Answer) (text' words' : List ℕ) → a ≡ answer 0 0 → openingRefusal lent cards ≡ none → text' ≡ openedText text (document false lent cards) → words' ≡ openedWords words (document false lent cards) →
+          left a text' words' ≡ open-store text words lent cards
+      unfolding open-store accepted tooShort
+      open-done a text' words' z e p q = rw (le-ltb (length text) 65536 t, le-ltb (length words) 11761 w, e, z, p, q)
+
+  -- ---- Filing.
+
+  pub add-unsound : (n : ℕ) → eqb (storeRefusal text words) 0 ≡ false → n ≡ storeRefusal text words → left (answer n 0) text words ≡ add-ast text words lent cards
+  unfolding add-ast unchanged
+  add-unsound n u e = rw (u, e)
+
+  module _ (s : storeRefusal text words ≡ 0) where
+    pub add-refused : (a : Answer) → filingRefusal (accountIn text words) lent cards ≡ some a → left a text words ≡ add-ast text words lent cards
+    unfolding add-ast unchanged
+    add-refused a e = rw (s, e)
+
+    pub add-done : (a : Answer) (text' words' : List ℕ) → a ≡ answer 0 0 → filingRefusal (accountIn text words) lent cards ≡ none → text' ≡ filedText text words (document false lent cards) → words' ≡ filedWords words (document false lent cards) →
+        left a text' words' ≡ add-ast text words lent cards
+    unfolding add-ast accepted
+    add-done a text' words' z e p q = rw (s, e, z, p, q)
+
+-- ---- Turning on.
+
+module _ (text words : List ℕ) where
+  module _ (n : ℕ) (u : eqb (storeRefusal text words) 0 ≡ false) (e : n ≡ storeRefusal text words) where
+    pub adopt-unsound : left (answer n 0) text words ≡ adopt-orphan-extensions text words
+    unfolding adopt-orphan-extensions turned unchanged
+    adopt-unsound = rw (u, e)
+
+    pub ignore-unsound : left (answer n 0) text words ≡ ignore-builtin-redefinitions text words
+    unfolding ignore-builtin-redefinitions turned unchanged
+    ignore-unsound = rw (u, e)
+
+  module _ (s : storeRefusal text words ≡ 0) (a : Answer) (z : a ≡ answer 0 0) where
+    pub adopt-done : left a text (set words 1 1) ≡ adopt-orphan-extensions text words
+    unfolding adopt-orphan-extensions turned accepted adoptingWords
+    adopt-done = rw (s, z)
+
+    pub ignore-done : left a text (set words 2 1) ≡ ignore-builtin-redefinitions text words
+    unfolding ignore-builtin-redefinitions turned accepted ignoringWords
+    ignore-done = rw (s, z)

@@ -1,0 +1,122 @@
+// Opening a store, filing documents into it and turning its switches on: SchemaBuilder's `new`, `add_ast` and its two switches.
+use ast::CARD_WORDS;
+use ast::CardCheck;
+use definition::Answer;
+use store_check::StoreCheck;
+use store_check::TEXT_ROOM;
+use store_check::WORDS_ROOM;
+ghost use mathlib.Core.Path.{_≡_};
+ghost use Prim.Native.Nat.{_≤_, _/_};
+ghost use lib.ListN.{length};
+ghost use Rattle.definition.specs.Answers.{answer};
+ghost use Rattle.definition.specs.Outcomes.{open-store, add-ast, adopt-orphan-extensions, ignore-builtin-redefinitions};
+ghost use Rattle.store.specs.Room.{roomOption, roomFor};
+
+mod filing;
+
+// How many documents a store holds.
+const DOCUMENT_ROOM: u32 = 64;
+
+// How many cards it holds.
+const CARD_ROOM: usize = 2300;
+
+// There is room for a document, or it is refused with this number.
+enum Room {
+    Enough,
+    Refused(u32),
+}
+
+// 24 and 25. What is left is compared, since a lent document may be of any length.
+fn check_room(text_used: u32, cards_used: u32, lent: &[u8], cards: &[u32]) -> Room
+    requires { ⌜ («text_used» ≤ 65536) × («cards_used» ≤ 2300) ⌝ }
+    ensures { λ r. ⌜ roomOption r ≡ roomFor «text_used» «cards_used» (length (now (lent .entry))) (length (now (cards .entry)) / 5) ⌝ }
+{
+    if TEXT_ROOM - (text_used as usize) < lent.len() {
+        return Room::Refused(24);
+    }
+    if CARD_ROOM - (cards_used as usize) < cards.len() / CARD_WORDS {
+        return Room::Refused(25);
+    }
+    Room::Enough
+}
+
+// The answer of a call that is not refused.
+fn accepted() -> Answer
+    ensures { λ r. ⌜ r ≡ answer 0 0 ⌝ }
+{
+    Answer { number: 0, card: 0 }
+}
+
+// Files document 0 with both switches off, over whatever the store held.
+pub fn open(text: &mut [u8], words: &mut [u32], lent: &[u8], cards: &[u32]) -> Answer
+    ensures { λ r. ⌜ record { answer = r; text = now (text .exit); words = now (words .exit) } ≡ open-store (now (text .entry)) (now (words .entry)) (now (lent .entry)) (now (cards .entry)) ⌝ }
+{
+    if text.len() < TEXT_ROOM {
+        return Answer {
+            number: 21,
+            card: 0,
+        };
+    }
+    if words.len() < WORDS_ROOM {
+        return Answer {
+            number: 21,
+            card: 0,
+        };
+    }
+    if let CardCheck::Faulty(answer) = ast::check_document(lent, cards) {
+        return answer;
+    }
+    if let CardCheck::Faulty(answer) = built_in::check_built_in(lent, cards) {
+        return answer;
+    }
+    if let Room::Refused(number) = check_room(0, 0, lent, cards) {
+        return Answer { number, card: 0 };
+    }
+    filing::file_built_in(text, words, lent, cards);
+    accepted()
+}
+
+// Files a document after those held.
+pub fn add_ast(text: &mut [u8], words: &mut [u32], lent: &[u8], cards: &[u32]) -> Answer
+    ensures { λ r. ⌜ record { answer = r; text = now (text .exit); words = now (words .exit) } ≡ add-ast (now (text .entry)) (now (words .entry)) (now (lent .entry)) (now (cards .entry)) ⌝ }
+{
+    if let StoreCheck::Refused(number) = store_check::check_store(text, words) {
+        return Answer { number, card: 0 };
+    }
+    if let CardCheck::Faulty(answer) = ast::check_document(lent, cards) {
+        return answer;
+    }
+    if words[0] >= DOCUMENT_ROOM {
+        return Answer {
+            number: 23,
+            card: 0,
+        };
+    }
+    if let Room::Refused(number) = check_room(words[3], words[4], lent, cards) {
+        return Answer { number, card: 0 };
+    }
+    filing::file(text, words, lent, cards);
+    accepted()
+}
+
+// Extensions without a definition are adopted from now on.
+pub fn adopt_orphan_extensions(text: &[u8], words: &mut [u32]) -> Answer
+    ensures { λ r. ⌜ record { answer = r; text = now (text .exit); words = now (words .exit) } ≡ adopt-orphan-extensions (now (text .entry)) (now (words .entry)) ⌝ }
+{
+    if let StoreCheck::Refused(number) = store_check::check_store(text, words) {
+        return Answer { number, card: 0 };
+    }
+    words[1] = 1;
+    accepted()
+}
+
+// Documents filed from now on may define the types of document 0 again.
+pub fn ignore_builtin_redefinitions(text: &[u8], words: &mut [u32]) -> Answer
+    ensures { λ r. ⌜ record { answer = r; text = now (text .exit); words = now (words .exit) } ≡ ignore-builtin-redefinitions (now (text .entry)) (now (words .entry)) ⌝ }
+{
+    if let StoreCheck::Refused(number) = store_check::check_store(text, words) {
+        return Answer { number, card: 0 };
+    }
+    words[2] = 1;
+    accepted()
+}
