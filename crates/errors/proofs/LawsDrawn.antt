@@ -1,0 +1,157 @@
+-- Drawing all errors: what the arrays and rows give is the definition's, and what is pushed is written and counted.
+use mathlib.Core.Path.{_≡_, refl, sym, _∙_, ap, ap₂, subst}
+use mathlib.Core.List.{List, [], _∷_, _++_, map}
+use mathlib.Core.Bool.{Bool}
+use Prim.Native.Nat.{ℕ, _*_, _≤_, _<_}
+use native.Mathlib.Omega.{arith}
+use lib.ListN.{length, getD, take, length-append, length-take, length-map}
+use Rattle.definition.specs.Lists.{All, keep, flatMap, firsts}
+use Rattle.definition.specs.Headings.{Heading, isTypeExtension, sameNamed, orphans, schemaDefinition, numberOf}
+use Rattle.definition.specs.Catalogue.{Row, rows}
+use Rattle.definition.specs.Errors.{Error, reading, drawing}
+use Rattle.definition.specs.Merge.{tallies}
+use Rattle.definition.specs.Outcomes.{wordsOfRow}
+use Rattle.definition.specs.Store.{cardsUsed}
+use Rattle.stored.specs.Stored.{cardKind, storedHeadings}
+use Rattle.index.specs.declared.Counts.{Counts}
+use Rattle.index.specs.Index.{headingNumber}
+use Rattle.index.proofs.Lists.{taken-front, all-picture}
+use Rattle.errors.specs.declared.ErrorCounts.{ErrorCounts}
+use Rattle.errors.specs.Pushing.{Ledger, ledger, pushAll, Room, noErrors}
+use Rattle.errors.specs.Standing.{View}
+use Rattle.errors.specs.ByCards.{readingAt, drawingAt}
+use Rattle.errors.specs.Views.{viewOf, Held, HeldExtensions}
+use Rattle.errors.specs.Drawn.{allErrors, ErrorsPushed, ErrorsAsked, ErrorsDrawn}
+use Rattle.definition.proofs.Lists.{flatMap-nil, flatMap-cons}
+use Rattle.definition.proofs.All.{all-append, all-keep, all-firsts, all-with}
+use Rattle.errors.proofs.LawsRows.{extends-kind, schema-shape}
+use Rattle.errors.proofs.LawsKnown.{headingOf, Known, kind-told}
+use Rattle.errors.proofs.LawsReading.{reading-found}
+use Rattle.errors.proofs.LawsDrawing.{Orphan, adoptees-known}
+use Rattle.errors.proofs.LawsSchema.{drawing-found}
+use Rattle.errors.proofs.LawsLegal.{legal-reading, legal-drawing}
+use Rattle.errors.proofs.LawsStored.{known-stored, legal-known}
+use Rattle.errors.proofs.LawsTallies.{Legal, pushed-total, pushed-words, pushed-tallies, room-empty}
+
+row-words : (rs : List Row) → length (flatMap wordsOfRow rs) ≡ 3 * length rs
+row-words [] = ap length (flatMap-nil wordsOfRow) ∙ omega arith
+row-words (r ∷ rs) =
+    ap length (flatMap-cons wordsOfRow r rs)
+    ∙ omega (arith, length-append (wordsOfRow r) (flatMap wordsOfRow rs), row-words rs, three r)
+  where
+    three : (r : Row) → length (wordsOfRow r) ≡ 3
+    three r = unfold wordsOfRow in refl
+
+second-word : (r : Row) (rs : List Row) → getD (flatMap wordsOfRow (r ∷ rs)) 1 0 ≡ r .card
+unfolding flatMap wordsOfRow
+second-word r rs = refl
+
+numbers-map : (hs : List Heading) → map headingNumber hs ≡ map (λ (h : Heading). h .number) hs
+unfolding headingNumber
+numbers-map hs = refl
+
+module _ (text words heads prints owners orphanCards extensionCards : List ℕ) (counts : Counts) (adopt : Bool) (drawn : List ℕ) (n : ℕ) (errors : List ℕ)
+    (q : ErrorsAsked text words heads prints owners orphanCards extensionCards counts adopt drawn n errors) where
+  abbrev hs : List Heading
+  hs = storedHeadings text words
+
+  abbrev v : View
+  v = viewOf text words owners
+
+  abbrev m : ℕ
+  m = counts .headings
+
+  known : Known v hs
+  known = known-stored text words heads prints owners (q .types) orphanCards extensionCards m (counts .types) (counts .orphans) (counts .extensions) (q .store-sound) (q .indexed)
+
+  -- ---- What the arrays hold.
+
+  heads-taken : take m heads ≡ map (λ (h : Heading). h .number) hs
+  heads-taken = taken-front m heads (map headingNumber hs) (cardsUsed words) (q .indexed .heads-are) (numbers-length ∙ q .indexed .headings-count) ∙ numbers-map hs
+    where
+      numbers-length : length (map headingNumber hs) ≡ length hs
+      numbers-length = length-map hs headingNumber
+
+  extensions-taken : take (counts .extensions) extensionCards ≡ map (λ (h : Heading). h .number) (keep isTypeExtension hs)
+  extensions-taken = q .indexed .extensions-are ∙ numbers-map (keep isTypeExtension hs)
+
+  orphans-taken : take (counts .orphans) orphanCards ≡ map (λ (h : Heading). h .number) (firsts sameNamed [] (orphans hs))
+  orphans-taken = q .indexed .orphans-are ∙ numbers-map (firsts sameNamed [] (orphans hs))
+
+  pub heads-held : Held words (take m heads)
+  heads-held = subst (Held words) (sym heads-taken) (all-picture (λ (h : Heading). h .number) (λ c. c < cardsUsed words) hs (known .held))
+
+  pub extensions-held : Held words (take (counts .extensions) extensionCards)
+  extensions-held =
+      subst (Held words) (sym extensions-taken)
+      (all-picture (λ (h : Heading). h .number) (λ c. c < cardsUsed words) (keep isTypeExtension hs) (all-keep (λ h. h .number < cardsUsed words) isTypeExtension hs (known .held)))
+
+  pub orphans-held : HeldExtensions words (take (counts .orphans) orphanCards)
+  unfolding orphans
+  orphans-held =
+      subst (HeldExtensions words) (sym orphans-taken)
+      (all-picture (λ (h : Heading). h .number) (λ c. (c < cardsUsed words) × (7 ≤ cardKind words c)) (firsts sameNamed [] (orphans hs))
+      (all-with (λ h. h .number < cardsUsed words) (Orphan v hs) (λ h. (h .number < cardsUsed words) × (7 ≤ cardKind words (h .number)))
+      (λ h l g. let k = extends-kind h (g .extends) in let e = kind-told v h (g .told) in (l, omega arith)) (firsts sameNamed [] (orphans hs))
+      (all-firsts (λ h. h .number < cardsUsed words) sameNamed [] (orphans hs) (all-keep (λ h. h .number < cardsUsed words) _ hs (known .held)))
+      (adoptees-known v adopt hs known)))
+
+  -- ---- The rows.
+
+  pub rows-inside : 3 * n ≤ length drawn
+  rows-inside =
+      let l : length (take (3 * n) drawn) ≡ 3 * n = ap length (q .rows-are) ∙ (row-words (rows adopt hs) ∙ ap (λ k. 3 * k) (sym (q .row-count))) in
+      omega (arith, length-take (3 * n) drawn)
+
+  schema-is : getD (take (3 * n) drawn) 1 0 ≡ numberOf (schemaDefinition hs)
+  schema-is =
+      ap (λ l. getD l 1 0) (q .rows-are ∙ ap (flatMap wordsOfRow) (schema-shape v (headingOf v) adopt hs (known .told) (known .named))) ∙ second-word _ _
+
+  -- ---- The errors.
+
+  pub reading-is : readingAt v (take (3 * n) drawn) (getD (take (3 * n) drawn) 1 0) (take (counts .extensions) extensionCards) [] (take m heads) ≡ reading [] hs
+  reading-is =
+      ap₂ (λ r s. readingAt v r s (take (counts .extensions) extensionCards) [] (take m heads)) (q .rows-are) schema-is
+      ∙ (ap₂ (λ e h. readingAt v (flatMap wordsOfRow (rows adopt hs)) (numberOf (schemaDefinition hs)) e [] h) extensions-taken heads-taken
+      ∙ reading-found v adopt hs known)
+
+  pub drawing-is :
+      drawingAt adopt v (take (3 * n) drawn) (getD (take (3 * n) drawn) 1 0) (take (counts .extensions) extensionCards) (take (counts .orphans) orphanCards) (take m heads) ≡ drawing adopt hs
+  drawing-is =
+      ap₂ (λ r s. drawingAt adopt v r s (take (counts .extensions) extensionCards) (take (counts .orphans) orphanCards) (take m heads)) (q .rows-are) schema-is
+      ∙ (ap₂ (λ e h. drawingAt adopt v (flatMap wordsOfRow (rows adopt hs)) (numberOf (schemaDefinition hs)) e (take (counts .orphans) orphanCards) h) extensions-taken heads-taken
+      ∙ (ap (λ o. drawingAt adopt v (flatMap wordsOfRow (rows adopt hs)) (numberOf (schemaDefinition hs)) (map (λ (h : Heading). h .number) (keep isTypeExtension hs)) o (map (λ (h : Heading). h .number) hs)) orphans-taken
+      ∙ drawing-found v adopt hs known))
+
+  legal : All Legal (allErrors adopt hs)
+  unfolding allErrors
+  legal =
+      let l = legal-known text words heads prints owners (q .types) orphanCards extensionCards m (counts .types) (counts .orphans) (counts .extensions) (q .store-sound) (q .indexed) in
+      all-append Legal (reading [] hs) (drawing adopt hs) (legal-reading [] hs tt l (known .most)) (legal-drawing adopt hs l)
+
+  -- Both lists, as the code pushes them.
+  abbrev readingPushed : List Error
+  readingPushed = readingAt v (take (3 * n) drawn) (getD (take (3 * n) drawn) 1 0) (take (counts .extensions) extensionCards) [] (take m heads)
+
+  abbrev drawingPushed : List Error
+  drawingPushed =
+      drawingAt adopt v (take (3 * n) drawn) (getD (take (3 * n) drawn) 1 0) (take (counts .extensions) extensionCards) (take (counts .orphans) orphanCards) (take m heads)
+
+  all-pushed : readingPushed ++ drawingPushed ≡ allErrors adopt hs
+  unfolding allErrors
+  all-pushed = ap₂ (λ l k. l ++ k) reading-is drawing-is
+
+  pub all-room : Room (ledger errors noErrors) (readingPushed ++ drawingPushed)
+  all-room = subst (Room (ledger errors noErrors)) (sym all-pushed) (room-empty errors (allErrors adopt hs) (q .errors-room) (q .errors-most) legal)
+
+  -- What is left when both are pushed.
+  pub errors-drawn : (after : List ℕ) (r : ErrorCounts) → ErrorsPushed errors after r readingPushed drawingPushed → ErrorsDrawn adopt hs errors after r
+  errors-drawn after r w =
+      let all : ledger after (r .tallies) ≡ pushAll (ledger errors noErrors) (allErrors adopt hs) = w .pushed ∙ ap (pushAll (ledger errors noErrors)) all-pushed in
+      record {
+        errors-are = ap (λ (l : Ledger). l .errors) all ∙ pushed-words (ledger errors noErrors) (allErrors adopt hs) (omega (arith, q .errors-room));
+        reading-count = w .reading-count ∙ ap length reading-is;
+        drawing-count = w .drawing-count ∙ ap length drawing-is;
+        tallies-are = ap (λ (l : Ledger). l .tallies .counts) all ∙ pushed-tallies errors (allErrors adopt hs) legal;
+        total-is = ap (λ (l : Ledger). l .tallies .total) all ∙ (pushed-total (ledger errors noErrors) (allErrors adopt hs) ∙ omega arith);
+      }

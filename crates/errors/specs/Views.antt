@@ -1,0 +1,42 @@
+-- What a store and the owners say of cards by their numbers.
+use mathlib.Core.List.{List, []}
+use Prim.Native.Nat.{ℕ, _+_, _≤_, _<_}
+use mathlib.Core.Path.{_≡_}
+use lib.ListN.{getD}
+use Rattle.definition.specs.Lists.{All}
+use Rattle.definition.specs.Store.{cardsUsed}
+use Rattle.stored.specs.Stored.{storedParts, cardKind, cardName, builtInAt, ignoredAt, partsFrom}
+use Rattle.index.specs.Index.{Printed}
+use Rattle.errors.specs.Standing.{View, rowAt}
+
+abbrev pub viewOf : List ℕ → List ℕ → List ℕ → View
+viewOf text words owners = record {
+  used = cardsUsed words;
+  kind = cardKind words;
+  name = cardName text words;
+  builtIn = builtInAt words;
+  ignored = ignoredAt words;
+  parts = λ c. partsFrom (storedParts text words) (c + 1);
+  owner = λ c. getD owners c 0;
+}
+
+-- Of cards alone: which owners there are does not bear on what stands for a part.
+abbrev pub cardView : List ℕ → List ℕ → View
+cardView text words = viewOf text words []
+
+-- Of cards without their names.
+abbrev pub cardsView : List ℕ → List ℕ → View
+cardsView words owners = viewOf [] words owners
+
+-- What is asked where parts are merged into the row of what k and card d: names can be compared, and the search begins at that row.
+pub record Merging (text words prints rows : List ℕ) (from k d : ℕ) : Type 0 where
+  pub printed : Printed text words prints
+  pub row : from ≡ rowAt k d rows
+
+-- Every one is a stored card's number.
+abbrev pub Held : List ℕ → List ℕ → Type 0
+Held words cards = All (λ c. c < cardsUsed words) cards
+
+-- Every one is the number of a stored card with an extension's kind.
+abbrev pub HeldExtensions : List ℕ → List ℕ → Type 0
+HeldExtensions words cards = All (λ c. (c < cardsUsed words) × (7 ≤ cardKind words c)) cards

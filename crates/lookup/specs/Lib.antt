@@ -1,0 +1,2 @@
+-- What the search over lent rows finds.
+pub mod Search

@@ -1,0 +1,9 @@
+pub mod Pushing
+pub mod Sticky
+pub mod Listed
+pub mod Blocks
+pub mod Directives
+pub mod Turns
+pub mod SchemaLists
+pub mod SchemaTurns
+pub mod Catalogue

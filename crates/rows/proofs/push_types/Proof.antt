@@ -1,0 +1,85 @@
+use mathlib.Core.Path.{_≡_, refl, sym, ap, _∙_}
+use mathlib.Core.List.{List, [], _∷_}
+use Prim.Native.Nat.{ℕ, _+_, _*_, _-_, _≤_, _<_}
+use native.Mathlib.Omega.{arith}
+use lib.ListN.{length, take, drop, getD}
+use Rattle.definition.specs.Lists.{flatMap}
+use Rattle.rows.specs.Pushed.{Filled, filled, pushed}
+use Rattle.rows.specs.Drawn.{typeRowsAt}
+use Rattle.rows.proofs.Pushing.{Left, left-begin, left-room, left-next, left-end}
+use Rattle.rows.proofs.Turns.{taken-next, taken-end}
+use Rattle.rows.proofs.push_types.Statement.{statement}
+use Rattle.rows.proofs.push_types.Tie as tie
+use borrow.Author.Needs.{needs}
+use Rattle.rows.proofs.push_types.Reads as reads
+use Rattle.rows.proofs.push_types.Lts as lts
+use Rattle.rows.proofs.push_type.Reads as push-type-reads
+
+abbrev Inv-loop : tie.InvT-loop
+Inv-loop text words prints extensions count types n rows₀ used t₀ i₀ rows t i =
+    (length rows ≡ length rows₀)
+    × Left (typeRowsAt text words (take count extensions)) (drop i (take n types)) (filled rows t) (pushed (flatMap (typeRowsAt text words (take count extensions)) (take n types)) (filled rows₀ t₀))
+
+abbrev μ-loop : tie.MeasureT-loop
+μ-loop text words prints extensions count types n rows₀ used t₀ i₀ rows t i = n - i
+
+loop-holds : tie.Need-loop-holds Inv-loop μ-loop
+loop-holds c = (refl, left-begin _ _ _ _ refl (c .before .before .before .before .before .before .pre .3))
+
+mul-card : tie.Need-mul-card Inv-loop μ-loop
+mul-card c = search needs
+
+shared-slice-read-card : tie.Need-shared-slice-read-card Inv-loop μ-loop
+shared-slice-read-card c = let h = c .before .before .before .before .before .before .before .before .before .pre .2 .inside in omega arith
+
+push-type-requires : tie.Need-push-type-requires Inv-loop μ-loop
+push-type-requires c κs =
+    let e = c .before .before .before .before .before .before .before .before .before .before .args in
+    let l = c .before .before .before .loop in
+    let h = c .before .before .loop-test .taken in (
+      c .before .before .before .before .before .before .before .before .before .before .pre .0,
+      c .before .before .before .before .before .before .before .before .before .before .pre .1,
+      c .before .before .before .before .before .before .before .before .before .before .pre .2 .stored (l .i) h,
+      left-room _ _ _ _ (l .inv .1) _ _ (taken-next (e .types .now) (e .t) (l .i) h (c .before .before .before .before .before .before .before .before .before .before .pre .2 .inside)),
+    )
+
+add-i : tie.Need-add-i Inv-loop μ-loop
+add-i c = search needs
+
+loop-less : tie.Need-loop-less Inv-loop μ-loop
+loop-less c = search needs
+
+loop-again : tie.Need-loop-again Inv-loop μ-loop
+loop-again c =
+    let e = c .before .before .before .before .before .before .before .before .before .before .before .before .before .args in
+    let l = c .before .before .before .before .before .before .loop in
+    let h = c .before .before .before .before .before .loop-test .taken in
+    let r = c .before .before .push-type in (
+      r .kept .1 .1 .1 .1 .1 .1 .0 ∙ l .inv .0,
+      left-next _ _ _ _ (l .inv .1) _ _ (taken-next (e .types .now) (e .t) (l .i) h (c .before .before .before .before .before .before .before .before .before .before .before .before .before .pre .2 .inside)) _ (r .ensures),
+    )
+
+same-length : tie.Need-same-length Inv-loop μ-loop
+same-length c = search needs
+
+returns : tie.Need-returns Inv-loop μ-loop
+returns c =
+    let e = c .before .before .before .before .before .before .before .before .args in
+    let l = c .before .loop in
+    left-end _ _ _ _ (l .inv .1) (taken-end (e .types .now) (e .t) (l .i) (c .loop-test .left))
+
+pub push-types-spec : {M : Type 1} → statement M
+push-types-spec =
+    tie.close
+    (tie.spec
+    Inv-loop
+    μ-loop
+    loop-holds
+    mul-card
+    shared-slice-read-card
+    push-type-requires
+    add-i
+    loop-less
+    loop-again
+    same-length
+    returns)

@@ -1,0 +1,164 @@
+-- The catalogue's rows by the numbers of cards, as code finds them. proofs/Catalogue.antt shows that they are those of the definition.
+use mathlib.Core.Path.{_≡_}
+use mathlib.Core.List.{List, [], _∷_, _++_, map}
+use mathlib.Core.Bool.{Bool, true, false, not}
+use Prim.Native.Nat.{ℕ, _+_, _-_, _<_, _≤_}
+use lib.Dec.{eqb, leb, ltb}
+use lib.ListN.{length, drop, getD}
+use Rattle.definition.specs.Lists.{choose, found, keep, any, firstWhere, before, flatMap, firsts}
+use Rattle.definition.specs.Answers.{absent}
+use Rattle.definition.specs.Cards.{Card, isRoot}
+use Rattle.definition.specs.Headings.{isOf, definesType, extendsType}
+use Rattle.definition.specs.Catalogue.{Row, row, components, underType, underSchema, defaultName}
+use Rattle.definition.specs.Store.{cardsUsed, storedCards}
+use Rattle.stored.specs.Stored.{cardKind, cardName, builtInAt, headingAt, isHeadCard}
+use Rattle.index.specs.Index.{sameCards}
+use Rattle.rows.specs.Pushed.{alikeRows, rowsOfKind}
+
+-- An array whose first n words are numbers of stored cards.
+pub record Stored (words cards : List ℕ) (n : ℕ) : Type 0 where
+  pub inside : n ≤ length cards
+  pub stored : (i : ℕ) → i < n → getD cards i 0 < cardsUsed words
+
+-- Whether two numbers are those of stored cards that have one name.
+unfoldable pub sameStored : List ℕ → List ℕ → ℕ → ℕ → Bool
+sameStored text words a b =
+    let same = sameCards text words a b in
+    choose (ltb a (cardsUsed words)) (choose (ltb b (cardsUsed words)) same false) false
+
+-- ---- The lists of a type.
+
+-- The parts of kind k under a heading card, as rows.
+unfoldable pub headRows : List ℕ → List ℕ → ℕ → ℕ → ℕ → List Row
+headRows text words origin k n = rowsOfKind k (components origin (headingAt text words n))
+
+-- The same of an extension, if it is of the kind and has the name of the owner.
+unfoldable pub extensionRowsAt : List ℕ → List ℕ → ℕ → ℕ → ℕ → ℕ → List Row
+extensionRowsAt text words ext owner k n =
+    let rs = headRows text words n k n in
+    choose (isOf ext (cardName text words owner) (headingAt text words n)) rs []
+
+unfoldable pub extensionRows : List ℕ → List ℕ → ℕ → ℕ → ℕ → List ℕ → List Row
+extensionRows text words ext owner k ns = flatMap (extensionRowsAt text words ext owner k) ns
+
+-- The rows that a list of kind k is made from: of a definition its own parts and then its extensions', of an orphan only the extensions'. ns are
+-- the type extensions.
+unfoldable pub listRows : List ℕ → List ℕ → List ℕ → ℕ → ℕ → List Row
+listRows text words ns card k =
+    let adopted = extensionRows text words (cardKind words card) card k ns in
+    let defined = headRows text words absent k card ++ extensionRows text words (cardKind words card + 7) card k ns in
+    choose (leb 12 (cardKind words card)) adopted defined
+
+unfoldable pub listAt : List ℕ → List ℕ → List ℕ → ℕ → ℕ → List Row
+listAt text words ns card k = firsts (alikeRows (sameStored text words)) [] (listRows text words ns card k)
+
+unfoldable pub typeRowAt : List ℕ → ℕ → Row
+typeRowAt words card = choose (leb 12 (cardKind words card)) (row (cardKind words card - 7) card card) (row (cardKind words card) card absent)
+
+unfoldable pub typeRowsAt : List ℕ → List ℕ → List ℕ → ℕ → List Row
+typeRowsAt text words ns card = typeRowAt words card ∷ flatMap (listAt text words ns card) underType
+
+-- ---- Directive definitions. ns are all headings' cards.
+
+-- The first that is not built-in, else the last.
+unfoldable pub standingCard : (ℕ → Bool) → ℕ → List ℕ → ℕ
+standingCard builtIn last [] = last
+standingCard builtIn last (n ∷ ns) = let r = standingCard builtIn n ns in choose (builtIn n) r n
+
+unfoldable pub namesDirective : List ℕ → List ℕ → ℕ → ℕ → Bool
+namesDirective text words card n = isOf 3 (cardName text words card) (headingAt text words n)
+
+unfoldable pub standingAt : List ℕ → List ℕ → List ℕ → ℕ → ℕ
+standingAt text words ns card = standingCard (builtInAt words) absent (keep (namesDirective text words card) ns)
+
+-- A directive definition brings the one that stands for its name.
+unfoldable pub directiveRowsOf : List ℕ → List ℕ → List ℕ → ℕ → List Row
+directiveRowsOf text words ns n =
+    let rs : List Row = row 3 (standingAt text words ns n) absent ∷ [] in
+    choose (eqb (cardKind words n) 3) rs []
+
+unfoldable pub directiveRowsAt : List ℕ → List ℕ → List ℕ → List Row
+directiveRowsAt text words ns = firsts (alikeRows (sameStored text words)) [] (flatMap (directiveRowsOf text words ns) ns)
+
+-- ---- The schema. ns are all headings' cards.
+
+unfoldable pub isSchemaCard : List ℕ → ℕ → Bool
+isSchemaCard words n = eqb (cardKind words n) 4
+
+-- The card of the first schema definition, or `-`.
+unfoldable pub schemaCard : List ℕ → List ℕ → ℕ
+schemaCard words ns = found (firstWhere (isSchemaCard words) ns) (λ n. n) absent
+
+-- The parts of kind k under a schema extension, as rows.
+unfoldable pub schemaExtensionAt : List ℕ → List ℕ → ℕ → ℕ → List Row
+schemaExtensionAt text words k n =
+    let rs = headRows text words n k n in
+    choose (eqb (cardKind words n) 11) rs []
+
+-- The kind of the type of a name: that of its definition, else, adopting, that of its first extension.
+unfoldable pub definesCard : List ℕ → List ℕ → List ℕ → ℕ → Bool
+definesCard text words name n = definesType name (headingAt text words n)
+
+unfoldable pub definedKind : List ℕ → List ℕ → List ℕ → List ℕ → ℕ
+definedKind text words ns name = found (firstWhere (definesCard text words name) ns) (cardKind words) 0
+
+unfoldable pub extendsCard : List ℕ → List ℕ → List ℕ → ℕ → Bool
+extendsCard text words name n = extendsType name (headingAt text words n)
+
+unfoldable pub adoptedKind : List ℕ → List ℕ → List ℕ → List ℕ → ℕ
+adoptedKind text words ns name = found (firstWhere (extendsCard text words name) ns) (λ n. cardKind words n - 7) 0
+
+unfoldable pub kindNamedAt : List ℕ → List ℕ → Bool → List ℕ → List ℕ → ℕ
+kindNamedAt text words adopt ns name =
+    let orphaned = adoptedKind text words ns name in
+    let undefined = choose adopt orphaned 0 in
+    choose (eqb (definedKind text words ns name) 0) undefined (definedKind text words ns name)
+
+-- Whether a default root is set, and its row in the list of its kind.
+unfoldable pub hasDefault : List ℕ → List ℕ → Bool → List ℕ → ℕ → Bool
+hasDefault text words adopt ns k = eqb (kindNamedAt text words adopt ns (defaultName k)) 6
+
+unfoldable pub anyDefault : List ℕ → List ℕ → Bool → List ℕ → Bool
+anyDefault text words adopt ns =
+    let last = hasDefault text words adopt ns 28 in
+    let later = choose (hasDefault text words adopt ns 27) true last in
+    choose (hasDefault text words adopt ns 26) true later
+
+unfoldable pub defaultRows : List ℕ → List ℕ → Bool → List ℕ → ℕ → List Row
+defaultRows text words adopt ns k =
+    let set = choose (hasDefault text words adopt ns k) (row k absent absent ∷ []) [] in
+    choose (isRoot k) set []
+
+-- Whether a schema extension has a root.
+unfoldable pub isRootCard : Card → Bool
+isRootCard c = isRoot (c .kind)
+
+unfoldable pub setsRoot : List ℕ → ℕ → Bool
+setsRoot words n =
+    let roots = any isRootCard (before isHeadCard (drop (n + 1) (storedCards words))) in
+    choose (eqb (cardKind words n) 11) roots false
+
+-- Whether default roots have a part in the schema, where it has no definition: adopting, if no root is set; else if there are any.
+unfoldable pub isImplicit : List ℕ → List ℕ → Bool → List ℕ → Bool
+isImplicit text words adopt ns =
+    let unset = not (any (setsRoot words) ns) in
+    let some = anyDefault text words false ns in
+    choose adopt unset some
+
+-- The rows that the schema's list of kind k is made from.
+unfoldable pub schemaListRows : List ℕ → List ℕ → Bool → List ℕ → ℕ → Bool → ℕ → List Row
+schemaListRows text words adopt ns schema implicit k =
+    let extensions = flatMap (schemaExtensionAt text words k) ns in
+    let defaults = defaultRows text words adopt ns k in
+    let adopted = extensions ++ choose implicit defaults [] in
+    let unadopted = choose implicit (defaults ++ extensions) [] in
+    let defined = headRows text words absent k schema ++ extensions in
+    choose (eqb schema absent) (choose adopt adopted unadopted) defined
+
+unfoldable pub schemaListAt : List ℕ → List ℕ → Bool → List ℕ → ℕ → Bool → ℕ → List Row
+schemaListAt text words adopt ns schema implicit k = firsts (alikeRows (sameStored text words)) [] (schemaListRows text words adopt ns schema implicit k)
+
+unfoldable pub schemaRowsAt : List ℕ → List ℕ → Bool → List ℕ → List Row
+schemaRowsAt text words adopt ns =
+    row 4 (schemaCard words ns) absent ∷
+    flatMap (schemaListAt text words adopt ns (schemaCard words ns) (isImplicit text words adopt ns)) underSchema
