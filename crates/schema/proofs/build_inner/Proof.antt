@@ -1,115 +1,110 @@
 use native.Mathlib.Omega.{arith}
 use Rattle.rows.proofs.Catalogue.{indexed-arrays}
-use Rattle.schema.proofs.Bounds.{rows-fit, errors-fit, drawn-is}
+use Rattle.schema.proofs.Bounds.{rows-fit, rows-room, rows-stand, errors-most, errors-room, built}
+use lib.Dec.{eqb}
+use lib.ListN.{getD}
 use borrow.Author.Needs.{needs}
 use Rattle.schema.proofs.build_inner.Statement.{statement}
 use Rattle.schema.proofs.build_inner.Tie as tie
-use Rattle.schema.proofs.build_inner.Reads as reads
 use Rattle.schema.proofs.build_inner.Lts as lts
 use Rattle.errors.proofs.draw_errors.Reads as draw-errors-reads
 use Rattle.index.proofs.index.Reads as index-reads
 use Rattle.rows.proofs.draw_rows.Reads as draw-rows-reads
 
--- src/lib.rt:29:17
 shared-slice-read-adopt : tie.Need-shared-slice-read-adopt
 shared-slice-read-adopt c = search needs
 
--- src/lib.rt:30:44
 slice-aggregate-index : tie.Need-slice-aggregate-index
 slice-aggregate-index c = search needs
 
--- src/lib.rt:30:56
 slice-aggregate-index-2 : tie.Need-slice-aggregate-index-2
 slice-aggregate-index-2 c = search needs
 
--- src/lib.rt:30:69
 slice-aggregate-index-3 : tie.Need-slice-aggregate-index-3
 slice-aggregate-index-3 c = search needs
 
--- src/lib.rt:30:82
 slice-aggregate-index-4 : tie.Need-slice-aggregate-index-4
 slice-aggregate-index-4 c = search needs
 
--- src/lib.rt:30:94
 slice-aggregate-index-5 : tie.Need-slice-aggregate-index-5
 slice-aggregate-index-5 c = search needs
 
--- src/lib.rt:30:108
 slice-aggregate-index-6 : tie.Need-slice-aggregate-index-6
 slice-aggregate-index-6 c = search needs
 
--- src/lib.rt:30:9
 index-requires : tie.Need-index-requires
 index-requires c κs = search needs
 
--- src/lib.rt:31:45
 slice-aggregate-draw-rows : tie.Need-slice-aggregate-draw-rows
 slice-aggregate-draw-rows c = search needs
 
--- src/lib.rt:31:53
 slice-aggregate-draw-rows-2 : tie.Need-slice-aggregate-draw-rows-2
 slice-aggregate-draw-rows-2 c = search needs
 
--- src/lib.rt:31:62
 slice-aggregate-draw-rows-3 : tie.Need-slice-aggregate-draw-rows-3
 slice-aggregate-draw-rows-3 c = search needs
 
--- src/lib.rt:31:70
 slice-aggregate-draw-rows-4 : tie.Need-slice-aggregate-draw-rows-4
 slice-aggregate-draw-rows-4 c = search needs
 
--- src/lib.rt:31:80
 slice-aggregate-draw-rows-5 : tie.Need-slice-aggregate-draw-rows-5
 slice-aggregate-draw-rows-5 c = search needs
 
--- src/lib.rt:31:9
 draw-rows-requires : tie.Need-draw-rows-requires
 draw-rows-requires c κs =
     let x = c .before .before .before .before .before .before .before .before .before .before .before .before in
     let s = x .before .before .before .before .before .before .before .before .before .before .before .before in
-    let f = rows-fit _ _ (s .pre .store-sound) _ in
-    let l = s .pre .rows-length in
-    (indexed-arrays _ _ _ _ _ _ _ _ _ _ _ _ (x .index .ensures), omega arith)
+    (indexed-arrays _ _ _ _ _ _ _ _ _ _ _ _ (x .index .ensures), rows-room _ _ (s .pre .store-sound) _ (s .args .rows .now) (s .pre .rows-length))
 
--- src/lib.rt:32:49
 slice-aggregate-draw-errors : tie.Need-slice-aggregate-draw-errors
 slice-aggregate-draw-errors c = search needs
 
--- src/lib.rt:32:57
 slice-aggregate-draw-errors-2 : tie.Need-slice-aggregate-draw-errors-2
 slice-aggregate-draw-errors-2 c = search needs
 
--- src/lib.rt:32:66
 slice-aggregate-draw-errors-3 : tie.Need-slice-aggregate-draw-errors-3
 slice-aggregate-draw-errors-3 c = search needs
 
--- src/lib.rt:32:75
 slice-aggregate-draw-errors-4 : tie.Need-slice-aggregate-draw-errors-4
 slice-aggregate-draw-errors-4 c = search needs
 
--- src/lib.rt:32:85
 slice-aggregate-draw-errors-5 : tie.Need-slice-aggregate-draw-errors-5
 slice-aggregate-draw-errors-5 c = search needs
 
--- src/lib.rt:32:9
 draw-errors-requires : tie.Need-draw-errors-requires
-draw-errors-requires c κs = ?
+draw-errors-requires c κs =
+    let y = c .before .before .before .before .before .before .before .before .before in
+    let x = y .before .before .before .before .before .before .before .before .before .before .before .before .before in
+    let s = x .before .before .before .before .before .before .before .before .before .before .before .before in
+    record {
+      types = _;
+      store-sound = s .pre .store-sound;
+      indexed = x .index .ensures;
+      row-count = y .draw-rows .ensures .1;
+      rows-are = rows-stand _ _ _ _ (y .draw-rows .ensures .1) (y .draw-rows .ensures .0);
+      errors-most = errors-most _ _ (s .pre .store-sound) _;
+      errors-room = errors-room _ _ (s .pre .store-sound) _ (s .args .errors .now) (s .pre .errors-length);
+    }
 
--- src/lib.rt:36:15
 cast-t17 : tie.Need-cast-t17
-cast-t17 c = ?
+cast-t17 c =
+    let y = c .before .before .before .before .before .before .before .before .before .before .before .before .before in
+    let s = c .before .before .before .before .before .before .before .before .before .before .before .before .before .before .before .before .before .before .before .before .before .before .before .before .before .before .before .before .before .before .before .before .before .before .before .before .before .before in
+    let f = rows-fit _ _ (s .pre .store-sound) (eqb (getD (s .args .words .now) 1 0) 1) in
+    omega (arith, y .draw-rows .ensures .1)
 
--- src/lib.rt:19:1
 same-length : tie.Need-same-length
 same-length c = search needs
 
--- src/lib.rt:19:1
 same-length-2 : tie.Need-same-length-2
 same-length-2 c = search needs
 
--- src/lib.rt:19:1
 returns : tie.Need-returns
-returns c = ?
+returns c =
+    let y = c .before .before .before .before .before .before .before .before .before .before .before .before .before in
+    let z = c .before .before .before in
+    let s = c .before .before .before .before .before .before .before .before .before .before .before .before .before .before .before .before .before .before .before .before .before .before .before .before .before .before .before .before .before .before .before .before .before .before .before .before .before .before in
+    built _ _ (s .pre .store-sound) _ _ _ _ _ _ (y .draw-rows .ensures .0) (y .draw-rows .ensures .1) (z .draw-errors .ensures)
 
 pub build-inner-spec : {M : Type 1} → statement M
 build-inner-spec =
