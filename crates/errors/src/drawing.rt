@@ -1,4 +1,5 @@
 // The errors of drawing: the orphans name by name, then the schema extensions that met no definition.
+use crate::ABSENT;
 use crate::merging;
 use crate::pushing;
 use definition::Tallies;
@@ -13,9 +14,6 @@ ghost use Rattle.index.specs.Index.{Printed};
 ghost use Rattle.errors.specs.Pushing.{ledger, pushAll, Room};
 ghost use Rattle.errors.specs.ByCards.{isOrphanOf, adoptionErrorsAt, unadoptedErrorsAt, orphanErrorsAt, unmetErrors, isBare, noSchemaErrorsAt, drawingAt};
 ghost use Rattle.errors.specs.Views.{viewOf, cardView, Merging, Held, HeldExtensions};
-
-// The word that stands for no card.
-const ABSENT: u32 = 4294967295;
 
 // Whether the card is a type extension without a definition that has the name of g.
 fn is_orphan_of(

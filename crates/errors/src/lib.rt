@@ -17,6 +17,9 @@ mod merging;
 mod pushing;
 mod reading;
 
+// The word that stands for no card.
+const ABSENT: u32 = 4294967295;
+
 // The card that stands for a part, where a list has one of its name.
 pub enum Standing {
     Card(u32),
@@ -46,18 +49,7 @@ fn push_errors(
     requires { ⌜ Printed (now text) (now words) (now prints) × Held (now words) (now heads) × Held (now words) (now extensions) × HeldExtensions (now words) (now orphans) × Room (ledger (now errors) noErrors) (readingAt (viewOf (now text) (now words) (now owners)) (now rows) (getD (now rows) 1 0) (now extensions) [] (now heads) ++ drawingAt adopt (viewOf (now text) (now words) (now owners)) (now rows) (getD (now rows) 1 0) (now extensions) (now orphans) (now heads)) ⌝ }
     ensures { λ r. ⌜ ErrorsPushed (now (errors .entry)) (now (errors .exit)) r (readingAt (viewOf (now (text .entry)) (now (words .entry)) (now (owners .entry))) (now (rows .entry)) (getD (now (rows .entry)) 1 0) (now (extensions .entry)) [] (now (heads .entry))) (drawingAt adopt (viewOf (now (text .entry)) (now (words .entry)) (now (owners .entry))) (now (rows .entry)) (getD (now (rows .entry)) 1 0) (now (extensions .entry)) (now (orphans .entry)) (now (heads .entry))) ⌝ }
 {
-    let none = pushing::no_errors();
-    let t = reading_errors(
-        text,
-        words,
-        prints,
-        owners,
-        extensions,
-        rows,
-        heads,
-        errors,
-        none,
-    );
+    let t = reading_errors(text, words, prints, owners, extensions, rows, heads, errors);
     let reading = t.total;
     let t = drawing_errors(
         adopt,

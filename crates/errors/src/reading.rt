@@ -1,4 +1,5 @@
 // The errors of reading documents: what each heading gives after those before it.
+use crate::ABSENT;
 use crate::merging;
 use crate::pushing;
 use definition::Tallies;
@@ -10,12 +11,9 @@ ghost use Rattle.definition.specs.Lists.{flatMap};
 ghost use Rattle.definition.specs.Store.{cardsUsed};
 ghost use Rattle.stored.specs.Stored.{cardKind};
 ghost use Rattle.index.specs.Index.{Printed};
-ghost use Rattle.errors.specs.Pushing.{ledger, pushAll, Room};
+ghost use Rattle.errors.specs.Pushing.{ledger, noErrors, pushAll, Room};
 ghost use Rattle.errors.specs.ByCards.{collides, directiveErrorsAt, schemaErrorsAt, schemaExtensionErrorsAt, redefinitionErrorsAt, earlyErrors, typeErrorsAt, typeExtensionErrorsAt, errorsAtCard, readingAt};
 ghost use Rattle.errors.specs.Views.{viewOf, cardView, cardsView, Merging, Held};
-
-// The word that stands for no card.
-const ABSENT: u32 = 4294967295;
 
 // Whether the card is a directive definition that is not built-in and has the name of h.
 fn collides(text: &[u8], words: &[u32], prints: &[u32], h: u32, card: u32) -> bool
@@ -287,13 +285,12 @@ pub fn reading_errors(
     rows: &[u32],
     heads: &[u32],
     errors: &mut [u32],
-    t: Tallies,
 ) -> Tallies
-    requires { ⌜ Printed (now text) (now words) (now prints) × Held (now words) (now heads) × Room (ledger (now errors) t) (readingAt (viewOf (now text) (now words) (now owners)) (now rows) (getD (now rows) 1 0) (now extensions) [] (now heads)) ⌝ }
-    ensures { λ r. ⌜ ledger (now (errors .exit)) r ≡ pushAll (ledger (now (errors .entry)) t) (readingAt (viewOf (now (text .entry)) (now (words .entry)) (now (owners .entry))) (now (rows .entry)) (getD (now (rows .entry)) 1 0) (now (extensions .entry)) [] (now (heads .entry))) ⌝ }
+    requires { ⌜ Printed (now text) (now words) (now prints) × Held (now words) (now heads) × Room (ledger (now errors) noErrors) (readingAt (viewOf (now text) (now words) (now owners)) (now rows) (getD (now rows) 1 0) (now extensions) [] (now heads)) ⌝ }
+    ensures { λ r. ⌜ ledger (now (errors .exit)) r ≡ pushAll (ledger (now (errors .entry)) noErrors) (readingAt (viewOf (now (text .entry)) (now (words .entry)) (now (owners .entry))) (now (rows .entry)) (getD (now (rows .entry)) 1 0) (now (extensions .entry)) [] (now (heads .entry))) ⌝ }
 {
     let schema = stored::word(rows, 1);
-    let mut t = t;
+    let mut t = pushing::no_errors();
     let mut k = 0;
     while k < heads.len() {
         let before = &heads[0..k];

@@ -6,37 +6,28 @@ use Rattle.errors.proofs.push_errors.Statement.{statement}
 use Rattle.errors.proofs.push_errors.Tie as tie
 use borrow.Author.Needs.{needs}
 
-no-errors-requires : tie.Need-no-errors-requires
-no-errors-requires c κs = search needs
-
 reading-errors-requires : tie.Need-reading-errors-requires
 reading-errors-requires c κs =
-    let e = c .before .before .before .before .before .before .before .before .before .before .before .args in
-    let p = c .before .before .before .before .before .before .before .before .before .before .before .pre in
-    rw (c .before .no-errors .ensures) (p .0, p .1, first-room (ledger (e .errors .now) noErrors) (ledger (e .errors .now) noErrors) _ _ _ refl (p .4))
+    let e = c .before .before .before .before .before .before .before .before .before .before .args in
+    let p = c .before .before .before .before .before .before .before .before .before .before .pre in
+    (p .0, p .1, first-room (ledger (e .errors .now) noErrors) (ledger (e .errors .now) noErrors) _ _ _ refl (p .4))
 
 drawing-errors-requires : tie.Need-drawing-errors-requires
 drawing-errors-requires c κs =
-    let e = c .before .before .before .before .before .before .before .before .before .before .before .before .before .before .before .args in
-    let p = c .before .before .before .before .before .before .before .before .before .before .before .before .before .before .before .pre in
-    (p .0, p .2, p .3, second-room (ledger (e .errors .now) noErrors) _ _ _ _ refl (rw (c .before .before .before .before .before .no-errors .ensures) at (c .before .before .before .reading-errors .ensures)) (p .4))
+    let e = c .before .before .before .before .before .before .before .before .before .before .before .before .before .before .args in
+    let p = c .before .before .before .before .before .before .before .before .before .before .before .before .before .before .pre in
+    (p .0, p .2, p .3, second-room (ledger (e .errors .now) noErrors) _ _ _ _ refl (c .before .before .before .reading-errors .ensures) (p .4))
 
-sub-t19 : tie.Need-sub-t19
-sub-t19 c = total-least (c .before .before .before .before .before .before .before .before .before .before .before .before .before .before .before .before .before .before .before .args .errors .now) _ _ _ _ _ _ (rw (c .before .before .before .before .before .before .before .before .before .no-errors .ensures) at (c .before .before .before .before .before .before .before .reading-errors .ensures)) (c .before .before .before .drawing-errors .ensures)
+sub-t18 : tie.Need-sub-t18
+sub-t18 c = total-least (c .before .before .before .before .before .before .before .before .before .before .before .before .before .before .before .before .before .before .args .errors .now) _ _ _ _ _ _ (c .before .before .before .before .before .before .before .reading-errors .ensures) (c .before .before .before .drawing-errors .ensures)
 
 same-length : tie.Need-same-length
 same-length c = search needs
 
 returns : tie.Need-returns
-returns c = pushed-apart (c .before .before .before .before .before .before .before .before .before .before .before .before .before .before .before .before .before .before .before .args .errors .now) _ _ _ _ _ _ (rw (c .before .before .before .before .before .before .before .before .before .no-errors .ensures) at (c .before .before .before .before .before .before .before .reading-errors .ensures)) (c .before .before .before .drawing-errors .ensures)
+returns c = pushed-apart (c .before .before .before .before .before .before .before .before .before .before .before .before .before .before .before .before .before .before .args .errors .now) _ _ _ _ _ _ (c .before .before .before .before .before .before .before .reading-errors .ensures) (c .before .before .before .drawing-errors .ensures)
 
 pub push-errors-spec : {M : Type 1} → statement M
 push-errors-spec =
     tie.close
-    (tie.spec
-    no-errors-requires
-    reading-errors-requires
-    drawing-errors-requires
-    sub-t19
-    same-length
-    returns)
+    (tie.spec reading-errors-requires drawing-errors-requires sub-t18 same-length returns)
