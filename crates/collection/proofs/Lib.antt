@@ -1,0 +1,5 @@
+pub mod Drawings
+pub mod Refused
+pub mod Listed
+pub mod Roots
+pub mod Groups

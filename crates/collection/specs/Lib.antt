@@ -1,0 +1,4 @@
+-- What every lookup refuses first.
+pub mod Refused
+-- What a drawing refuses after 21 and 22.
+pub mod Room
