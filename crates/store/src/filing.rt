@@ -16,7 +16,7 @@ ghost use Rattle.definition.specs.Store.{movedWords, filedText, filedWords, ope
 ghost use Rattle.store.specs.Filing.{Within, movedName, Fits, Opens};
 
 // Copies a text to the front of the part that it is lent.
-fn copy_text(unused: &mut [u8], text: &[u8])
+pub fn copy_text(unused: &mut [u8], text: &[u8])
     requires { ⌜ length (now text) ≤ length (now unused) ⌝ }
     ensures { λ _. ⌜ now (unused .exit) ≡ written (now (unused .entry)) 0 (now (text .entry)) ⌝ }
 {

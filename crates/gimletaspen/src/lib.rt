@@ -1,0 +1,276 @@
+// The public entries for C: a slice is a pointer and a length, an enum's answer its numbers in 01, written through lent words.
+use definition::Answer;
+use definition::Drawing;
+use definition::FieldFound;
+use definition::FieldLookup;
+use definition::OperationType;
+use definition::SubtypeLookup;
+ghost use mathlib.Core.Path.{_≡_};
+ghost use lib.ListN.{length};
+ghost use Rattle.definition.specs.Answers.{metaNumber, explicitCard, fieldRefusal, fieldNumber, fieldMeta, fieldCard, subtypeRefusal, subtypeNumber};
+ghost use Rattle.definition.specs.Outcomes.{open-store, add-ast, adopt-orphan-extensions, ignore-builtin-redefinitions, build, check-rows, type-field, is-subtype, iter-origins, extensions, implementers-map};
+ghost use Rattle.gimletaspen.specs.Exported.{rootNamed, copiedName, FieldNumbers, SubtypeNumbers};
+
+// 01 writes it `-`.
+const ABSENT: u32 = 4294967295;
+
+#[no_mangle]
+pub extern "C" fn gimletaspen_open(
+    text: &mut [u8],
+    words: &mut [u32],
+    lent: &[u8],
+    cards: &[u32],
+) -> Answer
+    ensures { λ r. ⌜ record { answer = r; text = now (text .exit); words = now (words .exit) } ≡ open-store (now (text .entry)) (now (words .entry)) (now (lent .entry)) (now (cards .entry)) ⌝ }
+{
+    collection::open(text, words, lent, cards)
+}
+
+#[no_mangle]
+pub extern "C" fn gimletaspen_add_ast(
+    text: &mut [u8],
+    words: &mut [u32],
+    lent: &[u8],
+    cards: &[u32],
+) -> Answer
+    ensures { λ r. ⌜ record { answer = r; text = now (text .exit); words = now (words .exit) } ≡ add-ast (now (text .entry)) (now (words .entry)) (now (lent .entry)) (now (cards .entry)) ⌝ }
+{
+    collection::add_ast(text, words, lent, cards)
+}
+
+#[no_mangle]
+pub extern "C" fn gimletaspen_adopt_orphan_extensions(text: &[u8], words: &mut [u32]) -> Answer
+    ensures { λ r. ⌜ record { answer = r; text = now (text .exit); words = now (words .exit) } ≡ adopt-orphan-extensions (now (text .entry)) (now (words .entry)) ⌝ }
+{
+    collection::adopt_orphan_extensions(text, words)
+}
+
+#[no_mangle]
+pub extern "C" fn gimletaspen_ignore_builtin_redefinitions(
+    text: &[u8],
+    words: &mut [u32],
+) -> Answer
+    ensures { λ r. ⌜ record { answer = r; text = now (text .exit); words = now (words .exit) } ≡ ignore-builtin-redefinitions (now (text .entry)) (now (words .entry)) ⌝ }
+{
+    collection::ignore_builtin_redefinitions(text, words)
+}
+
+#[no_mangle]
+pub extern "C" fn gimletaspen_build(
+    text: &[u8],
+    words: &[u32],
+    rows: &mut [u32],
+    errors: &mut [u32],
+) -> Drawing
+    ensures { λ r. ⌜ record { drawing = r; rows = now (rows .exit); errors = now (errors .exit) } ≡ build (now (text .entry)) (now (words .entry)) (now (rows .entry)) (now (errors .entry)) ⌝ }
+{
+    collection::build(text, words, rows, errors)
+}
+
+#[no_mangle]
+pub extern "C" fn gimletaspen_check_rows(text: &[u8], words: &[u32], rows: &[u32]) -> Answer
+    ensures { λ r. ⌜ r ≡ check-rows (now (text .entry)) (now (words .entry)) (now (rows .entry)) ⌝ }
+{
+    collection::check_rows(text, words, rows)
+}
+
+// Copies a name to the front of the lent bytes where it fits, and hands back its length.
+fn copy_name(found: &[u8], name: &mut [u8]) -> usize
+    ensures { λ r. ⌜ (r ≡ length (now (found .entry))) × (now (name .exit) ≡ copiedName (now (name .entry)) (now (found .entry))) ⌝ }
+{
+    if name.len() < found.len() {
+        return found.len();
+    }
+    store::filing::copy_text(name, found);
+    found.len()
+}
+
+// The name of a root: 26 query, 27 mutation, 28 subscription; of any other number there is none.
+fn root_of<'a>(text: &'a [u8], words: &[u32], rows: &[u32], kind: u32) -> &'a [u8]
+    ensures { λ r. ⌜ now r ≡ rootNamed (now (text .entry)) (now (words .entry)) (now (rows .entry)) kind ⌝ }
+{
+    if kind == 26 {
+        return collection::root_operation(text, words, rows, OperationType::Query);
+    }
+    if kind == 27 {
+        return collection::root_operation(text, words, rows, OperationType::Mutation);
+    }
+    if kind == 28 {
+        return collection::root_operation(text, words, rows, OperationType::Subscription);
+    }
+    &text[0..0]
+}
+
+// Hands back the length of the root's name, and copies the name to the front of the lent bytes where it fits.
+#[no_mangle]
+pub extern "C" fn gimletaspen_root_operation(
+    text: &[u8],
+    words: &[u32],
+    rows: &[u32],
+    kind: u32,
+    name: &mut [u8],
+) -> usize
+    ensures { λ r. ⌜ (r ≡ length (rootNamed (now (text .entry)) (now (words .entry)) (now (rows .entry)) kind)) × (now (name .exit) ≡ copiedName (now (name .entry)) (rootNamed (now (text .entry)) (now (words .entry)) (now (rows .entry)) kind)) ⌝ }
+{
+    copy_name(root_of(text, words, rows, kind), name)
+}
+
+fn meta_number(found: FieldFound) -> u32
+    ensures { λ r. ⌜ r ≡ metaNumber found ⌝ }
+{
+    match found {
+        FieldFound::Explicit(_) => 0,
+        FieldFound::Typename => 1,
+        FieldFound::Schema => 2,
+        FieldFound::Type => 3,
+    }
+}
+
+fn explicit_card(found: FieldFound) -> u32
+    ensures { λ r. ⌜ r ≡ explicitCard found ⌝ }
+{
+    match found {
+        FieldFound::Explicit(card) => card,
+        FieldFound::Typename => ABSENT,
+        FieldFound::Schema => ABSENT,
+        FieldFound::Type => ABSENT,
+    }
+}
+
+fn field_refusal(answer: FieldLookup) -> u32
+    ensures { λ r. ⌜ r ≡ fieldRefusal answer ⌝ }
+{
+    match answer {
+        FieldLookup::Found(_) => 0,
+        FieldLookup::NoSuchType => 0,
+        FieldLookup::NoSuchField(_) => 0,
+        FieldLookup::Refused(number) => number,
+    }
+}
+
+fn field_number(answer: FieldLookup) -> u32
+    ensures { λ r. ⌜ r ≡ fieldNumber answer ⌝ }
+{
+    match answer {
+        FieldLookup::Found(_) => 1,
+        FieldLookup::NoSuchType => 2,
+        FieldLookup::NoSuchField(_) => 3,
+        FieldLookup::Refused(_) => 0,
+    }
+}
+
+fn field_meta(answer: FieldLookup) -> u32
+    ensures { λ r. ⌜ r ≡ fieldMeta answer ⌝ }
+{
+    match answer {
+        FieldLookup::Found(found) => meta_number(found),
+        FieldLookup::NoSuchType => ABSENT,
+        FieldLookup::NoSuchField(_) => ABSENT,
+        FieldLookup::Refused(_) => ABSENT,
+    }
+}
+
+fn field_card(answer: FieldLookup) -> u32
+    ensures { λ r. ⌜ r ≡ fieldCard answer ⌝ }
+{
+    match answer {
+        FieldLookup::Found(found) => explicit_card(found),
+        FieldLookup::NoSuchType => ABSENT,
+        FieldLookup::NoSuchField(card) => card,
+        FieldLookup::Refused(_) => ABSENT,
+    }
+}
+
+// Hands back the refusal or 0; the three other numbers of the answer are written.
+#[no_mangle]
+pub extern "C" fn gimletaspen_type_field(
+    text: &[u8],
+    words: &[u32],
+    rows: &[u32],
+    type_name: &[u8],
+    field: &[u8],
+    number: &mut u32,
+    meta: &mut u32,
+    card: &mut u32,
+) -> u32
+    ensures { λ r. ⌜ FieldNumbers (type-field (now (text .entry)) (now (words .entry)) (now (rows .entry)) (now («type_name» .entry)) (now (field .entry))) r (now (number .exit)) (now (meta .exit)) (now (card .exit)) ⌝ }
+{
+    let answer = collection::type_field(text, words, rows, type_name, field);
+    *number = field_number(answer);
+    *meta = field_meta(answer);
+    *card = field_card(answer);
+    field_refusal(answer)
+}
+
+fn subtype_refusal(answer: SubtypeLookup) -> u32
+    ensures { λ r. ⌜ r ≡ subtypeRefusal answer ⌝ }
+{
+    match answer {
+        SubtypeLookup::Subtype => 0,
+        SubtypeLookup::NotSubtype => 0,
+        SubtypeLookup::Refused(number) => number,
+    }
+}
+
+fn subtype_number(answer: SubtypeLookup) -> u32
+    ensures { λ r. ⌜ r ≡ subtypeNumber answer ⌝ }
+{
+    match answer {
+        SubtypeLookup::Subtype => 1,
+        SubtypeLookup::NotSubtype => 0,
+        SubtypeLookup::Refused(_) => 0,
+    }
+}
+
+// Hands back the refusal or 0; 1 is written for yes, else 0.
+#[no_mangle]
+pub extern "C" fn gimletaspen_is_subtype(
+    text: &[u8],
+    words: &[u32],
+    rows: &[u32],
+    general: &[u8],
+    other: &[u8],
+    yes: &mut u32,
+) -> u32
+    ensures { λ r. ⌜ SubtypeNumbers (is-subtype (now (text .entry)) (now (words .entry)) (now (rows .entry)) (now (general .entry)) (now (other .entry))) r (now (yes .exit)) ⌝ }
+{
+    let answer = collection::is_subtype(text, words, rows, general, other);
+    *yes = subtype_number(answer);
+    subtype_refusal(answer)
+}
+
+#[no_mangle]
+pub extern "C" fn gimletaspen_iter_origins(
+    text: &[u8],
+    words: &[u32],
+    rows: &[u32],
+    list: &mut [u32],
+) -> Answer
+    ensures { λ r. ⌜ record { answer = r; list = now (list .exit) } ≡ iter-origins (now (text .entry)) (now (words .entry)) (now (rows .entry)) (now (list .entry)) ⌝ }
+{
+    collection::iter_origins(text, words, rows, list)
+}
+
+#[no_mangle]
+pub extern "C" fn gimletaspen_extensions(
+    text: &[u8],
+    words: &[u32],
+    rows: &[u32],
+    list: &mut [u32],
+) -> Answer
+    ensures { λ r. ⌜ record { answer = r; list = now (list .exit) } ≡ extensions (now (text .entry)) (now (words .entry)) (now (rows .entry)) (now (list .entry)) ⌝ }
+{
+    collection::extensions(text, words, rows, list)
+}
+
+#[no_mangle]
+pub extern "C" fn gimletaspen_implementers_map(
+    text: &[u8],
+    words: &[u32],
+    rows: &[u32],
+    list: &mut [u32],
+) -> Answer
+    ensures { λ r. ⌜ record { answer = r; list = now (list .exit) } ≡ implementers-map (now (text .entry)) (now (words .entry)) (now (rows .entry)) (now (list .entry)) ⌝ }
+{
+    collection::implementers_map(text, words, rows, list)
+}
