@@ -46,10 +46,7 @@ pub extern "C" fn gimletaspen_adopt_orphan_extensions(text: &[u8], words: &mut [
 }
 
 #[no_mangle]
-pub extern "C" fn gimletaspen_ignore_builtin_redefinitions(
-    text: &[u8],
-    words: &mut [u32],
-) -> Answer
+pub extern "C" fn gimletaspen_ignore_builtin_redefinitions(text: &[u8], words: &mut [u32]) -> Answer
     ensures { λ r. ⌜ record { answer = r; text = now (text .exit); words = now (words .exit) } ≡ ignore-builtin-redefinitions (now (text .entry)) (now (words .entry)) ⌝ }
 {
     collection::ignore_builtin_redefinitions(text, words)

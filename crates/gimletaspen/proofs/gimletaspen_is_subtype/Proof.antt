@@ -14,7 +14,7 @@ subtype-refusal-requires : tie.Need-subtype-refusal-requires
 subtype-refusal-requires c κs = search needs
 
 returns : tie.Need-returns
-returns c = 
+returns c =
     let e = c .before .before .is-subtype .ensures in (
       c .subtype-refusal .ensures ∙ ap subtypeRefusal e,
       c .before .subtype-number .ensures ∙ ap subtypeNumber e,

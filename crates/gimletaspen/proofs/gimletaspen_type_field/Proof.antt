@@ -20,7 +20,7 @@ field-refusal-requires : tie.Need-field-refusal-requires
 field-refusal-requires c κs = search needs
 
 returns : tie.Need-returns
-returns c = 
+returns c =
     let e = c .before .before .before .before .type-field .ensures in (
       c .field-refusal .ensures ∙ ap fieldRefusal e,
       c .before .before .before .field-number .ensures ∙ ap fieldNumber e,
