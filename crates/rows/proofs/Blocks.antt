@@ -19,8 +19,9 @@ use Rattle.stored.specs.Stored.{cardKind, cardName, cardAt, headOf, headingAt, 
 use Rattle.stored.proofs.Words.{stored-is, stored-inside, number-stored, headings-at}
 use Rattle.index.specs.Index.{sameCards, headingNumber}
 use Rattle.rows.specs.Pushed.{alikeRows, rowsOfKind}
-use Rattle.rows.specs.Drawn.{sameStored, headRows, extensionRowsAt, extensionRows, listRows, listAt, typeRowAt, typeRowsAt}
+use Rattle.rows.specs.Drawn.{sameStored, headRows, extensionKind, isMatching, matching, extensionRowsAt, extensionRows, listRows, listAt, typeRowAt, typeRowsAt}
 use Rattle.rows.proofs.Listed.{listed-sticky, kind-append, kind-flat, keep-yes, keep-no, all-keep}
+use Rattle.rows.proofs.Matching.{extension-adopted, extension-defined}
 
 -- ---- What holds of each element.
 
@@ -102,6 +103,17 @@ module _ {ℓ κ} {A : Type ℓ} {B : Type κ} (P : A → Type 0) (q : A → Boo
       go true e k = rw (keep-yes q x xs e, is x (h .0), e) (ap (λ (l : List B). g x ++ l) k)
       go false e k = rw (keep-no q x xs e, is x (h .0), e) k
 
+-- the same by numbers, where a test of numbers agrees
+module _ {ℓ} {A : Type ℓ} (P : A → Type 0) (p : ℕ → Bool) (q : A → Bool) (number : A → ℕ) (is : (x : A) → P x → p (number x) ≡ q x) where
+  keep-numbered : (xs : List A) → All P xs → keep p (map number xs) ≡ map number (keep q xs)
+  unfolding keep
+  keep-numbered [] h = refl
+  keep-numbered (x ∷ xs) h = go (q x) refl (keep-numbered xs (h .1))
+    where
+      go : (b : Bool) → q x ≡ b → keep p (map number xs) ≡ map number (keep q xs) → keep p (number x ∷ map number xs) ≡ map number (keep q (x ∷ xs))
+      go true e k = keep-yes p (number x) (map number xs) (is x (h .0) ∙ e) ∙ ap (λ (l : List ℕ). number x ∷ l) k ∙ ap (map number) (sym (keep-yes q x xs e))
+      go false e k = keep-no p (number x) (map number xs) (is x (h .0) ∙ e) ∙ k ∙ ap (map number) (sym (keep-no q x xs e))
+
 pub keep-passes {ℓ} : {A : Type ℓ} (P : A → Type 0) (q : A → Bool) (xs : List A) → All P xs → All (λ x. P x × (q x ≡ true)) (keep q xs)
 unfolding keep
 keep-passes P q [] h = tt
@@ -174,17 +186,25 @@ module _ (text words : List ℕ) where
         let q = eqb-true (h .kind) ext (and-left (eqb (h .kind) ext) (isNamed (cardName text words owner) h) e) in
         rw (q, le-leb 12 ext least, le-leb ext 17 most)
 
-    rows-at : (h : Heading) → At h → extensionRowsAt text words ext owner k (h .number) ≡ choose (isOf ext (cardName text words owner) h) (rowsOfKind k (ownComponents h)) []
+    matching-cards : (hs : List Heading) → All At hs → 12 ≤ ext → ext ≤ 17
+        → keep (isMatching text words ext owner) (map headingNumber (keep isTypeExtension hs)) ≡ map headingNumber (extensionsOf ext (cardName text words owner) hs)
+    unfolding isMatching extensionsOf headingNumber
+    matching-cards hs a least most =
+        keep-numbered At (isMatching text words ext owner) (isOf ext (cardName text words owner)) (λ (h : Heading). h .number)
+        (λ h b. ap (isOf ext (cardName text words owner)) (sym (b .2))) (keep isTypeExtension hs) (all-keep isTypeExtension At hs a)
+        ∙ ap (map (λ (h : Heading). h .number)) (keep-keep isTypeExtension (isOf ext (cardName text words owner)) (of-extension least most) hs)
+
+    rows-at : (h : Heading) → At h → extensionRowsAt text words k (h .number) ≡ rowsOfKind k (ownComponents h)
     unfolding extensionRowsAt headRows ownComponents
-    rows-at h a = ap (λ (g : Heading). choose (isOf ext (cardName text words owner) g) (rowsOfKind k (components (h .number) g)) []) (sym (a .2))
+    rows-at h a = ap (λ (g : Heading). rowsOfKind k (components (h .number) g)) (sym (a .2))
 
     pub extension-rows : (hs : List Heading) → All At hs → 12 ≤ ext → ext ≤ 17
-        → extensionRows text words ext owner k (map headingNumber (keep isTypeExtension hs)) ≡ rowsOfKind k (ofExtensions (extensionsOf ext (cardName text words owner) hs))
+        → extensionRows text words k (keep (isMatching text words ext owner) (map headingNumber (keep isTypeExtension hs))) ≡ rowsOfKind k (ofExtensions (extensionsOf ext (cardName text words owner) hs))
     unfolding extensionRows ofExtensions extensionsOf headingNumber
     extension-rows hs a least most =
-        flat-picked At (isOf ext (cardName text words owner)) (λ (h : Heading). h .number) (extensionRowsAt text words ext owner k) (λ h. rowsOfKind k (ownComponents h)) rows-at
-        (keep isTypeExtension hs) (all-keep isTypeExtension At hs a)
-        ∙ ap (flatMap (λ h. rowsOfKind k (ownComponents h))) (keep-keep isTypeExtension (isOf ext (cardName text words owner)) (of-extension least most) hs)
+        ap (flatMap (extensionRowsAt text words k)) (matching-cards hs a least most)
+        ∙ flat-numbered At (λ (h : Heading). h .number) (extensionRowsAt text words k) (λ h. rowsOfKind k (ownComponents h)) rows-at
+        (keep (isOf ext (cardName text words owner)) hs) (all-keep (isOf ext (cardName text words owner)) At hs a)
         ∙ sym (kind-flat k ownComponents (keep (isOf ext (cardName text words owner)) hs))
 
     pub extensions-found : (hs : List Heading) → All At hs → All Found (ofExtensions (extensionsOf ext (cardName text words owner) hs))
@@ -198,23 +218,29 @@ module _ (text words : List ℕ) where
   pub at-name : (h : Heading) → At h → cardName text words (h .number) ≡ h .name
   at-name h a = sym (ap (λ (g : Heading). g .name) (a .2))
 
-  -- ---- A defined type.
-
   module _ (hs : List Heading) (all : All At hs) (d : Heading) (a : At d) where
+    taken-rows : (k ext : ℕ) → extensionKind words (d .number) ≡ ext → 12 ≤ ext → ext ≤ 17
+        → extensionRows text words k (matching text words (map headingNumber (keep isTypeExtension hs)) (d .number)) ≡ rowsOfKind k (ofExtensions (extensionsOf ext (d .name) hs))
+    unfolding matching
+    taken-rows k ext e least most =
+        ap (λ (x : ℕ). extensionRows text words k (keep (isMatching text words x (d .number)) (map headingNumber (keep isTypeExtension hs)))) e
+        ∙ extension-rows ext (d .number) k hs all least most
+        ∙ ap (λ (n : List ℕ). rowsOfKind k (ofExtensions (extensionsOf ext n hs))) (at-name d a)
+
+    -- ---- A defined type.
+
     type-range : isTypeDefinition d ≡ true → (5 ≤ d .kind) × (d .kind ≤ 10)
     unfolding isTypeDefinition isType
     type-range e = (leb-true 5 (d .kind) (and-left (leb 5 (d .kind)) (leb (d .kind) 10) e), leb-true (d .kind) 10 (and-right (leb 5 (d .kind)) (leb (d .kind) 10) e))
 
-    defined-list : isTypeDefinition d ≡ true → (k : ℕ) → listRows text words (map headingNumber (keep isTypeExtension hs)) (d .number) k ≡ rowsOfKind k (typeComponents hs d)
+    defined-list : isTypeDefinition d ≡ true → (k : ℕ) → listRows text words (matching text words (map headingNumber (keep isTypeExtension hs)) (d .number)) (d .number) k ≡ rowsOfKind k (typeComponents hs d)
     unfolding listRows headRows typeComponents
     defined-list e k =
         let r = type-range e in
         let q = at-kind d a in
         let n : leb 12 (cardKind words (d .number)) ≡ false = lt-leb 12 (cardKind words (d .number)) (omega arith) in
         let own : rowsOfKind k (components absent (headingAt text words (d .number))) ≡ rowsOfKind k (components absent d) = ap (λ (g : Heading). rowsOfKind k (components absent g)) (sym (a .2)) in
-        let more : extensionRows text words (cardKind words (d .number) + 7) (d .number) k (map headingNumber (keep isTypeExtension hs)) ≡ rowsOfKind k (ofExtensions (extensionsOf (d .kind + 7) (d .name) hs)) =
-        extension-rows (cardKind words (d .number) + 7) (d .number) k hs all (omega arith) (omega arith)
-        ∙ (λ i. rowsOfKind k (ofExtensions (extensionsOf (q i + 7) (at-name d a i) hs))) in
+        let more = taken-rows k (d .kind + 7) (extension-defined words (d .number) (omega arith) ∙ ap (λ (m : ℕ). m + 7) q) (omega arith) (omega arith) in
         rw (n, own, more) (sym (kind-append k (components absent d) (ofExtensions (extensionsOf (d .kind + 7) (d .name) hs))))
 
     defined-found : All Found (typeComponents hs d)
@@ -229,7 +255,7 @@ module _ (text words : List ℕ) where
         let r = type-range e in
         let q = at-kind d a in
         let n : leb 12 (cardKind words (d .number)) ≡ false = lt-leb 12 (cardKind words (d .number)) (omega arith) in
-        let lists : flatMap (λ k. firsts (alikeRows (sameStored text words)) [] (listRows text words (map headingNumber (keep isTypeExtension hs)) (d .number) k)) underType ≡ flatMap (listed (kept (typeComponents hs d))) underType =
+        let lists : flatMap (λ k. firsts (alikeRows (sameStored text words)) [] (listRows text words (matching text words (map headingNumber (keep isTypeExtension hs)) (d .number)) (d .number) k)) underType ≡ flatMap (listed (kept (typeComponents hs d))) underType =
         flat-same _ _ (λ k. ap (firsts (alikeRows (sameStored text words)) []) (defined-list e k) ∙ sym (listed-sticky (sameStored text words) Found agree (typeComponents hs d) k defined-found)) underType in
         rw (n) (λ i. row (q i) (d .number) absent ∷ lists i)
 
@@ -239,14 +265,13 @@ module _ (text words : List ℕ) where
     unfolding isTypeExtension
     adopted-range e = (leb-true 12 (d .kind) (and-left (leb 12 (d .kind)) (leb (d .kind) 17) e), leb-true (d .kind) 17 (and-right (leb 12 (d .kind)) (leb (d .kind) 17) e))
 
-    adopted-list : isTypeExtension d ≡ true → (k : ℕ) → listRows text words (map headingNumber (keep isTypeExtension hs)) (d .number) k ≡ rowsOfKind k (ofExtensions (extensionsOf (d .kind) (d .name) hs))
+    adopted-list : isTypeExtension d ≡ true → (k : ℕ) → listRows text words (matching text words (map headingNumber (keep isTypeExtension hs)) (d .number)) (d .number) k ≡ rowsOfKind k (ofExtensions (extensionsOf (d .kind) (d .name) hs))
     unfolding listRows
     adopted-list e k =
         let r = adopted-range e in
         let q = at-kind d a in
         let n : leb 12 (cardKind words (d .number)) ≡ true = le-leb 12 (cardKind words (d .number)) (omega arith) in
-        rw n (extension-rows (cardKind words (d .number)) (d .number) k hs all (omega arith) (omega arith)
-        ∙ (λ i. rowsOfKind k (ofExtensions (extensionsOf (q i) (at-name d a i) hs))))
+        rw n (taken-rows k (d .kind) (extension-adopted words (d .number) (omega arith) ∙ q) (omega arith) (omega arith))
 
     adopted-found : All Found (ofExtensions (extensionsOf (d .kind) (d .name) hs))
     adopted-found = rw (← at-name d a) (extensions-found (d .kind) (d .number) 0 hs all)
@@ -257,7 +282,7 @@ module _ (text words : List ℕ) where
         let r = adopted-range e in
         let q = at-kind d a in
         let n : leb 12 (cardKind words (d .number)) ≡ true = le-leb 12 (cardKind words (d .number)) (omega arith) in
-        let lists : flatMap (λ k. firsts (alikeRows (sameStored text words)) [] (listRows text words (map headingNumber (keep isTypeExtension hs)) (d .number) k)) underType ≡ flatMap (listed (kept (ofExtensions (extensionsOf (d .kind) (d .name) hs)))) underType =
+        let lists : flatMap (λ k. firsts (alikeRows (sameStored text words)) [] (listRows text words (matching text words (map headingNumber (keep isTypeExtension hs)) (d .number)) (d .number) k)) underType ≡ flatMap (listed (kept (ofExtensions (extensionsOf (d .kind) (d .name) hs)))) underType =
         flat-same _ _ (λ k. ap (firsts (alikeRows (sameStored text words)) []) (adopted-list e k) ∙ sym (listed-sticky (sameStored text words) Found agree (ofExtensions (extensionsOf (d .kind) (d .name) hs)) k adopted-found)) underType in
         rw (n) (λ i. row (q i - 7) (d .number) (d .number) ∷ lists i)
 

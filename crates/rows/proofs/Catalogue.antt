@@ -18,6 +18,7 @@ use Rattle.index.specs.Index.{Printed, Indexed, headingNumber}
 use Rattle.rows.specs.Pushed.{Filled, filled, pushed}
 use Rattle.rows.specs.Drawn.{Stored, typeRowsAt, directiveRowsAt, schemaRowsAt}
 use Rattle.rows.specs.Arrays.{Arrays}
+use Rattle.rows.proofs.Pushing.{Rest, rest-begin}
 use Rattle.rows.proofs.Blocks.{At, types-rows, orphans-rows}
 use Rattle.rows.proofs.Directives.{directives-rows}
 use Rattle.rows.proofs.SchemaLists.{schema-rows}
@@ -58,6 +59,10 @@ module _ (text words heads prints owners typeCards orphanCards extensionCards : 
 
 -- ---- All rows.
 
+first-room : (ws : List ℕ) (rs : List Row) → 3 * length rs ≤ length ws → 3 * pushed rs (filled ws 0) .used ≤ length ws
+unfolding pushed
+first-room ws rs h = omega arith
+
 module _ (text words headings prints typeCards orphanCards extensionCards : List ℕ) (m t o e : ℕ)
     (x : Arrays text words headings prints typeCards orphanCards extensionCards m t o e) (adopt : Bool) where
   types-drawn : flatMap (typeRowsAt text words (take e extensionCards)) (take t typeCards) ≡ flatMap (typeRows (storedHeadings text words)) (types (storedHeadings text words))
@@ -68,7 +73,7 @@ module _ (text words headings prints typeCards orphanCards extensionCards : List
   orphans-drawn =
       (λ i. flatMap (typeRowsAt text words (x .extensions-are i)) (x .orphans-are i)) ∙ orphans-rows text words (storedHeadings text words) (headings-at text words)
 
-  pub drawn-cut : rows adopt (storedHeadings text words) ≡
+  drawn-cut : rows adopt (storedHeadings text words) ≡
       schemaRowsAt text words adopt (take m headings)
       ++ (directiveRowsAt text words (take m headings)
       ++ (flatMap (typeRowsAt text words (take e extensionCards)) (take t typeCards)
@@ -81,14 +86,19 @@ module _ (text words headings prints typeCards orphanCards extensionCards : List
       ++ (types-drawn i
       ++ choose adopt (orphans-drawn i) [])))
 
+  -- all of them are left at the beginning of the slice
+  pub drawn-rest : (ws : List ℕ) → 3 * length (rows adopt (storedHeadings text words)) ≤ length ws → Rest
+      (schemaRowsAt text words adopt (take m headings)
+      ++ (directiveRowsAt text words (take m headings)
+      ++ (flatMap (typeRowsAt text words (take e extensionCards)) (take t typeCards)
+      ++ choose adopt (flatMap (typeRowsAt text words (take e extensionCards)) (take o orphanCards)) [])))
+      (filled ws 0) (pushed (rows adopt (storedHeadings text words)) (filled ws 0))
+  drawn-rest ws h = rest-begin _ (filled ws 0) _ (ap (λ (l : List Row). pushed l (filled ws 0)) (sym drawn-cut)) (first-room ws (rows adopt (storedHeadings text words)) h)
+
 -- From the beginning of the slice.
 pub pushed-first : (ws : List ℕ) (rs : List Row) (out : List ℕ) (r : ℕ) → filled out r ≡ pushed rs (filled ws 0) → (out ≡ written ws 0 (flatMap wordsOfRow rs)) × (r ≡ length rs)
 unfolding pushed
 pushed-first ws rs out r e = (ap (λ (s : Filled). s .rows) e, ap (λ (s : Filled). s .used) e ∙ zero-add (length rs))
-
-pub first-room : (ws : List ℕ) (rs : List Row) → 3 * length rs ≤ length ws → 3 * pushed rs (filled ws 0) .used ≤ length ws
-unfolding pushed
-first-room ws rs h = omega arith
 
 pub choose-left : (b : Bool) (rs : List Row) → b ≡ true → choose b rs [] ≡ rs ++ []
 choose-left b rs e = rw e (sym (append-nil rs))

@@ -4,6 +4,7 @@ pub mod Listed
 pub mod Blocks
 pub mod Directives
 pub mod Turns
+pub mod Matching
 pub mod SchemaLists
 pub mod SchemaTurns
 pub mod Catalogue

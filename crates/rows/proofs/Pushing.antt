@@ -263,6 +263,10 @@ module _ (left : List Row) (s goal : Filled) where
     pub rest-end : left ≡ [] → s ≡ goal
     rest-end e = push-end left s goal e (rest .whole)
 
+    -- all that is left at once
+    pub rest-fits : 3 * pushed left s .used ≤ length (s .rows)
+    rest-fits = let u = ap (λ (t : Filled). t .used) (rest .whole) in let r = rest .room in omega arith
+
     module _ (rs qs : List Row) (cut : left ≡ rs ++ qs) where
       pub rest-room : 3 * pushed rs s .used ≤ length (s .rows)
       rest-room = push-room rs qs left s goal cut (rest .whole) (length (s .rows)) (rest .room)

@@ -11,7 +11,8 @@ use lib.ListN.{length, drop}
 use Rattle.definition.specs.Lists.{choose, found, keep, any, isEmpty, firstWhere, before, flatMap, firsts, All}
 use Rattle.definition.specs.Answers.{absent}
 use Rattle.definition.specs.Cards.{Card, isPart, isRoot, isType}
-use Rattle.definition.specs.Headings.{Part, Heading, partFrom, isKind, isNamed, isTypeDefinition, definesType, extendsType, definition, schemaDefinition, schemaExtensions, numberOf}
+use Rattle.definition.specs.Names.{sameName}
+use Rattle.definition.specs.Headings.{Part, Heading, partFrom, isKind, isNamed, isTypeDefinition, isTypeExtension, definesType, extendsType, definition, schemaDefinition, schemaExtensions, numberOf}
 use Rattle.definition.specs.Catalogue.{Component, component, components, ownComponents, ofExtensions, kept, Row, row, componentRow, isComponentOf, listed, underSchema, defaultName, kindNamed, defaultRoot, defaultRoots, isRootComponent, unadoptedSchema, adoptedSchema, schemaComponents, schemaRows}
 use Rattle.definition.specs.Store.{cardsUsed, storedCards}
 use Rattle.definition.specs.LentRows.{cardsNamed}
@@ -20,7 +21,7 @@ use Rattle.stored.proofs.Documents.{named-drop}
 use Rattle.stored.proofs.Lists.{all-to}
 use Rattle.index.specs.Index.{headingNumber}
 use Rattle.rows.specs.Pushed.{alikeRows, rowsOfKind}
-use Rattle.rows.specs.Drawn.{sameStored, headRows, isSchemaCard, schemaCard, schemaExtensionAt, definesCard, definedKind, extendsCard, adoptedKind, kindNamedAt, hasDefault, anyDefault, defaultRows, isRootCard, setsRoot, isImplicit, schemaListRows, schemaListAt, schemaRowsAt}
+use Rattle.rows.specs.Drawn.{sameStored, headRows, isSchemaCard, schemaCard, schemaExtensionAt, isRanged, firstKind, kindNamedAt, hasDefault, anyDefault, defaultRows, isRootCard, setsRoot, isImplicit, schemaListRows, schemaListAt, schemaRowsAt}
 use Rattle.rows.proofs.Listed.{listed-sticky, kind-append, kind-flat, keep-yes, keep-no, all-keep}
 use Rattle.rows.proofs.Blocks.{Found, agree, At, at-kind, at-name, all-append, all-flat, flat-picked, components-found}
 
@@ -159,17 +160,26 @@ module _ (text words : List ℕ) where
 
     -- ---- Default roots.
 
-    defined-kind : (name : List ℕ) → definedKind text words (map headingNumber hs) name ≡ found (definition name hs) (λ d. d .kind) 0
-    unfolding definedKind definition headingNumber definesCard
-    defined-kind name =
-        first-numbered (At text words) (λ (h : Heading). h .number) (definesCard text words name) (definesType name) (cardKind words) (λ (h : Heading). h .kind) 0
-        (λ h a. ap (definesType name) (sym (a .2))) (at-kind text words) hs all
+    ranged-at : (low high : ℕ) (name : List ℕ) (h : Heading) → At text words h → isRanged text words low high name (h .number) ≡ ((leb low (h .kind) && leb (h .kind) high) && isNamed name h)
+    unfolding isRanged isNamed
+    ranged-at low high name h a = λ i. (leb low (at-kind text words h a i) && leb (at-kind text words h a i) high) && sameName name (at-name text words h a i)
 
-    adopted-kind : (name : List ℕ) → adoptedKind text words (map headingNumber hs) name ≡ found (firstWhere (extendsType name) hs) (λ e. e .kind - 7) 0
-    unfolding adoptedKind headingNumber extendsCard
+    defined-kind : (name : List ℕ) → firstKind text words (map headingNumber hs) 5 10 name ≡ found (definition name hs) (λ d. d .kind) 0
+    unfolding firstKind definition headingNumber definesType isTypeDefinition isType
+    defined-kind name =
+        first-numbered (At text words) (λ (h : Heading). h .number) (isRanged text words 5 10 name) (definesType name) (cardKind words) (λ (h : Heading). h .kind) 0
+        (ranged-at 5 10 name) (at-kind text words) hs all
+
+    found-less : (o : Option Heading) → found o (λ (e : Heading). e .kind) 0 - 7 ≡ found o (λ (e : Heading). e .kind - 7) 0
+    found-less none = refl
+    found-less (some e) = refl
+
+    adopted-kind : (name : List ℕ) → firstKind text words (map headingNumber hs) 12 17 name - 7 ≡ found (firstWhere (extendsType name) hs) (λ e. e .kind - 7) 0
+    unfolding firstKind headingNumber extendsType isTypeExtension
     adopted-kind name =
-        first-numbered (At text words) (λ (h : Heading). h .number) (extendsCard text words name) (extendsType name) (λ (n : ℕ). cardKind words n - 7) (λ (h : Heading). h .kind - 7) 0
-        (λ h a. ap (extendsType name) (sym (a .2))) (λ h a. ap (λ (k : ℕ). k - 7) (at-kind text words h a)) hs all
+        ap (λ (k : ℕ). k - 7) (first-numbered (At text words) (λ (h : Heading). h .number) (isRanged text words 12 17 name) (extendsType name) (cardKind words) (λ (h : Heading). h .kind) 0
+        (ranged-at 12 17 name) (at-kind text words) hs all)
+        ∙ found-less (firstWhere (extendsType name) hs)
 
     defined-some : (name : List ℕ) (d : Heading) → definition name hs ≡ some d → eqb (d .kind) 0 ≡ false
     unfolding definition definesType isTypeDefinition isType
@@ -184,13 +194,13 @@ module _ (text words : List ℕ) where
     kind-named adopt name = go (definition name hs) refl
       where
         go : (o : Option Heading) → definition name hs ≡ o
-            → choose (eqb (definedKind text words (map headingNumber hs) name) 0) (choose adopt (adoptedKind text words (map headingNumber hs) name) 0) (definedKind text words (map headingNumber hs) name)
+            → choose (eqb (firstKind text words (map headingNumber hs) 5 10 name) 0) (choose adopt (firstKind text words (map headingNumber hs) 12 17 name - 7) 0) (firstKind text words (map headingNumber hs) 5 10 name)
             ≡ found (definition name hs) (λ d. d .kind) (choose adopt (found (firstWhere (extendsType name) hs) (λ e. e .kind - 7) 0) 0)
         go none e =
-            let k : definedKind text words (map headingNumber hs) name ≡ 0 = defined-kind name ∙ ap (λ (o : Option Heading). found o (λ (d : Heading). d .kind) 0) e in
+            let k : firstKind text words (map headingNumber hs) 5 10 name ≡ 0 = defined-kind name ∙ ap (λ (o : Option Heading). found o (λ (d : Heading). d .kind) 0) e in
             rw (k, e, adopted-kind name)
         go (some d) e =
-            let k : definedKind text words (map headingNumber hs) name ≡ d .kind = defined-kind name ∙ ap (λ (o : Option Heading). found o (λ (d : Heading). d .kind) 0) e in
+            let k : firstKind text words (map headingNumber hs) 5 10 name ≡ d .kind = defined-kind name ∙ ap (λ (o : Option Heading). found o (λ (d : Heading). d .kind) 0) e in
             rw (k, e, defined-some name d e)
 
     has-default : (adopt : Bool) (k : ℕ) → hasDefault text words adopt (map headingNumber hs) k ≡ eqb (kindNamed adopt hs (defaultName k)) 6

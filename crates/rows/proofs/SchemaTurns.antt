@@ -11,8 +11,7 @@ use lib.ListN.{length, take, drop, getD, drop-of-length-le}
 use Rattle.definition.specs.Lists.{choose, found, any, firstWhere, before, flatMap}
 use Rattle.definition.specs.Names.{sameName}
 use Rattle.definition.specs.Answers.{absent}
-use Rattle.definition.specs.Cards.{Card, cardFrom, isPart, isRoot, isType}
-use Rattle.definition.specs.Headings.{isTypeDefinition, isTypeExtension, isNamed, definesType, extendsType}
+use Rattle.definition.specs.Cards.{Card, cardFrom, isPart, isRoot}
 use Rattle.definition.specs.Catalogue.{Row, row, defaultName, underSchema}
 use Rattle.definition.specs.Store.{cardsUsed, storedCards}
 use Rattle.stored.specs.Stored.{cardKind, cardName, headingAt, isHeadCard}
@@ -20,7 +19,7 @@ use Rattle.stored.proofs.Lists.{drop-get}
 use Rattle.stored.proofs.Laid.{length-stored-cards}
 use Rattle.stored.proofs.Words.{stored-card, card-kind}
 use Rattle.rows.specs.Pushed.{Filled, pushed, extended}
-use Rattle.rows.specs.Drawn.{sameStored, headRows, isSchemaCard, schemaCard, schemaExtensionAt, definesCard, definedKind, extendsCard, adoptedKind, kindNamedAt, hasDefault, anyDefault, defaultRows, isRootCard, setsRoot, isImplicit, schemaListRows, schemaListAt, schemaRowsAt}
+use Rattle.rows.specs.Drawn.{sameStored, headRows, isSchemaCard, schemaCard, schemaExtensionAt, isRanged, firstKind, kindNamedAt, hasDefault, anyDefault, defaultRows, isRootCard, setsRoot, isImplicit, schemaListRows, schemaListAt, schemaRowsAt}
 use Rattle.rows.proofs.Sticky.{extended-fresh}
 use Rattle.rows.proofs.Turns.{taken-next, taken-end, extended-nothing}
 
@@ -73,43 +72,31 @@ module _ (text words : List ℕ) (k n : ℕ) where
 
 -- ---- Types by name.
 
-module _ (text words name : List ℕ) (n : ℕ) where
-  pub defines-low : cardKind words n < 5 → definesCard text words name n ≡ false
-  unfolding definesCard definesType isTypeDefinition isType
-  defines-low h = rw (lt-leb 5 (cardKind words n) h)
+module _ (text words name : List ℕ) (low high n : ℕ) where
+  pub ranged-low : cardKind words n < low → isRanged text words low high name n ≡ false
+  unfolding isRanged
+  ranged-low h = rw (lt-leb low (cardKind words n) h)
 
-  pub defines-high : 5 ≤ cardKind words n → 10 < cardKind words n → definesCard text words name n ≡ false
-  unfolding definesCard definesType isTypeDefinition isType
-  defines-high h l = rw (le-leb 5 (cardKind words n) h, lt-leb (cardKind words n) 10 l)
+  pub ranged-high : low ≤ cardKind words n → high < cardKind words n → isRanged text words low high name n ≡ false
+  unfolding isRanged
+  ranged-high h l = rw (le-leb low (cardKind words n) h, lt-leb (cardKind words n) high l)
 
-  pub defines-named : 5 ≤ cardKind words n → cardKind words n ≤ 10 → definesCard text words name n ≡ sameName name (cardName text words n)
-  unfolding definesCard definesType isTypeDefinition isType isNamed
-  defines-named h l = rw (le-leb 5 (cardKind words n) h, le-leb (cardKind words n) 10 l)
-
-  pub extends-low : cardKind words n < 12 → extendsCard text words name n ≡ false
-  unfolding extendsCard extendsType isTypeExtension
-  extends-low h = rw (lt-leb 12 (cardKind words n) h)
-
-  pub extends-high : 12 ≤ cardKind words n → 17 < cardKind words n → extendsCard text words name n ≡ false
-  unfolding extendsCard extendsType isTypeExtension
-  extends-high h l = rw (le-leb 12 (cardKind words n) h, lt-leb (cardKind words n) 17 l)
-
-  pub extends-named : 12 ≤ cardKind words n → cardKind words n ≤ 17 → extendsCard text words name n ≡ sameName name (cardName text words n)
-  unfolding extendsCard extendsType isTypeExtension isNamed
-  extends-named h l = rw (le-leb 12 (cardKind words n) h, le-leb (cardKind words n) 17 l)
+  pub ranged-named : low ≤ cardKind words n → cardKind words n ≤ high → isRanged text words low high name n ≡ sameName name (cardName text words n)
+  unfolding isRanged
+  ranged-named h l = rw (le-leb low (cardKind words n) h, le-leb (cardKind words n) high l)
 
 module _ (text words ns name : List ℕ) where
-  pub kind-defined : (adopt : Bool) → (definedKind text words ns name ≡ 0 → ⊥) → kindNamedAt text words adopt ns name ≡ definedKind text words ns name
+  pub kind-defined : (adopt : Bool) → (firstKind text words ns 5 10 name ≡ 0 → ⊥) → kindNamedAt text words adopt ns name ≡ firstKind text words ns 5 10 name
   unfolding kindNamedAt
-  kind-defined adopt e = rw (ne-eqb (definedKind text words ns name) 0 e)
+  kind-defined adopt e = rw (ne-eqb (firstKind text words ns 5 10 name) 0 e)
 
-  pub kind-none : definedKind text words ns name ≡ 0 → kindNamedAt text words false ns name ≡ 0
+  pub kind-none : firstKind text words ns 5 10 name ≡ 0 → kindNamedAt text words false ns name ≡ 0
   unfolding kindNamedAt
-  kind-none e = rw (eq-eqb (definedKind text words ns name) 0 e)
+  kind-none e = rw (eq-eqb (firstKind text words ns 5 10 name) 0 e)
 
-  pub kind-adopted : definedKind text words ns name ≡ 0 → kindNamedAt text words true ns name ≡ adoptedKind text words ns name
+  pub kind-adopted : firstKind text words ns 5 10 name ≡ 0 → kindNamedAt text words true ns name ≡ firstKind text words ns 12 17 name - 7
   unfolding kindNamedAt
-  kind-adopted e = rw (eq-eqb (definedKind text words ns name) 0 e)
+  kind-adopted e = rw (eq-eqb (firstKind text words ns 5 10 name) 0 e)
 
 -- ---- Default roots.
 

@@ -39,7 +39,7 @@ module _ (text words : List ℕ) (a b : ℕ) where
 
 -- ---- The search for a row that a part is like.
 
-and-false : (b : Bool) → (b && false) ≡ false
+pub and-false : (b : Bool) → (b && false) ≡ false
 and-false true = refl
 and-false false = refl
 
@@ -161,21 +161,6 @@ module _ {ℓ} {B : Type ℓ} (f : ℕ → List B) (ns : List ℕ) (count i : �
   unfolding flatMap
   flat-end h = ap (flatMap f) (taken-end ns count i h)
 
--- ---- An extension of an owner.
-
-module _ (text words : List ℕ) (ext owner k n : ℕ) where
-  pub extension-other : (cardKind words n ≡ ext → ⊥) → extensionRowsAt text words ext owner k n ≡ []
-  unfolding extensionRowsAt isOf isKind
-  extension-other e = rw (ne-eqb (cardKind words n) ext e)
-
-  pub extension-unlike : cardKind words n ≡ ext → sameCards text words owner n ≡ false → extensionRowsAt text words ext owner k n ≡ []
-  unfolding extensionRowsAt isOf isKind isNamed sameCards
-  extension-unlike e s = rw (eq-eqb (cardKind words n) ext e, s)
-
-  pub extension-is : cardKind words n ≡ ext → sameCards text words owner n ≡ true → extensionRowsAt text words ext owner k n ≡ headRows text words n k n
-  unfolding extensionRowsAt isOf isKind isNamed sameCards
-  extension-is e s = rw (eq-eqb (cardKind words n) ext e, s)
-
 -- nothing is added
 pub extended-nothing : (same : ℕ → ℕ → Bool) (start : ℕ) (rs : List Row) (s : Filled) → rs ≡ [] → s ≡ extended same start rs s
 extended-nothing same start rs s e = sym (ap (λ (l : List Row). extended same start l s) e ∙ extended-none same start s)
@@ -183,33 +168,31 @@ extended-nothing same start rs s e = sym (ap (λ (l : List Row). extended same s
 -- ---- A list of a type.
 
 module _ (text words ns : List ℕ) (card k : ℕ) where
-  pub list-adopted : (what : ℕ) → what ≡ cardKind words card → 12 ≤ what → listRows text words ns card k ≡ extensionRows text words what card k ns
+  pub list-adopted : 12 ≤ cardKind words card → listRows text words ns card k ≡ extensionRows text words k ns
   unfolding listRows
-  list-adopted what e h = let t : leb 12 (cardKind words card) ≡ true = le-leb 12 (cardKind words card) (omega arith) in rw t (ap (λ (m : ℕ). extensionRows text words m card k ns) (sym e))
+  list-adopted h = rw (le-leb 12 (cardKind words card) h)
 
-  pub list-defined : (what : ℕ) → what ≡ cardKind words card → what < 12 → listRows text words ns card k ≡ headRows text words absent k card ++ extensionRows text words (what + 7) card k ns
+  pub list-defined : cardKind words card < 12 → listRows text words ns card k ≡ headRows text words absent k card ++ extensionRows text words k ns
   unfolding listRows
-  list-defined what e h =
-      let t : leb 12 (cardKind words card) ≡ false = lt-leb 12 (cardKind words card) (omega arith) in
-      rw t (ap (λ (m : ℕ). headRows text words absent k card ++ extensionRows text words (m + 7) card k ns) (sym e))
+  list-defined h = rw (lt-leb 12 (cardKind words card) h)
 
   pub list-fresh : (s : Filled) → extended (sameStored text words) (s .used) (listRows text words ns card k) s ≡ pushed (listAt text words ns card k) s
   unfolding listAt
   list-fresh s = extended-fresh (sameStored text words) (s .used) (listRows text words ns card k) s refl
 
-  pub list-orphan : (what : ℕ) (s : Filled) → what ≡ cardKind words card → 12 ≤ what
-      → extended (sameStored text words) (s .used) (extensionRows text words what card k ns) s ≡ pushed (listAt text words ns card k) s
-  list-orphan what s e h = ap (λ (l : List Row). extended (sameStored text words) (s .used) l s) (sym (list-adopted what e h)) ∙ list-fresh s
+  pub list-orphan : (s : Filled) → 12 ≤ cardKind words card
+      → extended (sameStored text words) (s .used) (extensionRows text words k ns) s ≡ pushed (listAt text words ns card k) s
+  list-orphan s h = ap (λ (l : List Row). extended (sameStored text words) (s .used) l s) (sym (list-adopted h)) ∙ list-fresh s
 
-module _ (text words : List ℕ) (ext owner k : ℕ) (ns : List ℕ) (count i : ℕ) where
-  pub extensions-next : i < count → count ≤ length ns
-      → extensionRows text words ext owner k (drop i (take count ns)) ≡ extensionRowsAt text words ext owner k (getD ns i 0) ++ extensionRows text words ext owner k (drop (i + 1) (take count ns))
-  unfolding extensionRows
-  extensions-next h l = flat-next (extensionRowsAt text words ext owner k) ns count i h l
+module _ (text words : List ℕ) (k : ℕ) (ns : List ℕ) (i : ℕ) where
+  pub extensions-next : i < length ns
+      → extensionRows text words k (drop i ns) ≡ headRows text words (getD ns i 0) k (getD ns i 0) ++ extensionRows text words k (drop (i + 1) ns)
+  unfolding extensionRows extensionRowsAt flatMap
+  extensions-next h = let e : suc i ≡ i + 1 = omega arith in ap (extensionRows text words k) (drop-cons ns i 0 h ∙ ap (λ (j : ℕ). getD ns i 0 ∷ drop j ns) e)
 
-  pub extensions-end : count ≤ i → extensionRows text words ext owner k (drop i (take count ns)) ≡ []
-  unfolding extensionRows
-  extensions-end h = flat-end (extensionRowsAt text words ext owner k) ns count i h
+  pub extensions-end : length ns ≤ i → extensionRows text words k (drop i ns) ≡ []
+  unfolding extensionRows flatMap
+  extensions-end h = ap (extensionRows text words k) (drop-of-length-le ns h)
 
 -- ---- A type.
 
@@ -225,10 +208,6 @@ module _ (words : List ℕ) (card what : ℕ) (is : what ≡ cardKind words card
   row-defined h =
       let t : leb 12 (cardKind words card) ≡ false = lt-leb 12 (cardKind words card) (omega arith) in
       rw t (λ i. pushed (row (is i) card absent ∷ []) s)
-
-pub type-cut : (text words ns : List ℕ) (card : ℕ) → typeRowsAt text words ns card ≡ (typeRowAt words card ∷ []) ++ flatMap (listAt text words ns card) underType
-unfolding typeRowsAt
-type-cut text words ns card = refl
 
 pub one-room : (r : Row) (s : Filled) (n : ℕ) → 3 * pushed (r ∷ []) s .used ≤ n → 3 * (s .used + 1) ≤ n
 unfolding pushed

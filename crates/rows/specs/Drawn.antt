@@ -1,14 +1,15 @@
 -- The catalogue's rows by the numbers of cards, as code finds them. proofs/Catalogue.antt shows that they are those of the definition.
 use mathlib.Core.Path.{_≡_}
 use mathlib.Core.List.{List, [], _∷_, _++_, map}
-use mathlib.Core.Bool.{Bool, true, false, not}
+use mathlib.Core.Bool.{Bool, true, false, _&&_, not}
 use Prim.Native.Nat.{ℕ, _+_, _-_, _<_, _≤_}
 use lib.Dec.{eqb, leb, ltb}
-use lib.ListN.{length, drop, getD}
+use lib.ListN.{length, take, drop, getD}
 use Rattle.definition.specs.Lists.{choose, found, keep, any, firstWhere, before, flatMap, firsts}
 use Rattle.definition.specs.Answers.{absent}
 use Rattle.definition.specs.Cards.{Card, isRoot}
-use Rattle.definition.specs.Headings.{isOf, definesType, extendsType}
+use Rattle.definition.specs.Names.{sameName}
+use Rattle.definition.specs.Headings.{isOf}
 use Rattle.definition.specs.Catalogue.{Row, row, components, underType, underSchema, defaultName}
 use Rattle.definition.specs.Store.{cardsUsed, storedCards}
 use Rattle.stored.specs.Stored.{cardKind, cardName, builtInAt, headingAt, isHeadCard}
@@ -32,21 +33,35 @@ sameStored text words a b =
 unfoldable pub headRows : List ℕ → List ℕ → ℕ → ℕ → ℕ → List Row
 headRows text words origin k n = rowsOfKind k (components origin (headingAt text words n))
 
--- The same of an extension, if it is of the kind and has the name of the owner.
-unfoldable pub extensionRowsAt : List ℕ → List ℕ → ℕ → ℕ → ℕ → ℕ → List Row
-extensionRowsAt text words ext owner k n =
-    let rs = headRows text words n k n in
-    choose (isOf ext (cardName text words owner) (headingAt text words n)) rs []
+-- The kind of the extensions that a type takes in: an adopted type is one of them.
+unfoldable pub extensionKind : List ℕ → ℕ → ℕ
+extensionKind words card = choose (leb 12 (cardKind words card)) (cardKind words card) (cardKind words card + 7)
 
-unfoldable pub extensionRows : List ℕ → List ℕ → ℕ → ℕ → ℕ → List ℕ → List Row
-extensionRows text words ext owner k ns = flatMap (extensionRowsAt text words ext owner k) ns
+-- Whether an extension is of a kind and has the name of the owner; and those of the cards ns that a type takes in.
+unfoldable pub isMatching : List ℕ → List ℕ → ℕ → ℕ → ℕ → Bool
+isMatching text words ext owner n = isOf ext (cardName text words owner) (headingAt text words n)
+
+unfoldable pub matching : List ℕ → List ℕ → List ℕ → ℕ → List ℕ
+matching text words ns card = keep (isMatching text words (extensionKind words card) card) ns
+
+-- An array whose first r words are those of the first n extensions.
+pub record Matched (text words exts : List ℕ) (n card : ℕ) (mine : List ℕ) (r : ℕ) : Type 0 where
+  pub count-most : r ≤ n
+  pub cards-are : take r mine ≡ matching text words (take n exts) card
+
+-- The parts of kind k that extensions bring.
+unfoldable pub extensionRowsAt : List ℕ → List ℕ → ℕ → ℕ → List Row
+extensionRowsAt text words k n = headRows text words n k n
+
+unfoldable pub extensionRows : List ℕ → List ℕ → ℕ → List ℕ → List Row
+extensionRows text words k ns = flatMap (extensionRowsAt text words k) ns
 
 -- The rows that a list of kind k is made from: of a definition its own parts and then its extensions', of an orphan only the extensions'. ns are
--- the type extensions.
+-- the extensions that the type takes in.
 unfoldable pub listRows : List ℕ → List ℕ → List ℕ → ℕ → ℕ → List Row
 listRows text words ns card k =
-    let adopted = extensionRows text words (cardKind words card) card k ns in
-    let defined = headRows text words absent k card ++ extensionRows text words (cardKind words card + 7) card k ns in
+    let adopted = extensionRows text words k ns in
+    let defined = headRows text words absent k card ++ adopted in
     choose (leb 12 (cardKind words card)) adopted defined
 
 unfoldable pub listAt : List ℕ → List ℕ → List ℕ → ℕ → ℕ → List Row
@@ -55,8 +70,9 @@ listAt text words ns card k = firsts (alikeRows (sameStored text words)) [] (lis
 unfoldable pub typeRowAt : List ℕ → ℕ → Row
 typeRowAt words card = choose (leb 12 (cardKind words card)) (row (cardKind words card - 7) card card) (row (cardKind words card) card absent)
 
+-- ns are all type extensions.
 unfoldable pub typeRowsAt : List ℕ → List ℕ → List ℕ → ℕ → List Row
-typeRowsAt text words ns card = typeRowAt words card ∷ flatMap (listAt text words ns card) underType
+typeRowsAt text words ns card = typeRowAt words card ∷ flatMap (listAt text words (matching text words ns card) card) underType
 
 -- ---- Directive definitions. ns are all headings' cards.
 
@@ -95,24 +111,19 @@ schemaExtensionAt text words k n =
     let rs = headRows text words n k n in
     choose (eqb (cardKind words n) 11) rs []
 
+-- Whether a card has the name and a kind from low to high; and the kind of the first one, or 0.
+unfoldable pub isRanged : List ℕ → List ℕ → ℕ → ℕ → List ℕ → ℕ → Bool
+isRanged text words low high name n = (leb low (cardKind words n) && leb (cardKind words n) high) && sameName name (cardName text words n)
+
+unfoldable pub firstKind : List ℕ → List ℕ → List ℕ → ℕ → ℕ → List ℕ → ℕ
+firstKind text words ns low high name = found (firstWhere (isRanged text words low high name) ns) (cardKind words) 0
+
 -- The kind of the type of a name: that of its definition, else, adopting, that of its first extension.
-unfoldable pub definesCard : List ℕ → List ℕ → List ℕ → ℕ → Bool
-definesCard text words name n = definesType name (headingAt text words n)
-
-unfoldable pub definedKind : List ℕ → List ℕ → List ℕ → List ℕ → ℕ
-definedKind text words ns name = found (firstWhere (definesCard text words name) ns) (cardKind words) 0
-
-unfoldable pub extendsCard : List ℕ → List ℕ → List ℕ → ℕ → Bool
-extendsCard text words name n = extendsType name (headingAt text words n)
-
-unfoldable pub adoptedKind : List ℕ → List ℕ → List ℕ → List ℕ → ℕ
-adoptedKind text words ns name = found (firstWhere (extendsCard text words name) ns) (λ n. cardKind words n - 7) 0
-
 unfoldable pub kindNamedAt : List ℕ → List ℕ → Bool → List ℕ → List ℕ → ℕ
 kindNamedAt text words adopt ns name =
-    let orphaned = adoptedKind text words ns name in
+    let orphaned = firstKind text words ns 12 17 name - 7 in
     let undefined = choose adopt orphaned 0 in
-    choose (eqb (definedKind text words ns name) 0) undefined (definedKind text words ns name)
+    choose (eqb (firstKind text words ns 5 10 name) 0) undefined (firstKind text words ns 5 10 name)
 
 -- Whether a default root is set, and its row in the list of its kind.
 unfoldable pub hasDefault : List ℕ → List ℕ → Bool → List ℕ → ℕ → Bool

@@ -11,7 +11,7 @@ ghost use Rattle.definition.specs.Store.{cardsUsed};
 ghost use Rattle.stored.specs.Stored.{cardKind, cardAt, storedHeadings};
 ghost use Rattle.index.specs.Index.{Printed};
 ghost use Rattle.rows.specs.Pushed.{filled, pushed, usedFrom, alikeRows, extended, rowsOfKind};
-ghost use Rattle.rows.specs.Drawn.{Stored, sameStored, headRows, extensionRowsAt, extensionRows, listAt, typeRowAt, typeRowsAt, namesDirective, standingAt, directiveRowsOf, directiveRowsAt, schemaCard, schemaExtensionAt, definedKind, adoptedKind, kindNamedAt, hasDefault, anyDefault, defaultRows, setsRoot, isImplicit, schemaListAt, schemaRowsAt};
+ghost use Rattle.rows.specs.Drawn.{Stored, sameStored, headRows, extensionKind, Matched, extensionRows, listAt, typeRowAt, typeRowsAt, namesDirective, standingAt, directiveRowsOf, directiveRowsAt, schemaCard, schemaExtensionAt, firstKind, kindNamedAt, hasDefault, anyDefault, defaultRows, setsRoot, isImplicit, schemaListAt, schemaRowsAt};
 ghost use Rattle.rows.specs.Arrays.{Arrays};
 use index::Counts;
 
@@ -162,133 +162,96 @@ fn extend_ast(
     t
 }
 
-// Extends a list of the owner by an extension, if it is one of the kind sought and of the owner's name; one of another kind brings nothing.
-fn type_extension(
-    text: &[u8],
-    words: &[u32],
-    prints: &[u32],
-    sought: u32,
-    owner: u32,
-    kind: u32,
-    card: u32,
-    rows: &mut [u32],
-    start: usize,
-    used: usize,
-) -> usize
-    requires { ⌜ Printed (now text) (now words) (now prints) × (kind ≤ 28) × (owner < cardsUsed (now words)) × (card < cardsUsed (now words)) × (start ≤ used) × (3 * extended (sameStored (now text) (now words)) start (extensionRowsAt (now text) (now words) sought owner kind card) (filled (now rows) used) .used ≤ length (now rows)) ⌝ }
-    ensures { λ r. ⌜ filled (now (rows .exit)) r ≡ extended (sameStored (now (text .entry)) (now (words .entry))) start (extensionRowsAt (now (text .entry)) (now (words .entry)) sought owner kind card) (filled (now (rows .entry)) used) ⌝ }
+// The kind of the extensions that a type takes in: an adopted type is one of them.
+fn extension_kind(words: &[u32], card: u32) -> u32
+    ensures { λ r. ⌜ r ≡ extensionKind (now (words .entry)) card ⌝ }
 {
-    if stored::card_kind(words, card as usize) != sought {
-        return used;
+    let kind = stored::card_kind(words, card as usize);
+    if 12 <= kind {
+        return kind;
     }
-    if !index::same_cards(text, words, prints, owner, card) {
-        return used;
-    }
-    extend_ast(text, words, prints, kind, card, card, rows, start, used)
+    kind + 7
 }
 
-// Extends a list of the owner by its extensions, in filing order.
-fn type_extensions(
+// Lists the extensions that a type takes in, those of its name and of the kind sought, in filing order. Hands back how many these are. Most others are told
+// by their fingerprints.
+fn matching_extensions(
     text: &[u8],
     words: &[u32],
     prints: &[u32],
     exts: &[u32],
     n: usize,
-    sought: u32,
-    owner: u32,
+    card: u32,
+    mine: &mut [u32],
+) -> usize
+    requires { ⌜ Printed (now text) (now words) (now prints) × Stored (now words) (now exts) n × (card < cardsUsed (now words)) × (n ≤ length (now mine)) ⌝ }
+    ensures { λ r. ⌜ Matched (now (text .entry)) (now (words .entry)) (now (exts .entry)) n card (now (mine .exit)) r ⌝ }
+{
+    let sought = extension_kind(words, card);
+    let print = prints[card as usize];
+    let mut count = 0;
+    let mut i = 0;
+    while i < n {
+        let ext = exts[i];
+        i += 1;
+        if prints[ext as usize] != print {
+            continue;
+        }
+        if stored::card_kind(words, ext as usize) != sought {
+            continue;
+        }
+        if !index::same_cards(text, words, prints, card, ext) {
+            continue;
+        }
+        mine[count] = ext;
+        count += 1;
+    }
+    count
+}
+
+// Extends a list of a type by the extensions that it takes in.
+fn type_extensions(
+    text: &[u8],
+    words: &[u32],
+    prints: &[u32],
+    mine: &[u32],
     kind: u32,
     rows: &mut [u32],
     start: usize,
     used: usize,
 ) -> usize
-    requires { ⌜ Printed (now text) (now words) (now prints) × Stored (now words) (now exts) n × (kind ≤ 28) × (owner < cardsUsed (now words)) × (start ≤ used) × (3 * extended (sameStored (now text) (now words)) start (extensionRows (now text) (now words) sought owner kind (take n (now exts))) (filled (now rows) used) .used ≤ length (now rows)) ⌝ }
-    ensures { λ r. ⌜ filled (now (rows .exit)) r ≡ extended (sameStored (now (text .entry)) (now (words .entry))) start (extensionRows (now (text .entry)) (now (words .entry)) sought owner kind (take n (now (exts .entry)))) (filled (now (rows .entry)) used) ⌝ }
+    requires { ⌜ Printed (now text) (now words) (now prints) × Stored (now words) (now mine) (length (now mine)) × (kind ≤ 28) × (start ≤ used) × (3 * extended (sameStored (now text) (now words)) start (extensionRows (now text) (now words) kind (now mine)) (filled (now rows) used) .used ≤ length (now rows)) ⌝ }
+    ensures { λ r. ⌜ filled (now (rows .exit)) r ≡ extended (sameStored (now (text .entry)) (now (words .entry))) start (extensionRows (now (text .entry)) (now (words .entry)) kind (now (mine .entry))) (filled (now (rows .entry)) used) ⌝ }
 {
     let mut t = used;
     let mut i = 0;
-    while i < n {
-        let card = exts[i];
-        t = type_extension(
-            text,
-            words,
-            prints,
-            sought,
-            owner,
-            kind,
-            card,
-            rows,
-            start,
-            t,
-        );
+    while i < mine.len() {
+        let card = mine[i];
+        t = extend_ast(text, words, prints, kind, card, card, rows, start, t);
         i += 1;
     }
     t
 }
 
-// Pushes one list of an adopted type, whose card is its first extension: the parts of the extensions of that kind.
-fn adopt_type_extensions(
-    text: &[u8],
-    words: &[u32],
-    prints: &[u32],
-    exts: &[u32],
-    n: usize,
-    card: u32,
-    kind: u32,
-    rows: &mut [u32],
-    used: usize,
-) -> usize
-    requires { ⌜ Printed (now text) (now words) (now prints) × Stored (now words) (now exts) n × (kind ≤ 28) × (card < cardsUsed (now words)) × (12 ≤ cardKind (now words) card) × (3 * pushed (listAt (now text) (now words) (take n (now exts)) card kind) (filled (now rows) used) .used ≤ length (now rows)) ⌝ }
-    ensures { λ r. ⌜ filled (now (rows .exit)) r ≡ pushed (listAt (now (text .entry)) (now (words .entry)) (take n (now (exts .entry))) card kind) (filled (now (rows .entry)) used) ⌝ }
-{
-    let what = stored::card_kind(words, card as usize);
-    type_extensions(
-        text,
-        words,
-        prints,
-        exts,
-        n,
-        what,
-        card,
-        kind,
-        rows,
-        used,
-        used,
-    )
-}
-
-// Pushes one list of a type: of a definition its own parts and then those of its extensions.
+// Pushes one list of a type: of a definition its own parts and then those of its extensions, of an adopted type only these.
 fn collect_sticky(
     text: &[u8],
     words: &[u32],
     prints: &[u32],
-    exts: &[u32],
-    n: usize,
+    mine: &[u32],
     card: u32,
     kind: u32,
     rows: &mut [u32],
     used: usize,
 ) -> usize
-    requires { ⌜ Printed (now text) (now words) (now prints) × Stored (now words) (now exts) n × (kind ≤ 28) × (card < cardsUsed (now words)) × (3 * pushed (listAt (now text) (now words) (take n (now exts)) card kind) (filled (now rows) used) .used ≤ length (now rows)) ⌝ }
-    ensures { λ r. ⌜ filled (now (rows .exit)) r ≡ pushed (listAt (now (text .entry)) (now (words .entry)) (take n (now (exts .entry))) card kind) (filled (now (rows .entry)) used) ⌝ }
+    requires { ⌜ Printed (now text) (now words) (now prints) × Stored (now words) (now mine) (length (now mine)) × (kind ≤ 28) × (card < cardsUsed (now words)) × (3 * pushed (listAt (now text) (now words) (now mine) card kind) (filled (now rows) used) .used ≤ length (now rows)) ⌝ }
+    ensures { λ r. ⌜ filled (now (rows .exit)) r ≡ pushed (listAt (now (text .entry)) (now (words .entry)) (now (mine .entry)) card kind) (filled (now (rows .entry)) used) ⌝ }
 {
-    let what = stored::card_kind(words, card as usize);
-    if 12 <= what {
-        return adopt_type_extensions(text, words, prints, exts, n, card, kind, rows, used);
+    if 12 <= stored::card_kind(words, card as usize) {
+        return type_extensions(text, words, prints, mine, kind, rows, used, used);
     }
     let own = extend_ast(text, words, prints, kind, card, ABSENT, rows, used, used);
-    type_extensions(
-        text,
-        words,
-        prints,
-        exts,
-        n,
-        what + 7,
-        card,
-        kind,
-        rows,
-        used,
-        own,
-    )
+    type_extensions(text, words, prints, mine, kind, rows, used, own)
 }
 
 // Pushes the lists of a type, one a kind; those of kinds that the type lacks are empty.
@@ -296,21 +259,20 @@ fn collect_lists(
     text: &[u8],
     words: &[u32],
     prints: &[u32],
-    exts: &[u32],
-    n: usize,
+    mine: &[u32],
     card: u32,
     rows: &mut [u32],
     used: usize,
 ) -> usize
-    requires { ⌜ Printed (now text) (now words) (now prints) × Stored (now words) (now exts) n × (card < cardsUsed (now words)) × (3 * pushed (flatMap (listAt (now text) (now words) (take n (now exts)) card) underType) (filled (now rows) used) .used ≤ length (now rows)) ⌝ }
-    ensures { λ r. ⌜ filled (now (rows .exit)) r ≡ pushed (flatMap (listAt (now (text .entry)) (now (words .entry)) (take n (now (exts .entry))) card) underType) (filled (now (rows .entry)) used) ⌝ }
+    requires { ⌜ Printed (now text) (now words) (now prints) × Stored (now words) (now mine) (length (now mine)) × (card < cardsUsed (now words)) × (3 * pushed (flatMap (listAt (now text) (now words) (now mine) card) underType) (filled (now rows) used) .used ≤ length (now rows)) ⌝ }
+    ensures { λ r. ⌜ filled (now (rows .exit)) r ≡ pushed (flatMap (listAt (now (text .entry)) (now (words .entry)) (now (mine .entry)) card) underType) (filled (now (rows .entry)) used) ⌝ }
 {
-    let interfaces = collect_sticky(text, words, prints, exts, n, card, 21, rows, used);
-    let uses = collect_sticky(text, words, prints, exts, n, card, 20, rows, interfaces);
-    let fields = collect_sticky(text, words, prints, exts, n, card, 22, rows, uses);
-    let members = collect_sticky(text, words, prints, exts, n, card, 23, rows, fields);
-    let values = collect_sticky(text, words, prints, exts, n, card, 24, rows, members);
-    collect_sticky(text, words, prints, exts, n, card, 25, rows, values)
+    let interfaces = collect_sticky(text, words, prints, mine, card, 21, rows, used);
+    let uses = collect_sticky(text, words, prints, mine, card, 20, rows, interfaces);
+    let fields = collect_sticky(text, words, prints, mine, card, 22, rows, uses);
+    let members = collect_sticky(text, words, prints, mine, card, 23, rows, fields);
+    let values = collect_sticky(text, words, prints, mine, card, 24, rows, members);
+    collect_sticky(text, words, prints, mine, card, 25, rows, values)
 }
 
 // Pushes the row of a type: of a definition its own card, of an adopted type its first extension as card and as origin.
@@ -333,14 +295,16 @@ fn push_type(
     exts: &[u32],
     n: usize,
     card: u32,
+    mine: &mut [u32],
     rows: &mut [u32],
     used: usize,
 ) -> usize
-    requires { ⌜ Printed (now text) (now words) (now prints) × Stored (now words) (now exts) n × (card < cardsUsed (now words)) × (3 * pushed (typeRowsAt (now text) (now words) (take n (now exts)) card) (filled (now rows) used) .used ≤ length (now rows)) ⌝ }
+    requires { ⌜ Printed (now text) (now words) (now prints) × Stored (now words) (now exts) n × (card < cardsUsed (now words)) × (n ≤ length (now mine)) × (3 * pushed (typeRowsAt (now text) (now words) (take n (now exts)) card) (filled (now rows) used) .used ≤ length (now rows)) ⌝ }
     ensures { λ r. ⌜ filled (now (rows .exit)) r ≡ pushed (typeRowsAt (now (text .entry)) (now (words .entry)) (take n (now (exts .entry))) card) (filled (now (rows .entry)) used) ⌝ }
 {
+    let count = matching_extensions(text, words, prints, exts, n, card, mine);
     let next = push_type_row(words, card, rows, used);
-    collect_lists(text, words, prints, exts, n, card, rows, next)
+    collect_lists(text, words, prints, &mine[0..count], card, rows, next)
 }
 
 // Pushes the types of an array of cards: the first definitions, or the first orphans of each name.
@@ -352,17 +316,18 @@ fn push_types(
     n: usize,
     types: &[u32],
     t: usize,
+    mine: &mut [u32],
     rows: &mut [u32],
     used: usize,
 ) -> usize
-    requires { ⌜ Printed (now text) (now words) (now prints) × Stored (now words) (now exts) n × Stored (now words) (now types) t × (3 * pushed (flatMap (typeRowsAt (now text) (now words) (take n (now exts))) (take t (now types))) (filled (now rows) used) .used ≤ length (now rows)) ⌝ }
+    requires { ⌜ Printed (now text) (now words) (now prints) × Stored (now words) (now exts) n × Stored (now words) (now types) t × (n ≤ length (now mine)) × (3 * pushed (flatMap (typeRowsAt (now text) (now words) (take n (now exts))) (take t (now types))) (filled (now rows) used) .used ≤ length (now rows)) ⌝ }
     ensures { λ r. ⌜ filled (now (rows .exit)) r ≡ pushed (flatMap (typeRowsAt (now (text .entry)) (now (words .entry)) (take n (now (exts .entry)))) (take t (now (types .entry)))) (filled (now (rows .entry)) used) ⌝ }
 {
     let mut next = used;
     let mut i = 0;
     while i < t {
         let card = types[i];
-        next = push_type(text, words, prints, exts, n, card, rows, next);
+        next = push_type(text, words, prints, exts, n, card, mine, rows, next);
         i += 1;
     }
     next
@@ -524,20 +489,28 @@ fn schema_extensions(
     t
 }
 
-// The kind of the first type definition of a name, or 0.
-fn defined_kind(text: &[u8], words: &[u32], heads: &[u32], m: usize, name: &[u8]) -> u32
+// The kind of the first heading of a name whose kind is from `low` to `high`, or 0.
+fn first_kind(
+    text: &[u8],
+    words: &[u32],
+    heads: &[u32],
+    m: usize,
+    low: u32,
+    high: u32,
+    name: &[u8],
+) -> u32
     requires { ⌜ m ≤ length (now heads) ⌝ }
-    ensures { λ r. ⌜ r ≡ definedKind (now (text .entry)) (now (words .entry)) (take m (now (heads .entry))) (now (name .entry)) ⌝ }
+    ensures { λ r. ⌜ (r ≡ firstKind (now (text .entry)) (now (words .entry)) (take m (now (heads .entry))) low high (now (name .entry))) × (0 < r → low ≤ r) ⌝ }
 {
     let mut i = 0;
     while i < m {
         let card = heads[i];
         i += 1;
         let kind = stored::card_kind(words, card as usize);
-        if kind < 5 {
+        if kind < low {
             continue;
         }
-        if 10 < kind {
+        if high < kind {
             continue;
         }
         if name::same_name(name, stored::card_name(text, words, card as usize)) {
@@ -547,42 +520,23 @@ fn defined_kind(text: &[u8], words: &[u32], heads: &[u32], m: usize, name: &[u8]
     0
 }
 
-// The kind that the first type extension of a name extends, or 0.
-fn adopted_kind(text: &[u8], words: &[u32], heads: &[u32], m: usize, name: &[u8]) -> u32
-    requires { ⌜ m ≤ length (now heads) ⌝ }
-    ensures { λ r. ⌜ r ≡ adoptedKind (now (text .entry)) (now (words .entry)) (take m (now (heads .entry))) (now (name .entry)) ⌝ }
-{
-    let mut i = 0;
-    while i < m {
-        let card = heads[i];
-        i += 1;
-        let kind = stored::card_kind(words, card as usize);
-        if kind < 12 {
-            continue;
-        }
-        if 17 < kind {
-            continue;
-        }
-        if name::same_name(name, stored::card_name(text, words, card as usize)) {
-            return kind - 7;
-        }
-    }
-    0
-}
-
-// The kind of the type of a name, adopted types counted when they are adopted; 0 where there is none.
+// The kind of the type of a name: that of its definition, else, adopting, the one that its first extension extends; 0 where there is none.
 fn kind_named(text: &[u8], words: &[u32], heads: &[u32], m: usize, adopt: bool, name: &[u8]) -> u32
     requires { ⌜ m ≤ length (now heads) ⌝ }
     ensures { λ r. ⌜ r ≡ kindNamedAt (now (text .entry)) (now (words .entry)) adopt (take m (now (heads .entry))) (now (name .entry)) ⌝ }
 {
-    let kind = defined_kind(text, words, heads, m, name);
-    if kind != 0 {
-        return kind;
+    let defined = first_kind(text, words, heads, m, 5, 10, name);
+    if defined != 0 {
+        return defined;
     }
-    if adopt {
-        return adopted_kind(text, words, heads, m, name);
+    if !adopt {
+        return 0;
     }
-    0
+    let extended = first_kind(text, words, heads, m, 12, 17, name);
+    if extended == 0 {
+        return 0;
+    }
+    extended - 7
 }
 
 // Whether an object type has the default name of a root operation.
@@ -783,7 +737,7 @@ fn push_schema(
 }
 
 // Draws the catalogue of a store into rows: the schema, the directive definitions, the defined types, the adopted types. Hands back how many rows
-// these are; the words past them stay.
+// these are; the words past them stay. `mine` has room for the extensions of one type.
 pub fn draw_rows(
     text: &[u8],
     words: &[u32],
@@ -794,9 +748,10 @@ pub fn draw_rows(
     exts: &[u32],
     counts: Counts,
     adopt: bool,
+    mine: &mut [u32],
     rows: &mut [u32],
 ) -> usize
-    requires { ⌜ Arrays (now text) (now words) (now heads) (now prints) (now types) (now orphans) (now exts) (counts .headings) (counts .types) (counts .orphans) (counts .extensions) × (3 * length (catalogueRows adopt (storedHeadings (now text) (now words))) ≤ length (now rows)) ⌝ }
+    requires { ⌜ Arrays (now text) (now words) (now heads) (now prints) (now types) (now orphans) (now exts) (counts .headings) (counts .types) (counts .orphans) (counts .extensions) × (counts .extensions ≤ length (now mine)) × (3 * length (catalogueRows adopt (storedHeadings (now text) (now words))) ≤ length (now rows)) ⌝ }
     ensures { λ r. ⌜ (now (rows .exit) ≡ written (now (rows .entry)) 0 (flatMap wordsOfRow (catalogueRows adopt (storedHeadings (now (text .entry)) (now (words .entry)))))) × (r ≡ length (catalogueRows adopt (storedHeadings (now (text .entry)) (now (words .entry))))) ⌝ }
 {
     let m = counts.headings;
@@ -805,9 +760,9 @@ pub fn draw_rows(
     let o = counts.orphans;
     let first = push_schema(text, words, prints, heads, m, adopt, rows, 0);
     let next = directive_definitions(text, words, prints, heads, m, rows, first);
-    let used = push_types(text, words, prints, exts, n, types, t, rows, next);
+    let used = push_types(text, words, prints, exts, n, types, t, mine, rows, next);
     if adopt {
-        return push_types(text, words, prints, exts, n, orphans, o, rows, used);
+        return push_types(text, words, prints, exts, n, orphans, o, mine, rows, used);
     }
     used
 }

@@ -17,6 +17,7 @@ pub fn build_inner(text: &[u8], words: &[u32], rows: &mut [u32], errors: &mut [u
     let mut types = [0u32; 2300];
     let mut orphans = [0u32; 2300];
     let mut extensions = [0u32; 2300];
+    let mut mine = [0u32; 2300];
     let adopt = words[1] == 1;
     let counts = index::index(
         text,
@@ -38,6 +39,7 @@ pub fn build_inner(text: &[u8], words: &[u32], rows: &mut [u32], errors: &mut [u
         &extensions,
         counts,
         adopt,
+        &mut mine,
         rows,
     );
     let told = errors::draw_errors(

@@ -2,7 +2,6 @@ use mathlib.Core.Path.{_≡_, refl, sym, ap, _∙_}
 use mathlib.Core.List.{List, [], _∷_}
 use Prim.Native.Nat.{ℕ}
 use native.Mathlib.Omega.{arith}
-use lib.ListN.{take}
 use Rattle.definition.specs.Lists.{flatMap}
 use Rattle.definition.specs.Catalogue.{underType}
 use Rattle.rows.specs.Pushed.{Filled, filled, pushed}
@@ -19,7 +18,7 @@ collect-sticky-requires : tie.Need-collect-sticky-requires
 unfolding underType
 collect-sticky-requires c κs =
     let e = c .before .before .before .before .before .before .args in
-    let f = listAt (e .text .now) (e .words .now) (take (e .n) (e .exts .now)) (e .card) in
+    let f = listAt (e .text .now) (e .words .now) (e .mine .now) (e .card) in
     let s0 = filled (e .rows .now) (e .used) in
     let goal = pushed (flatMap f underType) s0 in
     let l0 : Left f underType s0 goal = left-begin f s0 goal underType refl (c .before .before .before .before .before .before .pre .3) in
@@ -29,7 +28,7 @@ collect-sticky-requires-2 : tie.Need-collect-sticky-requires-2
 unfolding underType
 collect-sticky-requires-2 c κs =
     let e = c .before .before .before .before .before .before .before .before .before .before .args in
-    let f = listAt (e .text .now) (e .words .now) (take (e .n) (e .exts .now)) (e .card) in
+    let f = listAt (e .text .now) (e .words .now) (e .mine .now) (e .card) in
     let s0 = filled (e .rows .now) (e .used) in
     let goal = pushed (flatMap f underType) s0 in
     let l0 : Left f underType s0 goal = left-begin f s0 goal underType refl (c .before .before .before .before .before .before .before .before .before .before .pre .3) in
@@ -40,7 +39,7 @@ collect-sticky-requires-3 : tie.Need-collect-sticky-requires-3
 unfolding underType
 collect-sticky-requires-3 c κs =
     let e = c .before .before .before .before .before .before .before .before .before .before .before .before .before .before .args in
-    let f = listAt (e .text .now) (e .words .now) (take (e .n) (e .exts .now)) (e .card) in
+    let f = listAt (e .text .now) (e .words .now) (e .mine .now) (e .card) in
     let s0 = filled (e .rows .now) (e .used) in
     let goal = pushed (flatMap f underType) s0 in
     let l0 : Left f underType s0 goal = left-begin f s0 goal underType refl (c .before .before .before .before .before .before .before .before .before .before .before .before .before .before .pre .3) in
@@ -52,7 +51,7 @@ collect-sticky-requires-4 : tie.Need-collect-sticky-requires-4
 unfolding underType
 collect-sticky-requires-4 c κs =
     let e = c .before .before .before .before .before .before .before .before .before .before .before .before .before .before .before .before .before .before .args in
-    let f = listAt (e .text .now) (e .words .now) (take (e .n) (e .exts .now)) (e .card) in
+    let f = listAt (e .text .now) (e .words .now) (e .mine .now) (e .card) in
     let s0 = filled (e .rows .now) (e .used) in
     let goal = pushed (flatMap f underType) s0 in
     let l0 : Left f underType s0 goal = left-begin f s0 goal underType refl (c .before .before .before .before .before .before .before .before .before .before .before .before .before .before .before .before .before .before .pre .3) in
@@ -65,7 +64,7 @@ collect-sticky-requires-5 : tie.Need-collect-sticky-requires-5
 unfolding underType
 collect-sticky-requires-5 c κs =
     let e = c .before .before .before .before .before .before .before .before .before .before .before .before .before .before .before .before .before .before .before .before .before .before .args in
-    let f = listAt (e .text .now) (e .words .now) (take (e .n) (e .exts .now)) (e .card) in
+    let f = listAt (e .text .now) (e .words .now) (e .mine .now) (e .card) in
     let s0 = filled (e .rows .now) (e .used) in
     let goal = pushed (flatMap f underType) s0 in
     let l0 : Left f underType s0 goal = left-begin f s0 goal underType refl (c .before .before .before .before .before .before .before .before .before .before .before .before .before .before .before .before .before .before .before .before .before .before .pre .3) in
@@ -79,7 +78,7 @@ collect-sticky-requires-6 : tie.Need-collect-sticky-requires-6
 unfolding underType
 collect-sticky-requires-6 c κs =
     let e = c .before .before .before .before .before .before .before .before .before .before .before .before .before .before .before .before .before .before .before .before .before .before .before .before .before .before .args in
-    let f = listAt (e .text .now) (e .words .now) (take (e .n) (e .exts .now)) (e .card) in
+    let f = listAt (e .text .now) (e .words .now) (e .mine .now) (e .card) in
     let s0 = filled (e .rows .now) (e .used) in
     let goal = pushed (flatMap f underType) s0 in
     let l0 : Left f underType s0 goal = left-begin f s0 goal underType refl (c .before .before .before .before .before .before .before .before .before .before .before .before .before .before .before .before .before .before .before .before .before .before .before .before .before .before .pre .3) in
@@ -91,13 +90,13 @@ collect-sticky-requires-6 c κs =
     (c .before .before .before .before .before .before .before .before .before .before .before .before .before .before .before .before .before .before .before .before .before .before .before .before .before .before .pre .0, c .before .before .before .before .before .before .before .before .before .before .before .before .before .before .before .before .before .before .before .before .before .before .before .before .before .before .pre .1, omega arith, c .before .before .before .before .before .before .before .before .before .before .before .before .before .before .before .before .before .before .before .before .before .before .before .before .before .before .pre .2, left-room f _ goal (25 ∷ []) l5 25 [] refl)
 
 same-length : tie.Need-same-length
-same-length c = c .before .before .collect-sticky6 .kept .1 .1 .1 .1 .1 .1 .1 .0 ∙ c .before .before .before .before .before .before .collect-sticky5 .kept .1 .1 .1 .1 .1 .1 .1 .0 ∙ c .before .before .before .before .before .before .before .before .before .before .collect-sticky4 .kept .1 .1 .1 .1 .1 .1 .1 .0 ∙ c .before .before .before .before .before .before .before .before .before .before .before .before .before .before .collect-sticky3 .kept .1 .1 .1 .1 .1 .1 .1 .0 ∙ c .before .before .before .before .before .before .before .before .before .before .before .before .before .before .before .before .before .before .collect-sticky2 .kept .1 .1 .1 .1 .1 .1 .1 .0 ∙ c .before .before .before .before .before .before .before .before .before .before .before .before .before .before .before .before .before .before .before .before .before .before .collect-sticky .kept .1 .1 .1 .1 .1 .1 .1 .0
+same-length c = c .before .before .collect-sticky6 .kept .1 .1 .1 .1 .1 .1 .0 ∙ c .before .before .before .before .before .before .collect-sticky5 .kept .1 .1 .1 .1 .1 .1 .0 ∙ c .before .before .before .before .before .before .before .before .before .before .collect-sticky4 .kept .1 .1 .1 .1 .1 .1 .0 ∙ c .before .before .before .before .before .before .before .before .before .before .before .before .before .before .collect-sticky3 .kept .1 .1 .1 .1 .1 .1 .0 ∙ c .before .before .before .before .before .before .before .before .before .before .before .before .before .before .before .before .before .before .collect-sticky2 .kept .1 .1 .1 .1 .1 .1 .0 ∙ c .before .before .before .before .before .before .before .before .before .before .before .before .before .before .before .before .before .before .before .before .before .before .collect-sticky .kept .1 .1 .1 .1 .1 .1 .0
 
 returns : tie.Need-returns
 unfolding underType
 returns c =
     let e = c .before .before .before .before .before .before .before .before .before .before .before .before .before .before .before .before .before .before .before .before .before .before .before .before .before .before .before .before .before .args in
-    let f = listAt (e .text .now) (e .words .now) (take (e .n) (e .exts .now)) (e .card) in
+    let f = listAt (e .text .now) (e .words .now) (e .mine .now) (e .card) in
     let s0 = filled (e .rows .now) (e .used) in
     let goal = pushed (flatMap f underType) s0 in
     let l0 : Left f underType s0 goal = left-begin f s0 goal underType refl (c .before .before .before .before .before .before .before .before .before .before .before .before .before .before .before .before .before .before .before .before .before .before .before .before .before .before .before .before .before .pre .3) in

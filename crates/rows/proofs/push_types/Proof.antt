@@ -16,31 +16,33 @@ use Rattle.rows.proofs.push_types.Lts as lts
 use Rattle.rows.proofs.push_type.Reads as push-type-reads
 
 abbrev Inv-loop : tie.InvT-loop
-Inv-loop text words prints extensions count types n rows₀ used t₀ i₀ rows t i =
-    (length rows ≡ length rows₀)
-    × Left (typeRowsAt text words (take count extensions)) (drop i (take n types)) (filled rows t) (pushed (flatMap (typeRowsAt text words (take count extensions)) (take n types)) (filled rows₀ t₀))
+Inv-loop text words prints exts n types t mine₀ rows₀ used next₀ i₀ mine rows next i =
+    (length mine ≡ length mine₀)
+    × (length rows ≡ length rows₀)
+    × Left (typeRowsAt text words (take n exts)) (drop i (take t types)) (filled rows next) (pushed (flatMap (typeRowsAt text words (take n exts)) (take t types)) (filled rows₀ next₀))
 
 abbrev μ-loop : tie.MeasureT-loop
-μ-loop text words prints extensions count types n rows₀ used t₀ i₀ rows t i = n - i
+μ-loop text words prints exts n types t mine₀ rows₀ used next₀ i₀ mine rows next i = t - i
 
 loop-holds : tie.Need-loop-holds Inv-loop μ-loop
-loop-holds c = (refl, left-begin _ _ _ _ refl (c .before .before .before .before .before .before .pre .3))
+loop-holds c = (refl, refl, left-begin _ _ _ _ refl (c .before .before .before .before .before .before .before .pre .4))
 
 mul-card : tie.Need-mul-card Inv-loop μ-loop
 mul-card c = search needs
 
 shared-slice-read-card : tie.Need-shared-slice-read-card Inv-loop μ-loop
-shared-slice-read-card c = let h = c .before .before .before .before .before .before .before .before .before .pre .2 .inside in omega arith
+shared-slice-read-card c = let h = c .before .before .before .before .before .before .before .before .before .before .pre .2 .inside in omega arith
 
 push-type-requires : tie.Need-push-type-requires Inv-loop μ-loop
 push-type-requires c κs =
-    let e = c .before .before .before .before .before .before .before .before .before .before .args in
-    let l = c .before .before .before .loop in
-    let h = c .before .before .loop-test .taken in (
-      c .before .before .before .before .before .before .before .before .before .before .pre .0,
-      c .before .before .before .before .before .before .before .before .before .before .pre .1,
-      c .before .before .before .before .before .before .before .before .before .before .pre .2 .stored (l .i) h,
-      left-room _ _ _ _ (l .inv .1) _ _ (taken-next (e .types .now) (e .t) (l .i) h (c .before .before .before .before .before .before .before .before .before .before .pre .2 .inside)),
+    let s = c .before .before .before .before .before .before .before .before .before .before .before .before in
+    let l = c .before .before .before .before .loop in
+    let h = c .before .before .before .loop-test .taken in (
+      s .pre .0,
+      s .pre .1,
+      s .pre .2 .stored (l .i) h,
+      omega (arith, s .pre .3, l .inv .0),
+      left-room _ _ _ _ (l .inv .2) _ _ (taken-next (s .args .types .now) (s .args .t) (l .i) h (s .pre .2 .inside)),
     )
 
 add-i : tie.Need-add-i Inv-loop μ-loop
@@ -51,22 +53,26 @@ loop-less c = search needs
 
 loop-again : tie.Need-loop-again Inv-loop μ-loop
 loop-again c =
-    let e = c .before .before .before .before .before .before .before .before .before .before .before .before .before .args in
-    let l = c .before .before .before .before .before .before .loop in
-    let h = c .before .before .before .before .before .loop-test .taken in
-    let r = c .before .before .push-type in (
+    let s = c .before .before .before .before .before .before .before .before .before .before .before .before .before .before .before .before .before in
+    let l = c .before .before .before .before .before .before .before .before .before .loop in
+    let h = c .before .before .before .before .before .before .before .before .loop-test .taken in
+    let r = c .before .before .before .before .push-type in (
       r .kept .1 .1 .1 .1 .1 .1 .0 ∙ l .inv .0,
-      left-next _ _ _ _ (l .inv .1) _ _ (taken-next (e .types .now) (e .t) (l .i) h (c .before .before .before .before .before .before .before .before .before .before .before .before .before .pre .2 .inside)) _ (r .ensures),
+      r .kept .1 .1 .1 .1 .1 .1 .1 .0 ∙ l .inv .1,
+      left-next _ _ _ _ (l .inv .2) _ _ (taken-next (s .args .types .now) (s .args .t) (l .i) h (s .pre .2 .inside)) _ (r .ensures),
     )
 
 same-length : tie.Need-same-length Inv-loop μ-loop
-same-length c = search needs
+same-length c = c .before .loop .inv .0
+
+same-length-2 : tie.Need-same-length-2 Inv-loop μ-loop
+same-length-2 c = c .before .loop .inv .1
 
 returns : tie.Need-returns Inv-loop μ-loop
 returns c =
-    let e = c .before .before .before .before .before .before .before .before .args in
+    let s = c .before .before .before .before .before .before .before .before .before in
     let l = c .before .loop in
-    left-end _ _ _ _ (l .inv .1) (taken-end (e .types .now) (e .t) (l .i) (c .loop-test .left))
+    left-end _ _ _ _ (l .inv .2) (taken-end (s .args .types .now) (s .args .t) (l .i) (c .loop-test .left))
 
 pub push-types-spec : {M : Type 1} → statement M
 push-types-spec =
@@ -82,4 +88,5 @@ push-types-spec =
     loop-less
     loop-again
     same-length
+    same-length-2
     returns)

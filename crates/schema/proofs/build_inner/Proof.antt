@@ -3,9 +3,10 @@ use Rattle.rows.proofs.Catalogue.{indexed-arrays}
 use Rattle.schema.proofs.Bounds.{rows-fit, rows-room, rows-stand, errors-most, errors-room, built}
 use lib.Dec.{eqb}
 use lib.ListN.{getD}
-use borrow.Author.Needs.{needs}
 use Rattle.schema.proofs.build_inner.Statement.{statement}
 use Rattle.schema.proofs.build_inner.Tie as tie
+use borrow.Author.Needs.{needs}
+use Rattle.schema.proofs.build_inner.Reads as reads
 use Rattle.schema.proofs.build_inner.Lts as lts
 use Rattle.errors.proofs.draw_errors.Reads as draw-errors-reads
 use Rattle.index.proofs.index.Reads as index-reads
@@ -50,11 +51,17 @@ slice-aggregate-draw-rows-4 c = search needs
 slice-aggregate-draw-rows-5 : tie.Need-slice-aggregate-draw-rows-5
 slice-aggregate-draw-rows-5 c = search needs
 
+slice-aggregate-draw-rows-6 : tie.Need-slice-aggregate-draw-rows-6
+slice-aggregate-draw-rows-6 c = search needs
+
 draw-rows-requires : tie.Need-draw-rows-requires
 draw-rows-requires c κs =
-    let x = c .before .before .before .before .before .before .before .before .before .before .before .before in
-    let s = x .before .before .before .before .before .before .before .before .before .before .before .before in
-    (indexed-arrays _ _ _ _ _ _ _ _ _ _ _ _ (x .index .ensures), rows-room _ _ (s .pre .store-sound) _ (s .args .rows .now) (s .pre .rows-length))
+    let x = c .before .before .before .before .before .before .before .before .before .before .before .before .before .index .ensures in
+    let s = c .before .before .before .before .before .before .before .before .before .before .before .before .before .before .before .before .before .before .before .before .before .before .before .before .before in
+    let e = x .extensions-most in
+    let m = x .headings-most in
+    let n = x .printed .cards-most in
+    (indexed-arrays _ _ _ _ _ _ _ _ _ _ _ _ x, omega arith, rows-room _ _ (s .pre .store-sound) _ (s .args .rows .now) (s .pre .rows-length))
 
 slice-aggregate-draw-errors : tie.Need-slice-aggregate-draw-errors
 slice-aggregate-draw-errors c = search needs
@@ -73,23 +80,22 @@ slice-aggregate-draw-errors-5 c = search needs
 
 draw-errors-requires : tie.Need-draw-errors-requires
 draw-errors-requires c κs =
-    let y = c .before .before .before .before .before .before .before .before .before in
-    let x = y .before .before .before .before .before .before .before .before .before .before .before .before .before in
-    let s = x .before .before .before .before .before .before .before .before .before .before .before .before in
+    let y = c .before .before .before .before .before .before .before .before .before .before in
+    let s = c .before .before .before .before .before .before .before .before .before .before .before .before .before .before .before .before .before .before .before .before .before .before .before .before .before .before .before .before .before .before .before .before .before .before .before .before in
     record {
       types = _;
       store-sound = s .pre .store-sound;
-      indexed = x .index .ensures;
+      indexed = c .before .before .before .before .before .before .before .before .before .before .before .before .before .before .before .before .before .before .before .before .before .before .before .before .index .ensures;
       row-count = y .draw-rows .ensures .1;
       rows-are = rows-stand _ _ _ _ (y .draw-rows .ensures .1) (y .draw-rows .ensures .0);
       errors-most = errors-most _ _ (s .pre .store-sound) _;
       errors-room = errors-room _ _ (s .pre .store-sound) _ (s .args .errors .now) (s .pre .errors-length);
     }
 
-cast-t17 : tie.Need-cast-t17
-cast-t17 c =
-    let y = c .before .before .before .before .before .before .before .before .before .before .before .before .before in
-    let s = c .before .before .before .before .before .before .before .before .before .before .before .before .before .before .before .before .before .before .before .before .before .before .before .before .before .before .before .before .before .before .before .before .before .before .before .before .before .before in
+cast-t18 : tie.Need-cast-t18
+cast-t18 c =
+    let y = c .before .before .before .before .before .before .before .before .before .before .before .before .before .before in
+    let s = c .before .before .before .before .before .before .before .before .before .before .before .before .before .before .before .before .before .before .before .before .before .before .before .before .before .before .before .before .before .before .before .before .before .before .before .before .before .before .before .before in
     let f = rows-fit _ _ (s .pre .store-sound) (eqb (getD (s .args .words .now) 1 0) 1) in
     omega (arith, y .draw-rows .ensures .1)
 
@@ -101,9 +107,9 @@ same-length-2 c = search needs
 
 returns : tie.Need-returns
 returns c =
-    let y = c .before .before .before .before .before .before .before .before .before .before .before .before .before in
+    let y = c .before .before .before .before .before .before .before .before .before .before .before .before .before .before in
     let z = c .before .before .before in
-    let s = c .before .before .before .before .before .before .before .before .before .before .before .before .before .before .before .before .before .before .before .before .before .before .before .before .before .before .before .before .before .before .before .before .before .before .before .before .before .before in
+    let s = c .before .before .before .before .before .before .before .before .before .before .before .before .before .before .before .before .before .before .before .before .before .before .before .before .before .before .before .before .before .before .before .before .before .before .before .before .before .before .before .before in
     built _ _ (s .pre .store-sound) _ _ _ _ _ _ (y .draw-rows .ensures .0) (y .draw-rows .ensures .1) (z .draw-errors .ensures)
 
 pub build-inner-spec : {M : Type 1} → statement M
@@ -123,6 +129,7 @@ build-inner-spec =
     slice-aggregate-draw-rows-3
     slice-aggregate-draw-rows-4
     slice-aggregate-draw-rows-5
+    slice-aggregate-draw-rows-6
     draw-rows-requires
     slice-aggregate-draw-errors
     slice-aggregate-draw-errors-2
@@ -130,7 +137,7 @@ build-inner-spec =
     slice-aggregate-draw-errors-4
     slice-aggregate-draw-errors-5
     draw-errors-requires
-    cast-t17
+    cast-t18
     same-length
     same-length-2
     returns)

@@ -6,22 +6,22 @@ use lib.ListN.{length, take, drop, getD}
 use Rattle.definition.specs.Lists.{found, firstWhere}
 use Rattle.definition.specs.Names.{sameName}
 use Rattle.stored.specs.Stored.{cardKind}
-use Rattle.rows.specs.Drawn.{definesCard, definedKind}
-use Rattle.rows.proofs.SchemaTurns.{first-hit, first-miss, first-end, defines-low, defines-high, defines-named}
-use Rattle.rows.proofs.defined_kind.Statement.{statement}
-use Rattle.rows.proofs.defined_kind.Tie as tie
+use Rattle.rows.specs.Drawn.{isRanged, firstKind}
+use Rattle.rows.proofs.SchemaTurns.{first-hit, first-miss, first-end, ranged-low, ranged-high, ranged-named}
+use Rattle.rows.proofs.first_kind.Statement.{statement}
+use Rattle.rows.proofs.first_kind.Tie as tie
 use borrow.Author.Needs.{needs}
-use Rattle.rows.proofs.defined_kind.Reads as reads
-use Rattle.rows.proofs.defined_kind.Lts as lts
+use Rattle.rows.proofs.first_kind.Reads as reads
+use Rattle.rows.proofs.first_kind.Lts as lts
 use Rattle.name.proofs.same_name.Reads as same-name-reads
 use Rattle.stored.proofs.card_kind.Reads as card-kind-reads
 use Rattle.stored.proofs.card_name.Reads as card-name-reads
 
 abbrev Inv-loop : tie.InvT-loop
-Inv-loop text words headings count name i₀ i = firstWhere (definesCard text words name) (take count headings) ≡ firstWhere (definesCard text words name) (drop i (take count headings))
+Inv-loop text words heads m low high name i₀ i = firstWhere (isRanged text words low high name) (take m heads) ≡ firstWhere (isRanged text words low high name) (drop i (take m heads))
 
 abbrev μ-loop : tie.MeasureT-loop
-μ-loop text words headings count name i₀ i = count - i
+μ-loop text words heads m low high name i₀ i = m - i
 
 loop-holds : tie.Need-loop-holds Inv-loop μ-loop
 loop-holds c = refl
@@ -50,7 +50,7 @@ loop-again c =
     let l = c .before .before .before .before .loop in
     let q = c .before .card-kind .ensures in
     let h = c .if1 .taken in
-    l .inv ∙ first-miss (definesCard (e .text .now) (e .words .now) (e .name .now)) (e .heads .now) (e .m) (l .i) (c .before .before .before .loop-test .taken) (c .before .before .before .before .before .before .before .before .before .pre) (defines-low (e .text .now) (e .words .now) (e .name .now) (getD (e .heads .now) (l .i) 0) (omega arith))
+    l .inv ∙ first-miss (isRanged (e .text .now) (e .words .now) (e .low) (e .high) (e .name .now)) (e .heads .now) (e .m) (l .i) (c .before .before .before .loop-test .taken) (c .before .before .before .before .before .before .before .before .before .pre) (ranged-low (e .text .now) (e .words .now) (e .name .now) (e .low) (e .high) (getD (e .heads .now) (l .i) 0) (omega arith))
 
 loop-less-2 : tie.Need-loop-less-2 Inv-loop μ-loop
 loop-less-2 c = search needs
@@ -62,7 +62,7 @@ loop-again-2 c =
     let q = c .before .before .card-kind .ensures in
     let h = c .before .if1 .left in
     let m = c .if2 .taken in
-    l .inv ∙ first-miss (definesCard (e .text .now) (e .words .now) (e .name .now)) (e .heads .now) (e .m) (l .i) (c .before .before .before .before .loop-test .taken) (c .before .before .before .before .before .before .before .before .before .before .pre) (defines-high (e .text .now) (e .words .now) (e .name .now) (getD (e .heads .now) (l .i) 0) (omega arith) (omega arith))
+    l .inv ∙ first-miss (isRanged (e .text .now) (e .words .now) (e .low) (e .high) (e .name .now)) (e .heads .now) (e .m) (l .i) (c .before .before .before .before .loop-test .taken) (c .before .before .before .before .before .before .before .before .before .before .pre) (ranged-high (e .text .now) (e .words .now) (e .name .now) (e .low) (e .high) (getD (e .heads .now) (l .i) 0) (omega arith) (omega arith))
 
 cast-card-name : tie.Need-cast-card-name Inv-loop μ-loop
 cast-card-name c = omega (arith, c .before .before .before .shared-slice-known5 .given (c .before .before .before .before .before .loop .i))
@@ -74,15 +74,17 @@ same-name-requires : tie.Need-same-name-requires Inv-loop μ-loop
 same-name-requires c κs = search needs
 
 returns : tie.Need-returns Inv-loop μ-loop
-unfolding definedKind
+unfolding firstKind
 returns c =
     let e = c .before .before .before .before .before .before .before .before .before .before .before .before .before .args in
     let l = c .before .before .before .before .before .before .before .before .loop in
     let q = c .before .before .before .before .before .card-kind .ensures in
     let h = c .before .before .before .before .if1 .left in
-    let m = c .before .before .before .if2 .left in
-    c .before .before .before .before .before .card-kind .ensures ∙ sym (ap (λ (o : Option ℕ). found o (cardKind (e .words .now)) 0) (l .inv ∙ first-hit (definesCard (e .text .now) (e .words .now) (e .name .now)) (e .heads .now) (e .m) (l .i) (c .before .before .before .before .before .before .before .loop-test .taken) (c .before .before .before .before .before .before .before .before .before .before .before .before .before .pre)
-    (defines-named (e .text .now) (e .words .now) (e .name .now) (getD (e .heads .now) (l .i) 0) (omega arith) (omega arith) ∙ ap (sameName (e .name .now)) (sym (c .before .before .card-name .ensures)) ∙ sym (c .before .same-name .ensures) ∙ c .if3 .taken)))
+    let m = c .before .before .before .if2 .left in (
+      c .before .before .before .before .before .card-kind .ensures ∙ sym (ap (λ (o : Option ℕ). found o (cardKind (e .words .now)) 0) (l .inv ∙ first-hit (isRanged (e .text .now) (e .words .now) (e .low) (e .high) (e .name .now)) (e .heads .now) (e .m) (l .i) (c .before .before .before .before .before .before .before .loop-test .taken) (c .before .before .before .before .before .before .before .before .before .before .before .before .before .pre)
+          (ranged-named (e .text .now) (e .words .now) (e .name .now) (e .low) (e .high) (getD (e .heads .now) (l .i) 0) (omega arith) (omega arith) ∙ ap (sameName (e .name .now)) (sym (c .before .before .card-name .ensures)) ∙ sym (c .before .same-name .ensures) ∙ c .if3 .taken))),
+      λ z. omega arith,
+    )
 
 loop-less-3 : tie.Need-loop-less-3 Inv-loop μ-loop
 loop-less-3 c = search needs
@@ -94,18 +96,18 @@ loop-again-3 c =
     let q = c .before .before .before .before .before .card-kind .ensures in
     let h = c .before .before .before .before .if1 .left in
     let m = c .before .before .before .if2 .left in
-    l .inv ∙ first-miss (definesCard (e .text .now) (e .words .now) (e .name .now)) (e .heads .now) (e .m) (l .i) (c .before .before .before .before .before .before .before .loop-test .taken) (c .before .before .before .before .before .before .before .before .before .before .before .before .before .pre)
-    (defines-named (e .text .now) (e .words .now) (e .name .now) (getD (e .heads .now) (l .i) 0) (omega arith) (omega arith) ∙ ap (sameName (e .name .now)) (sym (c .before .before .card-name .ensures)) ∙ sym (c .before .same-name .ensures) ∙ c .if3 .left)
+    l .inv ∙ first-miss (isRanged (e .text .now) (e .words .now) (e .low) (e .high) (e .name .now)) (e .heads .now) (e .m) (l .i) (c .before .before .before .before .before .before .before .loop-test .taken) (c .before .before .before .before .before .before .before .before .before .before .before .before .before .pre)
+    (ranged-named (e .text .now) (e .words .now) (e .name .now) (e .low) (e .high) (getD (e .heads .now) (l .i) 0) (omega arith) (omega arith) ∙ ap (sameName (e .name .now)) (sym (c .before .before .card-name .ensures)) ∙ sym (c .before .same-name .ensures) ∙ c .if3 .left)
 
 returns-2 : tie.Need-returns-2 Inv-loop μ-loop
-unfolding definedKind
+unfolding firstKind
 returns-2 c =
     let e = c .before .before .before .before .before .before .args in
     let l = c .before .loop in
-    sym (ap (λ (o : Option ℕ). found o (cardKind (e .words .now)) 0) (l .inv ∙ first-end (definesCard (e .text .now) (e .words .now) (e .name .now)) (e .heads .now) (e .m) (l .i) (c .loop-test .left)))
+    (sym (ap (λ (o : Option ℕ). found o (cardKind (e .words .now)) 0) (l .inv ∙ first-end (isRanged (e .text .now) (e .words .now) (e .low) (e .high) (e .name .now)) (e .heads .now) (e .m) (l .i) (c .loop-test .left))), λ z. omega arith)
 
-pub defined-kind-spec : {M : Type 1} → statement M
-defined-kind-spec =
+pub first-kind-spec : {M : Type 1} → statement M
+first-kind-spec =
     tie.close
     (tie.spec
     Inv-loop
