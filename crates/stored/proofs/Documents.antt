@@ -16,9 +16,10 @@ use Rattle.definition.specs.Cards.{Card, isHeading, isPart, isUnnamed, extended
 use Rattle.definition.specs.Headings.{Part, Heading, nameOf, partFrom, headingFrom, group, headingsFrom}
 use Rattle.definition.specs.Store.{StoredRow, unmoved, storedDocument, documentsFrom}
 use Rattle.definition.specs.LentRows.{cardsNamed, heldFrom}
+use Rattle.definition.proofs.CleanCards.{Clean, unnamed-parts, clean-part, clean-heading}
 use Rattle.stored.specs.Stored.{ignoredIn, headOf, heads}
 use Rattle.stored.proofs.Lists.{all-append, bytes-within, bytes-none}
-use Rattle.stored.proofs.Fine.{Stands, Clean, unnamed-parts, fine-stands, fine-part, fine-heading, part-placed, no-heading}
+use Rattle.stored.proofs.Fine.{Stands, fine-stands, part-placed, no-heading}
 use Rattle.stored.proofs.Laid.{LaidRow, Laid}
 use Rattle.stored.proofs.Group.{heads-part, heads-heading, heads-append}
 
@@ -202,11 +203,11 @@ module _ (text : List ℕ) (base size : ℕ) (B G : ℕ → Bool) where
           (faultFrom text base size (i + 1) (some c) none cs ≡ none → Under (some c) none (rest .0) × All Ordered (rest .1)) →
           Under h s (heads B G (cardsNamed text n (c ∷ cs)) .0) × All Ordered (heads B G (cardsNamed text n (c ∷ cs)) .1)
       go true p under new =
-          let q = fine-part text base size i h s c cs p e in
+          let q = clean-part text base size i h s c cs p e in
           let r = under (q .1) in
           rw (named, heads-part B G (partFrom text n c) (cardsNamed text (n + 1) cs) (ap isPart kind ∙ p)) (part h p (q .0) (r .0), r .1)
       go false p under new =
-          let q = fine-heading text base size i h s c cs p e in
+          let q = clean-heading text base size i h s c cs p e in
           let r = new (q .1) in
           let f = fine-stands text base size i h s (c ∷ cs) e in
           rw (named, heads-heading B G (partFrom text n c) (cardsNamed text (n + 1) cs) (ap isPart kind ∙ p))

@@ -1,94 +1,18 @@
 -- What is known of cards in which no fault is found.
 use mathlib.Core.Path.{_≡_, refl}
 use mathlib.Core.List.{List, [], _∷_}
-use mathlib.Core.Bool.{Bool, true, false, _&&_, _||_, not}
+use mathlib.Core.Bool.{Bool, true, false, _||_, not}
 use mathlib.Core.Option.{Option, none, some}
 use Prim.Native.Nat.{ℕ, _+_, _≤_, _<_}
 use native.Mathlib.Omega.{arith}
 use lib.Dec.{eqb, ltb}
 use lib.ListN.{length}
-use borrow.Author.Tests.{ltb-true, ltb-false, eqb-true, not-false}
-use Rattle.definition.specs.Lists.{choose, found, All}
+use borrow.Author.Tests.{ltb-true, ltb-false, not-false}
+use Rattle.definition.specs.Lists.{found, All}
 use Rattle.definition.specs.Names.{isName, bytesAt}
-use Rattle.definition.specs.Answers.{answer}
-use Rattle.definition.specs.Cards.{Card, Place, isHeading, isPart, isUnnamed, itemEnd, nameEnd, extended, partOrder, placeIn, unknownKind, emptyItem, itemOutsideText, itemBeforeSiblingEnd, itemOutsideHeading, nameAmiss, nameOutsideItem, nameNoName, nameNotItem, misplacedUnder, misplaced, fault, faults, faultAmong, placeAfter, faultFrom}
+use Rattle.definition.specs.Cards.{Card, Place, isHeading, isPart, isUnnamed, extended, partOrder, placeIn, unknownKind, nameAmiss, nameNoName, misplacedUnder, misplaced, faultFrom}
+use Rattle.definition.proofs.CleanCards.{Clean, placed, item-within, name-within-item, clean-part, clean-heading}
 use Rattle.stored.proofs.Lists.{or-false, and-left-false}
-
-chosen-none : {A : Type 0} (b : Bool) (r : Option A) (x : A) → choose b r (some x) ≡ none → (b ≡ true) × (r ≡ none)
-chosen-none true r x e = (refl, e)
-chosen-none false r x e = (cc, cc)
-
-chosen-zero : (b : Bool) (n r : ℕ) → ltb 0 n ≡ true → choose b n r ≡ 0 → (b ≡ false) × (r ≡ 0)
-chosen-zero true n r p e = absurd (let h : 0 < n = ltb-true 0 n p in omega arith)
-chosen-zero false n r p e = (refl, e)
-
-pub unnamed-parts : (c : Card) → isUnnamed c ≡ true → (c .nameLen ≡ 0) × (c .nameAt ≡ 0)
-unfolding isUnnamed
-unnamed-parts c e = go (eqb (c .nameLen) 0) refl e
-  where
-    go : (b : Bool) → eqb (c .nameLen) 0 ≡ b → (b && eqb (c .nameAt) 0) ≡ true → (c .nameLen ≡ 0) × (c .nameAt ≡ 0)
-    go true p q = (eqb-true _ _ p, eqb-true _ _ q)
-    go false p q = absurd (let z : _≡_ {A = ℕ} 0 1 = cc in omega arith)
-
--- ---- A card without fault.
-
-pub record Clean (p : Place) (c : Card) : Type 0 where
-  pub known : unknownKind p c ≡ false
-  pub inText : itemOutsideText p c ≡ false
-  pub nameFits : nameAmiss p c ≡ false
-  pub nameInItem : nameOutsideItem p c ≡ false
-  pub nameIsName : nameNoName p c ≡ false
-  pub inPlace : misplaced p c ≡ false
-
-clean-of : (p : Place) (c : Card) → faultAmong p c faults ≡ 0 → Clean p c
-unfolding faultAmong faults fault
-clean-of p c e0 =
-    let q1 = chosen-zero (unknownKind p c) 2 _ refl e0 in
-    let q2 = chosen-zero (emptyItem p c) 3 _ refl (q1 .1) in
-    let q3 = chosen-zero (itemOutsideText p c) 3 _ refl (q2 .1) in
-    let q4 = chosen-zero (itemBeforeSiblingEnd p c) 3 _ refl (q3 .1) in
-    let q5 = chosen-zero (itemOutsideHeading p c) 3 _ refl (q4 .1) in
-    let q6 = chosen-zero (nameAmiss p c) 4 _ refl (q5 .1) in
-    let q7 = chosen-zero (nameOutsideItem p c) 4 _ refl (q6 .1) in
-    let q8 = chosen-zero (nameNoName p c) 4 _ refl (q7 .1) in
-    let q9 = chosen-zero (nameNotItem p c) 4 _ refl (q8 .1) in
-    let q10 = chosen-zero (misplaced p c) 5 _ refl (q9 .1) in
-    record { known = q1 .0; inText = q3 .0; nameFits = q6 .0; nameInItem = q7 .0; nameIsName = q8 .0; inPlace = q10 .0 }
-
-abbrev placed : List ℕ → ℕ → ℕ → Option Card → Option Card → Place
-placed bytes base size h s = record { bytes = bytes; base = base; size = size; heading = h; sibling = s }
-
-module _ (bytes : List ℕ) (base size i : ℕ) (h s : Option Card) (c : Card) (cs : List Card) where
-  place-part : isPart (c .kind) ≡ true → placeAfter bytes base size h s c ≡ placed bytes base size h s
-  unfolding placeAfter
-  place-part e = rw e
-
-  place-heading : isPart (c .kind) ≡ false → placeAfter bytes base size h s c ≡ placed bytes base size none h
-  unfolding placeAfter
-  place-heading e = rw e
-
-  fault-step : faultFrom bytes base size i h s (c ∷ cs) ≡
-      choose (eqb (faultAmong (placeAfter bytes base size h s c) c faults) 0)
-      (choose (isPart (c .kind)) (faultFrom bytes base size (i + 1) h (some c) cs) (faultFrom bytes base size (i + 1) (some c) none cs))
-      (some (answer (faultAmong (placeAfter bytes base size h s c) c faults) i))
-  unfolding faultFrom
-  fault-step = refl
-
-  pub fine-part : isPart (c .kind) ≡ true → faultFrom bytes base size i h s (c ∷ cs) ≡ none →
-      Clean (placed bytes base size h s) c × (faultFrom bytes base size (i + 1) h (some c) cs ≡ none)
-  fine-part e f =
-      let p = placed bytes base size h s in
-      let q = chosen-none (eqb (faultAmong p c faults) 0) (faultFrom bytes base size (i + 1) h (some c) cs) (answer (faultAmong p c faults) i)
-      (rw (fault-step, place-part e, e) at f) in
-      (clean-of p c (eqb-true _ _ (q .0)), q .1)
-
-  pub fine-heading : isPart (c .kind) ≡ false → faultFrom bytes base size i h s (c ∷ cs) ≡ none →
-      Clean (placed bytes base size none h) c × (faultFrom bytes base size (i + 1) (some c) none cs ≡ none)
-  fine-heading e f =
-      let p = placed bytes base size none h in
-      let q = chosen-none (eqb (faultAmong p c faults) 0) (faultFrom bytes base size (i + 1) (some c) none cs) (answer (faultAmong p c faults) i)
-      (rw (fault-step, place-heading e, e) at f) in
-      (clean-of p c (eqb-true _ _ (q .0)), q .1)
 
 -- ---- What each card keeps, whatever stands before it.
 
@@ -110,20 +34,6 @@ named-of p c e k =
     let q = or-false (eqb (c .kind) 1 || eqb (c .kind) 4) (eqb (c .kind) 11) k in
     let r = or-false (eqb (c .kind) 1) (eqb (c .kind) 4) (q .0) in
     rw (r .1, q .1, r .0) at e
-
-item-within : (bytes : List ℕ) (base size : ℕ) (h s : Option Card) (c : Card) → itemOutsideText (placed bytes base size h s) c ≡ false →
-    (base ≤ c .itemAt) × (c .itemAt + c .itemLen ≤ base + size)
-unfolding itemOutsideText itemEnd
-item-within bytes base size h s c e =
-    let q = or-false (ltb (c .itemAt) base) (ltb (base + size) (c .itemAt + c .itemLen)) e in
-    (ltb-false _ _ (q .0), ltb-false _ _ (q .1))
-
-name-within-item : (p : Place) (c : Card) → isUnnamed c ≡ false → nameOutsideItem p c ≡ false →
-    (c .itemAt ≤ c .nameAt) × (c .nameAt + c .nameLen ≤ c .itemAt + c .itemLen)
-unfolding nameOutsideItem itemEnd nameEnd
-name-within-item p c u e =
-    let q = or-false (ltb (c .nameAt) (c .itemAt)) (ltb (c .itemAt + c .itemLen) (c .nameAt + c .nameLen)) (rw u at e) in
-    (ltb-false _ _ (q .0), ltb-false _ _ (q .1))
 
 name-is-name : (bytes : List ℕ) (base size : ℕ) (h s : Option Card) (c : Card) → isUnnamed c ≡ false → nameNoName (placed bytes base size h s) c ≡ false →
     isName (bytesAt bytes (c .nameAt) (c .nameLen)) ≡ true
@@ -155,8 +65,8 @@ fine-stands bytes base size i h s (c ∷ cs) e =
         (faultFrom bytes base size (i + 1) h (some c) cs ≡ none → All (Stands bytes base size) cs) →
         (faultFrom bytes base size (i + 1) (some c) none cs ≡ none → All (Stands bytes base size) cs) →
         Stands bytes base size c × All (Stands bytes base size) cs
-    go true p under new = let q = fine-part bytes base size i h s c cs p e in (stands-of bytes base size h s c (q .0), under (q .1))
-    go false p under new = let q = fine-heading bytes base size i h s c cs p e in (stands-of bytes base size none h c (q .0), new (q .1))
+    go true p under new = let q = clean-part bytes base size i h s c cs p e in (stands-of bytes base size h s c (q .0), under (q .1))
+    go false p under new = let q = clean-heading bytes base size i h s c cs p e in (stands-of bytes base size none h c (q .0), new (q .1))
 
 -- ---- A part stands under a heading, in the order of its kinds.
 

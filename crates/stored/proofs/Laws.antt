@@ -19,9 +19,9 @@ use Rattle.definition.specs.Store.{StoredRow, rowFrom, documentCount, textUsed,
 use Rattle.definition.specs.LentRows.{held, nameNumbered}
 use Rattle.definition.specs.Lookups.{Span, span, spanIn}
 use Rattle.definition.specs.Outcomes.{partOf}
+use Rattle.definition.proofs.CleanCards.{unnamed-parts}
 use Rattle.stored.specs.Stored.{storedParts, cardKind, nameStart, nameSize, cardName, mayLackName, builtInCount, builtInAt, ignoredIn, ignoredAt, heads, storedHeadings, partsFrom}
 use Rattle.stored.proofs.Lists.{or-false, all-get, bytes-none}
-use Rattle.stored.proofs.Fine.{unnamed-parts}
 use Rattle.stored.proofs.Laid.{asked, Laid, laid, length-stored-cards}
 use Rattle.stored.proofs.Documents.{held-rows, headings-rows, ordered-rows, Ordered}
 use Rattle.stored.proofs.Spans.{Sound, sound-cards, Standing, span-stands, span-none}

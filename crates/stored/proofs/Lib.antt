@@ -1,4 +1,4 @@
--- Laws, Words and Group are for callers; the others serve them.
+-- Laws, Words and Group are for callers; the others serve them, Held the proofs over a reader.
 pub mod Lists
 pub mod Fine
 pub mod Laid
@@ -7,3 +7,4 @@ pub mod Documents
 pub mod Spans
 pub mod Words
 pub mod Laws
+pub mod Held

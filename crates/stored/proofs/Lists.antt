@@ -6,8 +6,8 @@ use mathlib.Core.Option.{none, some}
 use Prim.Native.Nat.{ℕ, zero, suc, _+_, _-_, _*_, _≤_, _<_}
 use native.Mathlib.Nat.{zero-sub, sub-zero, suc-sub-suc, mul-zero, mul-suc, add-comm}
 use native.Mathlib.Omega.{arith}
-use lib.ListN.{length, take, drop, getElem?, length-drop, drop-of-length-le}
-use lib.Seq.{drop-drop, take-take, take-nil, take-all}
+use lib.ListN.{length, take, drop, getElem?}
+use lib.Seq.{drop-drop, take-take, take-nil}
 use Rattle.definition.specs.Lists.{choose, chunks, All}
 use Rattle.definition.specs.Names.{bytesAt}
 
@@ -128,17 +128,3 @@ bytes-within text base size at m h k =
 pub bytes-none : (text : List ℕ) (at : ℕ) → bytesAt text at 0 ≡ []
 unfolding bytesAt
 bytes-none text at = refl
-
-pub bytes-past : (text : List ℕ) (at size : ℕ) → length text < at → [] ≡ bytesAt text at size
-unfolding bytesAt
-bytes-past text at size h = sym (ap (take size) (drop-of-length-le text {i = at} (omega arith)) ∙ take-nil size)
-
-pub bytes-rest : (text : List ℕ) (at size : ℕ) → length text - at < size → take (length text - at) (drop at text) ≡ bytesAt text at size
-unfolding bytesAt
-bytes-rest text at size h =
-    let e = length-drop at text in
-    take-all (length text - at) (drop at text) (omega arith) ∙ sym (take-all size (drop at text) (omega arith))
-
-pub bytes-part : (text : List ℕ) (at size : ℕ) → take (at + size - at) (drop at text) ≡ bytesAt text at size
-unfolding bytesAt
-bytes-part text at size = let e : at + size - at ≡ size = omega arith in ap (λ (m : ℕ). take m (drop at text)) e

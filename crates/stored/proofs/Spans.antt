@@ -15,8 +15,9 @@ use Rattle.definition.specs.Cards.{Card, isHeading, isPart, isUnnamed}
 use Rattle.definition.specs.Headings.{Document}
 use Rattle.definition.specs.Store.{StoredRow, unmoved, storedDocument, documentsFrom}
 use Rattle.definition.specs.Lookups.{Span, span, spanIn}
+use Rattle.definition.proofs.CleanCards.{unnamed-parts}
 use Rattle.stored.proofs.Lists.{all-append, all-get, all-to, get-past, get-take, get-drop, get-map}
-use Rattle.stored.proofs.Fine.{Stands, unnamed-parts, fine-stands}
+use Rattle.stored.proofs.Fine.{Stands, fine-stands}
 use Rattle.stored.proofs.Laid.{LaidRow, Laid}
 
 -- ---- Each card.

@@ -15,7 +15,7 @@ use Rattle.definition.specs.Cards.{Card, cardFrom, cardsFrom, isPart}
 use Rattle.definition.specs.Headings.{Part, Heading, nameOf, partFrom}
 use Rattle.definition.specs.Store.{StoredRow, rowFrom, documentCount, cardsUsed, storedRows, storedCards}
 use Rattle.definition.specs.LentRows.{cardsNamed, nameNumbered}
-use Rattle.stored.specs.Stored.{storedParts, kindNumbered, cardWord, cardKind, nameStart, nameSize, cardName, cardAt, builtInCount, builtInAt, ignoredIn, ignoredAt, headOf, heads, storedHeadings, isHead, partsFrom, storedHeadingsFrom, headingAt, isHeadCard, partRun, nextHeading}
+use Rattle.stored.specs.Stored.{storedParts, kindNumbered, cardWord, cardKind, nameStart, nameSize, cardName, cardAt, builtInCount, builtInAt, ignoredIn, ignoredAt, headOf, heads, storedHeadings, isHead, partsFrom, storedHeadingsFrom, headingAt, isHeadCard, partRun, headingFrom, nextCard, nextHeading}
 use Rattle.stored.proofs.Lists.{all-to, bytes-none, drop-get, get-inside, get-past, length-chunks, chunk-at}
 use Rattle.stored.proofs.Laid.{length-stored-cards}
 use Rattle.stored.proofs.Documents.{named-length, named-get, named-drop}
@@ -241,8 +241,8 @@ module _ (words : List ℕ) (n : ℕ) where
   pub run-stop : n < cardsUsed words → isPart (cardKind words n) ≡ false → n + partRun words n ≡ n
   run-stop h p = let e : partRun words n ≡ 0 = run-stored [] words n ∙ ap length (parts-stop [] words n h p) in omega arith
 
-  pub run-end : n ≡ cardsUsed words → n + partRun words n ≡ cardsUsed words
-  run-end h = let e : partRun words n ≡ 0 = run-stored [] words n ∙ ap length (parts-end [] words n (omega arith)) in omega arith
+  pub run-end : cardsUsed words ≤ n → n + partRun words n ≡ n
+  run-end h = let e : partRun words n ≡ 0 = run-stored [] words n ∙ ap length (parts-end [] words n h) in omega arith
 
 -- Between a position and the next heading there are parts alone.
 parts-done-at : (text words : List ℕ) (n : ℕ) → n < cardsUsed words → partsFrom (storedParts text words) (nextHeading words n) ≡ []
@@ -293,23 +293,37 @@ pub parts-between : (text words : List ℕ) (n m : ℕ) → n < m → m < nextHe
     partsFrom (storedParts text words) m ≡ cardAt text words m ∷ partsFrom (storedParts text words) (m + 1)
 parts-between text words n m a b = let u = next-inside words n in parts-next text words m (omega arith) (part-between words n m a b)
 
+-- The next card, and the first heading from there on.
+pub next-from : (words : List ℕ) (n : ℕ) → headingFrom words (nextCard words n) ≡ nextHeading words n
+unfolding headingFrom nextCard nextHeading
+next-from words n = go (ltb n (cardsUsed words))
+  where
+    go : (b : Bool) → choose b (n + 1) (cardsUsed words) + partRun words (choose b (n + 1) (cardsUsed words)) ≡ choose b (n + 1 + partRun words (n + 1)) (cardsUsed words)
+    go true = refl
+    go false = run-end words (cardsUsed words) (omega arith)
+
 -- The same where the number of cards was read.
 module _ (words : List ℕ) (n used : ℕ) (e : used ≡ cardsUsed words) where
-  pub next-over : used ≤ n → used ≡ nextHeading words n
-  next-over h = e ∙ sym (next-none words n (omega arith))
+  pub after-end : used ≤ n → used ≡ nextCard words n
+  unfolding nextCard
+  after-end h = rw (le-ltb n (cardsUsed words) (omega arith)) e
 
-  pub next-first : n < used → nextHeading words n ≡ n + 1 + partRun words (n + 1)
-  next-first h = next-of words n (omega arith)
+  pub after-here : n < used → n + 1 ≡ nextCard words n
+  unfolding nextCard
+  after-here h = rw (lt-ltb n (cardsUsed words) (omega arith))
 
   module _ (i : ℕ) (kind : ℕ) (k : kind ≡ cardKind words i) (p : Bool) (q : p ≡ isPart kind) where
-    pub next-here : nextHeading words n ≡ i + partRun words i → i < used → p ≡ false → i ≡ nextHeading words n
-    next-here inv h z = sym (inv ∙ run-stop words i (omega arith) (sym (ap isPart k) ∙ sym q ∙ z))
+    pub from-here : headingFrom words n ≡ headingFrom words i → i < used → p ≡ false → i ≡ headingFrom words n
+    unfolding headingFrom
+    from-here inv h z = sym (inv ∙ run-stop words i (omega arith) (sym (ap isPart k) ∙ sym q ∙ z))
 
-    pub next-step : nextHeading words n ≡ i + partRun words i → i < used → p ≡ true → nextHeading words n ≡ i + 1 + partRun words (i + 1)
-    next-step inv h z = inv ∙ run-next words i (omega arith) (sym (ap isPart k) ∙ sym q ∙ z)
+    pub from-step : headingFrom words n ≡ headingFrom words i → i < used → p ≡ true → headingFrom words n ≡ headingFrom words (i + 1)
+    unfolding headingFrom
+    from-step inv h z = inv ∙ run-next words i (omega arith) (sym (ap isPart k) ∙ sym q ∙ z)
 
-  pub next-last : (i : ℕ) → nextHeading words n ≡ i + partRun words i → i ≤ used → used ≤ i → i ≡ nextHeading words n
-  next-last i inv h l = sym (inv ∙ run-end words i (omega arith) ∙ (let z : cardsUsed words ≡ i = omega arith in z))
+  pub from-end : (i : ℕ) → headingFrom words n ≡ headingFrom words i → used ≤ i → i ≡ headingFrom words n
+  unfolding headingFrom
+  from-end i inv h = sym (inv ∙ run-end words i (omega arith))
 
 -- ---- The rows of the documents.
 

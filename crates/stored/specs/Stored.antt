@@ -29,6 +29,16 @@ cardWord words n k = choose (ltb n (cardsUsed words)) (getD words (cardsAt + car
 unfoldable pub cardKind : List ℕ → ℕ → ℕ
 cardKind words n = cardWord words n 0
 
+unfoldable pub itemStart : List ℕ → ℕ → ℕ
+itemStart words n = cardWord words n 1
+
+unfoldable pub itemSize : List ℕ → ℕ → ℕ
+itemSize words n = cardWord words n 2
+
+-- The bytes of a card's item, as far as the text reaches.
+unfoldable pub cardItem : List ℕ → List ℕ → ℕ → List ℕ
+cardItem text words n = bytesAt text (itemStart words n) (itemSize words n)
+
 unfoldable pub nameStart : List ℕ → ℕ → ℕ
 nameStart words n = cardWord words n 3
 
@@ -104,6 +114,14 @@ isHeadCard c = not (isPart (c .kind))
 
 unfoldable pub partRun : List ℕ → ℕ → ℕ
 partRun words i = length (before isHeadCard (drop i (storedCards words)))
+
+-- The first position from i on that has no part.
+unfoldable pub headingFrom : List ℕ → ℕ → ℕ
+headingFrom words i = i + partRun words i
+
+-- The position after n, where n is one; else the number of cards.
+unfoldable pub nextCard : List ℕ → ℕ → ℕ
+nextCard words n = choose (ltb n (cardsUsed words)) (n + 1) (cardsUsed words)
 
 -- The first position after n that has a heading; the number of cards where there is none.
 unfoldable pub nextHeading : List ℕ → ℕ → ℕ

@@ -1,7 +1,7 @@
 -- Word 0 of the card.
 use Rattle.stored.specs.Stored.{cardKind}
-use Rattle.stored.proofs.card_kind.Statement.{statement}
-use Rattle.stored.proofs.card_kind.Tie as tie
+use Rattle.stored.proofs.kind_of.Statement.{statement}
+use Rattle.stored.proofs.kind_of.Tie as tie
 use borrow.Author.Needs.{needs}
 
 card-word-requires : tie.Need-card-word-requires
@@ -11,5 +11,5 @@ returns : tie.Need-returns
 unfolding cardKind
 returns c = c .card-word .ensures
 
-pub card-kind-spec : {M : Type 1} → statement M
-card-kind-spec = tie.close (tie.spec card-word-requires returns)
+pub kind-of-spec : {M : Type 1} → statement M
+kind-of-spec = tie.close (tie.spec card-word-requires returns)
