@@ -291,6 +291,9 @@ class Store:
         return tuple(self.words[CARD_WORDS + 5 * number:CARD_WORDS + 5 * number + 5])
 
     def name(self, number):
+        """Empty for a number that no stored card has, as a faulty row's may be."""
+        if number >= self.words[4]:
+            return b''
         _, _, _, name, size = self.card(number)
         return bytes(self.text[name:name + size])
 
@@ -588,15 +591,19 @@ def shown(row):
     return ' '.join('-' if word == NONE else str(word) for word in row)
 
 
-def listing(folder):
-    try:
-        _, catalogue = drawn(folder)
-    except Stopped as stopped:
-        return str(stopped)
+def listed(catalogue):
+    """What the listing program prints of a drawing."""
     rows, errors, reading = catalogue['rows'], catalogue['errors'], catalogue['reading']
     lines = [f'rows {len(rows)}'] + [shown(row) for row in rows]
     lines += [f'errors {reading} {len(errors) - reading}'] + [shown(error) for error in errors]
     return '\n'.join(lines) + '\n'
+
+
+def listing(folder):
+    try:
+        return listed(drawn(folder)[1])
+    except Stopped as stopped:
+        return str(stopped)
 
 
 def answer(store, words, line):

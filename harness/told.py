@@ -1,0 +1,133 @@
+"""What others than the model say of an answer: the oracle, and for 22 and 26 a second telling."""
+import os
+import re
+import struct
+import subprocess
+import tempfile
+
+import model
+from model import NONE
+
+HERE = os.path.dirname(os.path.abspath(__file__))
+ORACLE = os.path.join(HERE, 'target', 'oracle')
+
+
+def shown(words):
+    return ' '.join('-' if word == NONE else str(word) for word in words)
+
+
+def field_words(told):
+    """The four numbers of `type_field`'s answer."""
+    words = told.split(' ')
+    if words[0] == 'found':
+        return 0, 1, 0, int(words[1])
+    if words[0] == 'meta':
+        return 0, 1, int(words[1]), NONE
+    return (0, 2, NONE, NONE) if words[1] == 'type' else (0, 3, NONE, int(words[2]))
+
+
+# The oracle
+
+def question_of(word, first, second):
+    """A question, or None for names that the oracle can't be asked about."""
+    try:
+        return f'{word} {first.decode()} {second.decode()}'
+    except UnicodeDecodeError:
+        return None
+
+
+def asked(what, documents, adopt, questions=()):
+    """What the oracle prints for documents with their ignore switches."""
+    with tempfile.TemporaryDirectory() as folder:
+        for number, (text, words, _) in enumerate(documents):
+            with open(os.path.join(folder, f'd{number}.txt'), 'wb') as target:
+                target.write(text)
+            with open(os.path.join(folder, f'd{number}.crd'), 'wb') as target:
+                target.write(struct.pack(f'<{len(words)}I', *words))
+        ignored = [f'ignore {number}\n' for number, document in enumerate(documents) if document[2]]
+        with open(os.path.join(folder, 'turns'), 'w') as target:
+            target.write(('adopt 1\n' if adopt else '') + ''.join(ignored[:1]))
+        with open(os.path.join(folder, 'questions'), 'w') as target:
+            target.write(''.join(question + '\n' for question in questions))
+        done = subprocess.run([ORACLE, what, folder], capture_output=True)
+        return done.stdout.decode() + done.stderr.decode()
+
+
+def is_answer(line, question, got, call):
+    """Whether the oracle's line says what the model does; groups in any order."""
+    word = question.split(' ')[0]
+    if word == 'field':
+        return field_words(line) == tuple(got)
+    if word == 'subtype':
+        return line == ('yes' if got[1] else 'no')
+    if word == 'root':
+        return line.encode() == call.split(b' ')[2]
+    if word == 'implementers':
+        return sorted(line.split(' : ')[1:]) == sorted(shown(group) for group in groups_in(got[2:])) and int(line.split(' ')[0]) == got[1]
+    return line == shown(got[1:])
+
+
+def groups_in(words):
+    groups, at = [], 0
+    while at < len(words):
+        end = at + 3 + words[at + 1] + words[at + 2]
+        groups.append(words[at:end])
+        at = end
+    return groups
+
+
+# 22 and 26 told in another way than the model does
+
+def can_be_left(store):
+    """Whether filing anew the documents that a store speaks of, with its switches, leaves that store."""
+    words, fresh, first = store.words, model.Store(), 0
+    if not 1 <= words[0] <= model.DOCUMENTS:
+        return False
+    for index in range(words[0]):
+        offset, length, count, ignore = store.row(index)
+        if offset + length > model.TEXT or first + count > model.CARDS:
+            return False
+        lent = []
+        for number in range(first, first + count):
+            kind, item, size, name, name_size = store.card(number)
+            lent += [kind, item - offset, size] + ([0, 0] if (name, name_size) == (0, 0) else [name - offset, name_size])
+        if index and ignore:
+            fresh.turn_on(2)
+        filing = fresh.file if index else fresh.open
+        if min(lent, default=0) < 0 or filing(bytes(store.text[offset:offset + length]), lent) != (0, 0):
+            return False
+        first += count
+    for switch in (1, 2):
+        if words[switch]:
+            fresh.turn_on(switch)
+    used = list(range(model.DOCUMENT_ROWS + 4 * words[0])) + list(range(model.CARD_WORDS, model.CARD_WORDS + 5 * first))
+    return all(fresh.words[index] == words[index] for index in used) and fresh.text[:fresh.words[3]] == store.text[:fresh.words[3]]
+
+
+LETTERS = {4: 's', 20: 'u', 26: 'q', 27: 'm', 28: 'b', 3: 'd', 5: 'S', 6: 'O', 7: 'I', 8: 'U', 9: 'E', 10: 'N', 21: 'i', 22: 'f', 23: 'v', 24: 'e',
+           25: 'n'}
+IN_ORDER = re.compile('su*q?m?b?d*(Su*|[OI]i*u*f*|Uu*v*|Eu*e*|Nu*n*)*')
+
+
+def are_rows_drawable(store, words):
+    """Whether 26 lets rows pass: the order of kinds as an expression, the other clauses one by one."""
+    rows = [words[at:at + 3] for at in range(0, len(words), 3)]
+    kinds = {number: store.card(number)[0] for number in range(store.words[4])}
+    if len(words) % 3 or not IN_ORDER.fullmatch(''.join(LETTERS.get(row[0], '?') for row in rows)):
+        return False
+    cards = [card for _, card, _ in rows if card in kinds]
+    if len(cards) != len(set(cards)):
+        return False
+    for what, card, origin in rows:
+        if origin != NONE and kinds.get(origin, 0) not in range(11, 18):
+            return False
+        if card == NONE and what == 4:
+            continue
+        if card == NONE:
+            name = {26: b'Query', 27: b'Mutation', 28: b'Subscription'}.get(what)
+            named = [kind for kind, number, _ in rows if kind in range(5, 11) and number in kinds and store.name(number) == name]
+            if name is None or origin != NONE or named[:1] != [6]:
+                return False
+        elif kinds.get(card) != (what + 7 if what in range(5, 11) and origin != NONE else what):
+            return False
+    return True
