@@ -19,8 +19,9 @@ use Rattle.stored.specs.Stored.{cardKind, cardName, builtInAt, ignoredAt}
 use Rattle.errors.specs.Pushing.{Ledger, pushAll, Room}
 use Rattle.errors.specs.Standing.{View, standsFor, clashUnder, mergeErrors}
 use Rattle.errors.specs.ByCards.{collides, directiveErrorsAt, schemaMergeErrors, schemaErrorsAt, schemaExtensionErrorsAt, redefinitionErrorsAt, isEarly, earlyErrors, typeErrorsAt, lateErrorsAt, typeExtensionErrorsAt, errorsAtCard, readingAt, isOrphanOf, adoptionErrorsAt, unadoptedErrorsAt, orphanErrorsAt, unmetErrors, isBare, noSchemaErrorsAt, drawingAt}
-use Rattle.errors.specs.Views.{viewOf, cardView, cardsView}
-use Rattle.definition.proofs.Lists.{first-nil, first-yes, first-no}
+use Rattle.errors.specs.Views.{viewOf, cardView, cardsView, Ascending}
+use Rattle.definition.proofs.Lists.{flatMap-nil, flatMap-cons, first-nil, first-yes, first-no}
+use Rattle.definition.proofs.All.{all-to}
 use Rattle.errors.proofs.LawsMerge.{merge-owners}
 
 -- ---- Another name for what is pushed.
@@ -136,6 +137,16 @@ module _ (v : View) (rows : List ℕ) (h c : ℕ) where
   pub early-merged : c < h → v .kind c ≡ v .kind h + 7 → v .owner c ≡ h → earlyErrors v rows h c ≡ mergeErrors v rows (v .kind h) h c
   unfolding earlyErrors isEarly
   early-merged l e f = rw (lt-ltb c h l, eq-eqb (v .kind c) (v .kind h + 7) e, eq-eqb (v .owner c) h f)
+
+-- From the first extension on that is not before h, none is.
+all-late : (v : View) (rows : List ℕ) (h : ℕ) (xs : List ℕ) → All (λ c. h ≤ c) xs → flatMap (earlyErrors v rows h) xs ≡ []
+all-late v rows h [] a = flatMap-nil (earlyErrors v rows h)
+all-late v rows h (x ∷ xs) a = flatMap-cons (earlyErrors v rows h) x xs ∙ ap₂ (λ l m. l ++ m) (early-late v rows h x (a .0)) (all-late v rows h xs (a .1))
+
+pub none-early : (v : View) (rows : List ℕ) (h : ℕ) (xs : List ℕ) (i : ℕ) → Ascending xs → i < length xs → h ≤ getD xs i 0 → flatMap (earlyErrors v rows h) (drop i xs) ≡ []
+none-early v rows h [] i a l k = absurd (omega arith)
+none-early v rows h (x ∷ xs) zero a l k = all-late v rows h (x ∷ xs) (k, all-to (λ c. x < c) (λ c. h ≤ c) (λ c m. omega arith) xs (a .0))
+none-early v rows h (x ∷ xs) (suc i) a l k = none-early v rows h xs i (a .1) (omega arith) k
 
 -- ---- Types and their extensions.
 

@@ -5,6 +5,7 @@ pub mod LawsDrawn
 pub mod LawsKnown
 pub mod LawsLegal
 pub mod LawsMerge
+pub mod LawsPlaces
 pub mod LawsPush
 pub mod LawsReading
 pub mod LawsRepeats

@@ -1,5 +1,5 @@
 -- What a store and the owners say of cards by their numbers.
-use mathlib.Core.List.{List, []}
+use mathlib.Core.List.{List, [], _∷_}
 use Prim.Native.Nat.{ℕ, _+_, _≤_, _<_}
 use mathlib.Core.Path.{_≡_}
 use lib.ListN.{getD}
@@ -8,6 +8,7 @@ use Rattle.definition.specs.Store.{cardsUsed}
 use Rattle.stored.specs.Stored.{storedParts, cardKind, cardName, builtInAt, ignoredAt, partsFrom}
 use Rattle.index.specs.Index.{Printed}
 use Rattle.errors.specs.Standing.{View, rowAt}
+use Rattle.errors.specs.Placing.{Placed}
 
 abbrev pub viewOf : List ℕ → List ℕ → List ℕ → View
 viewOf text words owners = record {
@@ -33,10 +34,24 @@ pub record Merging (text words prints rows : List ℕ) (from k d : ℕ) : Type 0
   pub printed : Printed text words prints
   pub row : from ≡ rowAt k d rows
 
+-- What is asked where rows are searched for by cards: names can be compared, and no row of a heading begins before its card's place.
+pub record Searching (text words prints rows places : List ℕ) : Type 0 where
+  pub printed : Printed text words prints
+  pub placed : Placed rows places
+
 -- Every one is a stored card's number.
 abbrev pub Held : List ℕ → List ℕ → Type 0
 Held words cards = All (λ c. c < cardsUsed words) cards
 
+-- Every one is the number of a stored card with a heading's kind.
+abbrev pub HeldHeadings : List ℕ → List ℕ → Type 0
+HeldHeadings words cards = All (λ c. (c < cardsUsed words) × (cardKind words c ≤ 17)) cards
+
 -- Every one is the number of a stored card with an extension's kind.
 abbrev pub HeldExtensions : List ℕ → List ℕ → Type 0
-HeldExtensions words cards = All (λ c. (c < cardsUsed words) × (7 ≤ cardKind words c)) cards
+HeldExtensions words cards = All (λ c. (c < cardsUsed words) × (7 ≤ cardKind words c) × (cardKind words c ≤ 17)) cards
+
+-- Each is below those after it.
+abbrev pub Ascending : List ℕ → Type 0
+Ascending [] = Unit {0}
+Ascending (x ∷ xs) = All (λ y. x < y) xs × Ascending xs

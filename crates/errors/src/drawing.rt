@@ -13,7 +13,7 @@ ghost use Rattle.stored.specs.Stored.{cardKind};
 ghost use Rattle.index.specs.Index.{Printed};
 ghost use Rattle.errors.specs.Pushing.{ledger, pushAll, Room};
 ghost use Rattle.errors.specs.ByCards.{isOrphanOf, adoptionErrorsAt, unadoptedErrorsAt, orphanErrorsAt, unmetErrors, isBare, noSchemaErrorsAt, drawingAt};
-ghost use Rattle.errors.specs.Views.{viewOf, cardView, Merging, Held, HeldExtensions};
+ghost use Rattle.errors.specs.Views.{viewOf, cardView, Merging, Searching, Held, HeldExtensions};
 
 // Whether the card is a type extension without a definition that has the name of g.
 fn is_orphan_of(
@@ -67,15 +67,16 @@ fn adoption_errors(
     owners: &[u32],
     extensions: &[u32],
     rows: &[u32],
+    places: &[u32],
     g: u32,
     errors: &mut [u32],
     t: Tallies,
 ) -> Tallies
-    requires { ⌜ Printed (now text) (now words) (now prints) × (g < cardsUsed (now words)) × (7 ≤ cardKind (now words) g) × Held (now words) (now extensions) × Room (ledger (now errors) t) (flatMap (adoptionErrorsAt (viewOf (now text) (now words) (now owners)) (now rows) g) (now extensions)) ⌝ }
+    requires { ⌜ Searching (now text) (now words) (now prints) (now rows) (now places) × (g < cardsUsed (now words)) × (7 ≤ cardKind (now words) g) × (cardKind (now words) g ≤ 17) × Held (now words) (now extensions) × Room (ledger (now errors) t) (flatMap (adoptionErrorsAt (viewOf (now text) (now words) (now owners)) (now rows) g) (now extensions)) ⌝ }
     ensures { λ r. ⌜ ledger (now (errors .exit)) r ≡ pushAll (ledger (now (errors .entry)) t) (flatMap (adoptionErrorsAt (viewOf (now (text .entry)) (now (words .entry)) (now (owners .entry))) (now (rows .entry)) g) (now (extensions .entry))) ⌝ }
 {
     let kind = stored::card_kind(words, g as usize) - 7;
-    let from = merging::row_at(rows, kind, g);
+    let from = merging::row_at(rows, places, kind, g);
     let mut t = t;
     let mut i = 0;
     while i < extensions.len() {
@@ -150,15 +151,27 @@ fn orphan_errors(
     owners: &[u32],
     extensions: &[u32],
     rows: &[u32],
+    places: &[u32],
     g: u32,
     errors: &mut [u32],
     t: Tallies,
 ) -> Tallies
-    requires { ⌜ Printed (now text) (now words) (now prints) × (g < cardsUsed (now words)) × (7 ≤ cardKind (now words) g) × Held (now words) (now extensions) × Room (ledger (now errors) t) (orphanErrorsAt adopt (viewOf (now text) (now words) (now owners)) (now rows) (now extensions) g) ⌝ }
+    requires { ⌜ Searching (now text) (now words) (now prints) (now rows) (now places) × (g < cardsUsed (now words)) × (7 ≤ cardKind (now words) g) × (cardKind (now words) g ≤ 17) × Held (now words) (now extensions) × Room (ledger (now errors) t) (orphanErrorsAt adopt (viewOf (now text) (now words) (now owners)) (now rows) (now extensions) g) ⌝ }
     ensures { λ r. ⌜ ledger (now (errors .exit)) r ≡ pushAll (ledger (now (errors .entry)) t) (orphanErrorsAt adopt (viewOf (now (text .entry)) (now (words .entry)) (now (owners .entry))) (now (rows .entry)) (now (extensions .entry)) g) ⌝ }
 {
     if adopt {
-        return adoption_errors(text, words, prints, owners, extensions, rows, g, errors, t);
+        return adoption_errors(
+            text,
+            words,
+            prints,
+            owners,
+            extensions,
+            rows,
+            places,
+            g,
+            errors,
+            t,
+        );
     }
     unadopted_errors(text, words, prints, owners, extensions, g, errors, t)
 }
@@ -172,11 +185,12 @@ fn all_orphan_errors(
     owners: &[u32],
     extensions: &[u32],
     rows: &[u32],
+    places: &[u32],
     orphans: &[u32],
     errors: &mut [u32],
     t: Tallies,
 ) -> Tallies
-    requires { ⌜ Printed (now text) (now words) (now prints) × Held (now words) (now extensions) × HeldExtensions (now words) (now orphans) × Room (ledger (now errors) t) (flatMap (orphanErrorsAt adopt (viewOf (now text) (now words) (now owners)) (now rows) (now extensions)) (now orphans)) ⌝ }
+    requires { ⌜ Searching (now text) (now words) (now prints) (now rows) (now places) × Held (now words) (now extensions) × HeldExtensions (now words) (now orphans) × Room (ledger (now errors) t) (flatMap (orphanErrorsAt adopt (viewOf (now text) (now words) (now owners)) (now rows) (now extensions)) (now orphans)) ⌝ }
     ensures { λ r. ⌜ ledger (now (errors .exit)) r ≡ pushAll (ledger (now (errors .entry)) t) (flatMap (orphanErrorsAt adopt (viewOf (now (text .entry)) (now (words .entry)) (now (owners .entry))) (now (rows .entry)) (now (extensions .entry))) (now (orphans .entry))) ⌝ }
 {
     let mut t = t;
@@ -190,6 +204,7 @@ fn all_orphan_errors(
             owners,
             extensions,
             rows,
+            places,
             orphans[i],
             errors,
             t,
@@ -275,12 +290,13 @@ pub fn drawing_errors(
     owners: &[u32],
     extensions: &[u32],
     rows: &[u32],
+    places: &[u32],
     orphans: &[u32],
     heads: &[u32],
     errors: &mut [u32],
     t: Tallies,
 ) -> Tallies
-    requires { ⌜ Printed (now text) (now words) (now prints) × Held (now words) (now extensions) × HeldExtensions (now words) (now orphans) × Room (ledger (now errors) t) (drawingAt adopt (viewOf (now text) (now words) (now owners)) (now rows) (getD (now rows) 1 0) (now extensions) (now orphans) (now heads)) ⌝ }
+    requires { ⌜ Searching (now text) (now words) (now prints) (now rows) (now places) × Held (now words) (now extensions) × HeldExtensions (now words) (now orphans) × Room (ledger (now errors) t) (drawingAt adopt (viewOf (now text) (now words) (now owners)) (now rows) (getD (now rows) 1 0) (now extensions) (now orphans) (now heads)) ⌝ }
     ensures { λ r. ⌜ ledger (now (errors .exit)) r ≡ pushAll (ledger (now (errors .entry)) t) (drawingAt adopt (viewOf (now (text .entry)) (now (words .entry)) (now (owners .entry))) (now (rows .entry)) (getD (now (rows .entry)) 1 0) (now (extensions .entry)) (now (orphans .entry)) (now (heads .entry))) ⌝ }
 {
     let t = all_orphan_errors(
@@ -291,6 +307,7 @@ pub fn drawing_errors(
         owners,
         extensions,
         rows,
+        places,
         orphans,
         errors,
         t,

@@ -1,19 +1,20 @@
 // from_ast.rs: the errors of a drawing, in the order in which the Rust pushes them. The finished rows tell which card stands for a name.
 use crate::drawing::drawing_errors;
+use crate::placing::place_rows;
 use crate::reading::reading_errors;
 use definition::Tallies;
 use index::Counts;
 ghost use mathlib.Core.List.{[], _++_};
 ghost use lib.ListN.{getD};
 ghost use Rattle.stored.specs.Stored.{storedHeadings};
-ghost use Rattle.index.specs.Index.{Printed};
 ghost use Rattle.errors.specs.Pushing.{ledger, noErrors, Room};
 ghost use Rattle.errors.specs.ByCards.{readingAt, drawingAt};
-ghost use Rattle.errors.specs.Views.{viewOf, Held, HeldExtensions};
+ghost use Rattle.errors.specs.Views.{viewOf, Searching, Held, HeldHeadings, HeldExtensions, Ascending};
 ghost use Rattle.errors.specs.Drawn.{ErrorsPushed, ErrorsAsked, ErrorsDrawn};
 
 mod drawing;
 mod merging;
+mod placing;
 mod pushing;
 mod reading;
 
@@ -42,14 +43,25 @@ fn push_errors(
     owners: &[u32],
     extensions: &[u32],
     rows: &[u32],
+    places: &[u32],
     orphans: &[u32],
     heads: &[u32],
     errors: &mut [u32],
 ) -> ErrorCounts
-    requires { ⌜ Printed (now text) (now words) (now prints) × Held (now words) (now heads) × Held (now words) (now extensions) × HeldExtensions (now words) (now orphans) × Room (ledger (now errors) noErrors) (readingAt (viewOf (now text) (now words) (now owners)) (now rows) (getD (now rows) 1 0) (now extensions) [] (now heads) ++ drawingAt adopt (viewOf (now text) (now words) (now owners)) (now rows) (getD (now rows) 1 0) (now extensions) (now orphans) (now heads)) ⌝ }
+    requires { ⌜ Searching (now text) (now words) (now prints) (now rows) (now places) × HeldHeadings (now words) (now heads) × Held (now words) (now extensions) × Ascending (now extensions) × HeldExtensions (now words) (now orphans) × Room (ledger (now errors) noErrors) (readingAt (viewOf (now text) (now words) (now owners)) (now rows) (getD (now rows) 1 0) (now extensions) [] (now heads) ++ drawingAt adopt (viewOf (now text) (now words) (now owners)) (now rows) (getD (now rows) 1 0) (now extensions) (now orphans) (now heads)) ⌝ }
     ensures { λ r. ⌜ ErrorsPushed (now (errors .entry)) (now (errors .exit)) r (readingAt (viewOf (now (text .entry)) (now (words .entry)) (now (owners .entry))) (now (rows .entry)) (getD (now (rows .entry)) 1 0) (now (extensions .entry)) [] (now (heads .entry))) (drawingAt adopt (viewOf (now (text .entry)) (now (words .entry)) (now (owners .entry))) (now (rows .entry)) (getD (now (rows .entry)) 1 0) (now (extensions .entry)) (now (orphans .entry)) (now (heads .entry))) ⌝ }
 {
-    let t = reading_errors(text, words, prints, owners, extensions, rows, heads, errors);
+    let t = reading_errors(
+        text,
+        words,
+        prints,
+        owners,
+        extensions,
+        rows,
+        places,
+        heads,
+        errors,
+    );
     let reading = t.total;
     let t = drawing_errors(
         adopt,
@@ -59,6 +71,7 @@ fn push_errors(
         owners,
         extensions,
         rows,
+        places,
         orphans,
         heads,
         errors,
@@ -71,7 +84,7 @@ fn push_errors(
     }
 }
 
-// Writes the errors of reading and then those of drawing, for a store whose rows are drawn.
+// Writes the errors of reading and then those of drawing, for a store whose rows are drawn. `places` is scratch.
 pub fn draw_errors(
     text: &[u8],
     words: &[u32],
@@ -84,6 +97,7 @@ pub fn draw_errors(
     adopt: bool,
     rows: &[u32],
     row_count: usize,
+    places: &mut [u32],
     errors: &mut [u32],
 ) -> ErrorCounts
     requires { ⌜ ErrorsAsked (now text) (now words) (now heads) (now prints) (now owners) (now orphans) (now extensions) counts adopt (now rows) «row_count» (now errors) ⌝ }
@@ -97,6 +111,7 @@ pub fn draw_errors(
     let rows = &rows[0..end];
     let orphans = &orphans[0..o];
     let heads = &heads[0..m];
+    place_rows(rows, places);
     push_errors(
         adopt,
         text,
@@ -105,6 +120,7 @@ pub fn draw_errors(
         owners,
         extensions,
         rows,
+        places,
         orphans,
         heads,
         errors,

@@ -1,18 +1,21 @@
 // Parts that are merged into a type or the schema: a part clashes where the finished rows have another card that stands for its name.
 use crate::Standing;
 use crate::pushing;
+use ast::kinds;
 use definition::Tallies;
 ghost use mathlib.Core.Path.{_≡_};
 ghost use mathlib.Core.Bool.{true};
-ghost use Prim.Native.Nat.{_≤_, _<_};
+ghost use Prim.Native.Nat.{_+_, _≤_, _<_};
+ghost use lib.ListN.{length, drop};
 ghost use Rattle.definition.specs.Lists.{flatMap};
-ghost use Rattle.definition.specs.Cards.{isPart, isRoot};
+ghost use Rattle.definition.specs.Cards.{isPart};
 ghost use Rattle.definition.specs.Errors.{clashNumber};
 ghost use Rattle.definition.specs.Store.{cardsUsed};
 ghost use Rattle.stored.specs.Stored.{cardKind, cardAt};
 ghost use Rattle.index.specs.Index.{Printed};
 ghost use Rattle.errors.specs.Pushing.{ledger, pushAll, Room};
 ghost use Rattle.errors.specs.Standing.{standsFor, standingUnder, rowAt, clashUnder, mergeErrors};
+ghost use Rattle.errors.specs.Placing.{Placed};
 ghost use Rattle.errors.specs.ByCards.{schemaMergeErrors};
 ghost use Rattle.errors.specs.Views.{cardView, Merging};
 
@@ -31,11 +34,12 @@ fn clash_number(kind: u32, part: u32) -> u32
     number
 }
 
-// Where the row of what and card begins, or the end of the rows.
-pub fn row_at(rows: &[u32], what: u32, card: u32) -> usize
+// Where the row of what and card begins, or the end of the rows; it does not begin before `from`.
+pub fn find_row(rows: &[u32], from: usize, what: u32, card: u32) -> usize
+    requires { ⌜ (from ≤ length (now rows)) × (rowAt what card (now rows) ≡ from + rowAt what card (drop from (now rows))) ⌝ }
     ensures { λ r. ⌜ r ≡ rowAt what card (now (rows .entry)) ⌝ }
 {
-    let mut i = 0;
+    let mut i = from;
     while i + 2 < rows.len() {
         if rows[i] == what {
             if rows[i + 1] == card {
@@ -47,13 +51,13 @@ pub fn row_at(rows: &[u32], what: u32, card: u32) -> usize
     i
 }
 
-fn is_root(kind: u32) -> bool
-    ensures { λ r. ⌜ r ≡ isRoot kind ⌝ }
+// The same for the row of a heading: the search begins at its card's place.
+pub fn row_at(rows: &[u32], places: &[u32], what: u32, card: u32) -> usize
+    requires { ⌜ Placed (now rows) (now places) × (what < 20) ⌝ }
+    ensures { λ r. ⌜ r ≡ rowAt what card (now (rows .entry)) ⌝ }
 {
-    if kind < 26 {
-        return false;
-    }
-    kind <= 28
+    let from = stored::word(places, card as usize) as usize;
+    find_row(rows, from, what, card)
 }
 
 // Whether the row of what and card stands for the part. Roots are told by their kind alone.
@@ -65,7 +69,7 @@ fn stands_for(text: &[u8], words: &[u32], prints: &[u32], part: u32, what: u32, 
     if what != kind {
         return false;
     }
-    if is_root(kind) {
+    if kinds::is_root(kind) {
         return true;
     }
     if stored::cards_used(words) <= card as usize {
@@ -230,7 +234,7 @@ pub fn merge_schema_extensions(
     requires { ⌜ Printed (now text) (now words) (now prints) × Room (ledger (now errors) t) (flatMap (schemaMergeErrors (cardView (now text) (now words)) (now rows) schema) (now heads)) ⌝ }
     ensures { λ r. ⌜ ledger (now (errors .exit)) r ≡ pushAll (ledger (now (errors .entry)) t) (flatMap (schemaMergeErrors (cardView (now (text .entry)) (now (words .entry))) (now (rows .entry)) schema) (now (heads .entry))) ⌝ }
 {
-    let from = row_at(rows, 4, schema);
+    let from = find_row(rows, 0, 4, schema);
     let mut t = t;
     let mut i = 0;
     while i < heads.len() {

@@ -5,7 +5,7 @@ use crate::pushing;
 use definition::Tallies;
 ghost use mathlib.Core.Path.{_≡_};
 ghost use mathlib.Core.List.{[]};
-ghost use Prim.Native.Nat.{_<_};
+ghost use Prim.Native.Nat.{_≤_, _<_};
 ghost use lib.ListN.{getD};
 ghost use Rattle.definition.specs.Lists.{flatMap};
 ghost use Rattle.definition.specs.Store.{cardsUsed};
@@ -13,7 +13,7 @@ ghost use Rattle.stored.specs.Stored.{cardKind};
 ghost use Rattle.index.specs.Index.{Printed};
 ghost use Rattle.errors.specs.Pushing.{ledger, noErrors, pushAll, Room};
 ghost use Rattle.errors.specs.ByCards.{collides, directiveErrorsAt, schemaErrorsAt, schemaExtensionErrorsAt, redefinitionErrorsAt, earlyErrors, typeErrorsAt, typeExtensionErrorsAt, errorsAtCard, readingAt};
-ghost use Rattle.errors.specs.Views.{viewOf, cardView, cardsView, Merging, Held};
+ghost use Rattle.errors.specs.Views.{viewOf, cardView, cardsView, Merging, Searching, Held, HeldHeadings, Ascending};
 
 // Whether the card is a directive definition that is not built-in and has the name of h.
 fn collides(text: &[u8], words: &[u32], prints: &[u32], h: u32, card: u32) -> bool
@@ -71,7 +71,7 @@ fn schema_errors(
     if schema < h {
         return pushing::push_error(errors, t, 2, h, schema);
     }
-    let from = merging::row_at(rows, 4, schema);
+    let from = merging::find_row(rows, 0, 4, schema);
     let t = merging::merge_errors(text, words, prints, rows, from, 4, schema, h, errors, t);
     merging::merge_schema_extensions(text, words, prints, rows, schema, before, errors, t)
 }
@@ -93,7 +93,7 @@ fn schema_extension_errors(
     if h <= schema {
         return t;
     }
-    let from = merging::row_at(rows, 4, schema);
+    let from = merging::find_row(rows, 0, 4, schema);
     merging::merge_errors(text, words, prints, rows, from, 4, schema, h, errors, t)
 }
 
@@ -135,12 +135,9 @@ fn early_extension_errors(
     errors: &mut [u32],
     t: Tallies,
 ) -> Tallies
-    requires { ⌜ Merging (now text) (now words) (now prints) (now rows) from kind h × (kind ≡ cardKind (now words) h) × Room (ledger (now errors) t) (earlyErrors (viewOf (now text) (now words) (now owners)) (now rows) h card) ⌝ }
+    requires { ⌜ Merging (now text) (now words) (now prints) (now rows) from kind h × (kind ≡ cardKind (now words) h) × (card < h) × Room (ledger (now errors) t) (earlyErrors (viewOf (now text) (now words) (now owners)) (now rows) h card) ⌝ }
     ensures { λ r. ⌜ ledger (now (errors .exit)) r ≡ pushAll (ledger (now (errors .entry)) t) (earlyErrors (viewOf (now (text .entry)) (now (words .entry)) (now (owners .entry))) (now (rows .entry)) h card) ⌝ }
 {
-    if h <= card {
-        return t;
-    }
     if stored::card_kind(words, card as usize) as usize != kind as usize + 7 {
         return t;
     }
@@ -150,7 +147,7 @@ fn early_extension_errors(
     merging::merge_errors(text, words, prints, rows, from, kind, h, card, errors, t)
 }
 
-// Those of all extensions before h.
+// Those of all extensions before h: they come first.
 fn early_errors(
     text: &[u8],
     words: &[u32],
@@ -158,19 +155,22 @@ fn early_errors(
     owners: &[u32],
     extensions: &[u32],
     rows: &[u32],
+    from: usize,
+    kind: u32,
     h: u32,
     errors: &mut [u32],
     t: Tallies,
 ) -> Tallies
-    requires { ⌜ Printed (now text) (now words) (now prints) × Room (ledger (now errors) t) (flatMap (earlyErrors (viewOf (now text) (now words) (now owners)) (now rows) h) (now extensions)) ⌝ }
+    requires { ⌜ Merging (now text) (now words) (now prints) (now rows) from kind h × (kind ≡ cardKind (now words) h) × Ascending (now extensions) × Room (ledger (now errors) t) (flatMap (earlyErrors (viewOf (now text) (now words) (now owners)) (now rows) h) (now extensions)) ⌝ }
     ensures { λ r. ⌜ ledger (now (errors .exit)) r ≡ pushAll (ledger (now (errors .entry)) t) (flatMap (earlyErrors (viewOf (now (text .entry)) (now (words .entry)) (now (owners .entry))) (now (rows .entry)) h) (now (extensions .entry))) ⌝ }
 {
-    let kind = stored::card_kind(words, h as usize);
-    let from = merging::row_at(rows, kind, h);
     let mut t = t;
     let mut i = 0;
     while i < extensions.len() {
         let card = extensions[i];
+        if h <= card {
+            return t;
+        }
         t = early_extension_errors(
             text,
             words,
@@ -197,20 +197,33 @@ fn type_errors(
     owners: &[u32],
     extensions: &[u32],
     rows: &[u32],
+    places: &[u32],
     h: u32,
     errors: &mut [u32],
     t: Tallies,
 ) -> Tallies
-    requires { ⌜ Printed (now text) (now words) (now prints) × Room (ledger (now errors) t) (typeErrorsAt (viewOf (now text) (now words) (now owners)) (now rows) (now extensions) h) ⌝ }
+    requires { ⌜ Searching (now text) (now words) (now prints) (now rows) (now places) × (cardKind (now words) h < 20) × Ascending (now extensions) × Room (ledger (now errors) t) (typeErrorsAt (viewOf (now text) (now words) (now owners)) (now rows) (now extensions) h) ⌝ }
     ensures { λ r. ⌜ ledger (now (errors .exit)) r ≡ pushAll (ledger (now (errors .entry)) t) (typeErrorsAt (viewOf (now (text .entry)) (now (words .entry)) (now (owners .entry))) (now (rows .entry)) (now (extensions .entry)) h) ⌝ }
 {
     if stored::word(owners, h as usize) < h {
         return redefinition_errors(words, owners, h, errors, t);
     }
     let kind = stored::card_kind(words, h as usize);
-    let from = merging::row_at(rows, kind, h);
+    let from = merging::row_at(rows, places, kind, h);
     let t = merging::merge_errors(text, words, prints, rows, from, kind, h, h, errors, t);
-    early_errors(text, words, prints, owners, extensions, rows, h, errors, t)
+    early_errors(
+        text,
+        words,
+        prints,
+        owners,
+        extensions,
+        rows,
+        from,
+        kind,
+        h,
+        errors,
+        t,
+    )
 }
 
 // A type extension before its definition waits; after one of another kind it is an error.
@@ -220,11 +233,12 @@ fn type_extension_errors(
     prints: &[u32],
     owners: &[u32],
     rows: &[u32],
+    places: &[u32],
     h: u32,
     errors: &mut [u32],
     t: Tallies,
 ) -> Tallies
-    requires { ⌜ Printed (now text) (now words) (now prints) × Room (ledger (now errors) t) (typeExtensionErrorsAt (viewOf (now text) (now words) (now owners)) (now rows) h) ⌝ }
+    requires { ⌜ Searching (now text) (now words) (now prints) (now rows) (now places) × (cardKind (now words) h ≤ 17) × Room (ledger (now errors) t) (typeExtensionErrorsAt (viewOf (now text) (now words) (now owners)) (now rows) h) ⌝ }
     ensures { λ r. ⌜ ledger (now (errors .exit)) r ≡ pushAll (ledger (now (errors .entry)) t) (typeExtensionErrorsAt (viewOf (now (text .entry)) (now (words .entry)) (now (owners .entry))) (now (rows .entry)) h) ⌝ }
 {
     let owner = stored::word(owners, h as usize);
@@ -235,7 +249,7 @@ fn type_extension_errors(
     if stored::card_kind(words, h as usize) as usize != kind as usize + 7 {
         return pushing::push_error(errors, t, 8, h, owner);
     }
-    let from = merging::row_at(rows, kind, owner);
+    let from = merging::row_at(rows, places, kind, owner);
     merging::merge_errors(text, words, prints, rows, from, kind, owner, h, errors, t)
 }
 
@@ -247,13 +261,14 @@ fn errors_at(
     owners: &[u32],
     extensions: &[u32],
     rows: &[u32],
+    places: &[u32],
     schema: u32,
     before: &[u32],
     h: u32,
     errors: &mut [u32],
     t: Tallies,
 ) -> Tallies
-    requires { ⌜ Printed (now text) (now words) (now prints) × (h < cardsUsed (now words)) × Held (now words) (now before) × Room (ledger (now errors) t) (errorsAtCard (viewOf (now text) (now words) (now owners)) (now rows) schema (now extensions) (now before) h) ⌝ }
+    requires { ⌜ Searching (now text) (now words) (now prints) (now rows) (now places) × (h < cardsUsed (now words)) × (cardKind (now words) h ≤ 17) × Held (now words) (now before) × Ascending (now extensions) × Room (ledger (now errors) t) (errorsAtCard (viewOf (now text) (now words) (now owners)) (now rows) schema (now extensions) (now before) h) ⌝ }
     ensures { λ r. ⌜ ledger (now (errors .exit)) r ≡ pushAll (ledger (now (errors .entry)) t) (errorsAtCard (viewOf (now (text .entry)) (now (words .entry)) (now (owners .entry))) (now (rows .entry)) schema (now (extensions .entry)) (now (before .entry)) h) ⌝ }
 {
     let kind = stored::card_kind(words, h as usize);
@@ -267,12 +282,23 @@ fn errors_at(
         return schema_errors(text, words, prints, rows, schema, before, h, errors, t);
     }
     if kind <= 10 {
-        return type_errors(text, words, prints, owners, extensions, rows, h, errors, t);
+        return type_errors(
+            text,
+            words,
+            prints,
+            owners,
+            extensions,
+            rows,
+            places,
+            h,
+            errors,
+            t,
+        );
     }
     if kind == 11 {
         return schema_extension_errors(text, words, prints, rows, schema, h, errors, t);
     }
-    type_extension_errors(text, words, prints, owners, rows, h, errors, t)
+    type_extension_errors(text, words, prints, owners, rows, places, h, errors, t)
 }
 
 // The errors of all headings in order. The row 4 comes first and has the schema definition's card.
@@ -283,10 +309,11 @@ pub fn reading_errors(
     owners: &[u32],
     extensions: &[u32],
     rows: &[u32],
+    places: &[u32],
     heads: &[u32],
     errors: &mut [u32],
 ) -> Tallies
-    requires { ⌜ Printed (now text) (now words) (now prints) × Held (now words) (now heads) × Room (ledger (now errors) noErrors) (readingAt (viewOf (now text) (now words) (now owners)) (now rows) (getD (now rows) 1 0) (now extensions) [] (now heads)) ⌝ }
+    requires { ⌜ Searching (now text) (now words) (now prints) (now rows) (now places) × HeldHeadings (now words) (now heads) × Ascending (now extensions) × Room (ledger (now errors) noErrors) (readingAt (viewOf (now text) (now words) (now owners)) (now rows) (getD (now rows) 1 0) (now extensions) [] (now heads)) ⌝ }
     ensures { λ r. ⌜ ledger (now (errors .exit)) r ≡ pushAll (ledger (now (errors .entry)) noErrors) (readingAt (viewOf (now (text .entry)) (now (words .entry)) (now (owners .entry))) (now (rows .entry)) (getD (now (rows .entry)) 1 0) (now (extensions .entry)) [] (now (heads .entry))) ⌝ }
 {
     let schema = stored::word(rows, 1);
@@ -302,6 +329,7 @@ pub fn reading_errors(
             owners,
             extensions,
             rows,
+            places,
             schema,
             before,
             h,

@@ -18,6 +18,7 @@ pub fn build_inner(text: &[u8], words: &[u32], rows: &mut [u32], errors: &mut [u
     let mut orphans = [0u32; 2300];
     let mut extensions = [0u32; 2300];
     let mut mine = [0u32; 2300];
+    let mut places = [0u32; 2300];
     let adopt = words[1] == 1;
     let counts = index::index(
         text,
@@ -54,6 +55,7 @@ pub fn build_inner(text: &[u8], words: &[u32], rows: &mut [u32], errors: &mut [u
         adopt,
         rows,
         used,
+        &mut places,
         errors,
     );
     let tallies = told.tallies;

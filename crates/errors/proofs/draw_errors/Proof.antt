@@ -1,14 +1,15 @@
 use native.Mathlib.Omega.{arith}
 use native.Mathlib.Nat.{sub-zero}
-use Rattle.errors.proofs.LawsDrawn.{heads-held, extensions-held, orphans-held, rows-inside, all-room, errors-drawn}
+use lib.ListN.{length-take}
+use Rattle.errors.proofs.LawsDrawn.{rows-inside, rows-few, push-asked, errors-drawn}
 use Rattle.errors.proofs.draw_errors.Statement.{statement}
 use Rattle.errors.proofs.draw_errors.Tie as tie
 use borrow.Author.Needs.{needs}
 
 mul-end : tie.Need-mul-end
 mul-end c =
-    let e = c .before .before .before .before .before .before .before .before .before .args in
-    let p = c .before .before .before .before .before .before .before .before .before .pre in
+    let e = c .before .before .before .before .before .before .before .before .before .before .args in
+    let p = c .before .before .before .before .before .before .before .before .before .before .pre in
     omega (arith, rows-inside (e .text .now) (e .words .now) (e .heads .now) (e .prints .now) (e .owners .now) (e .orphans .now) (e .extensions .now) (e .counts) (e .adopt) (e .rows .now) (e .row-count) (e .errors .now) p)
 
 sub-extensions : tie.Need-sub-extensions
@@ -28,8 +29,8 @@ part-rows-start c = search needs
 
 part-rows-end : tie.Need-part-rows-end
 part-rows-end c =
-    let e = c .before .before .before .before .before .before .before .before .before .before .args in
-    let p = c .before .before .before .before .before .before .before .before .before .before .pre in
+    let e = c .before .before .before .before .before .before .before .before .before .before .before .args in
+    let p = c .before .before .before .before .before .before .before .before .before .before .before .pre in
     rows-inside (e .text .now) (e .words .now) (e .heads .now) (e .prints .now) (e .owners .now) (e .orphans .now) (e .extensions .now) (e .counts) (e .adopt) (e .rows .now) (e .row-count) (e .errors .now) p
 
 sub-orphans : tie.Need-sub-orphans
@@ -50,19 +51,28 @@ part-heads-start c = search needs
 part-heads-end : tie.Need-part-heads-end
 part-heads-end c = search needs
 
+place-rows-requires : tie.Need-place-rows-requires
+place-rows-requires c κs =
+    let e = c .before .before .before .before .before .before .before .before .before .before .before .before .before .before .before .args in
+    let p = c .before .before .before .before .before .before .before .before .before .before .before .before .before .before .before .pre in
+    simp (sub-zero, length-take) (omega (arith, rows-few (e .text .now) (e .words .now) (e .heads .now) (e .prints .now) (e .owners .now) (e .orphans .now) (e .extensions .now) (e .counts) (e .adopt) (e .rows .now) (e .row-count) (e .errors .now) p))
+
 push-errors-requires : tie.Need-push-errors-requires
 push-errors-requires c κs =
-    let e = c .before .before .before .before .before .before .before .before .before .before .before .before .before .before .args in
-    let p = c .before .before .before .before .before .before .before .before .before .before .before .before .before .before .pre in
-    simp sub-zero (p .indexed .printed, heads-held (e .text .now) (e .words .now) (e .heads .now) (e .prints .now) (e .owners .now) (e .orphans .now) (e .extensions .now) (e .counts) (e .adopt) (e .rows .now) (e .row-count) (e .errors .now) p, extensions-held (e .text .now) (e .words .now) (e .heads .now) (e .prints .now) (e .owners .now) (e .orphans .now) (e .extensions .now) (e .counts) (e .adopt) (e .rows .now) (e .row-count) (e .errors .now) p, orphans-held (e .text .now) (e .words .now) (e .heads .now) (e .prints .now) (e .owners .now) (e .orphans .now) (e .extensions .now) (e .counts) (e .adopt) (e .rows .now) (e .row-count) (e .errors .now) p, all-room (e .text .now) (e .words .now) (e .heads .now) (e .prints .now) (e .owners .now) (e .orphans .now) (e .extensions .now) (e .counts) (e .adopt) (e .rows .now) (e .row-count) (e .errors .now) p)
+    let e = c .before .before .before .before .before .before .before .before .before .before .before .before .before .before .before .before .before .before .before .before .args in
+    let p = c .before .before .before .before .before .before .before .before .before .before .before .before .before .before .before .before .before .before .before .before .pre in
+    simp sub-zero (push-asked (e .text .now) (e .words .now) (e .heads .now) (e .prints .now) (e .owners .now) (e .orphans .now) (e .extensions .now) (e .counts) (e .adopt) (e .rows .now) (e .row-count) (e .errors .now) p _ (simp sub-zero at (c .before .before .before .before .place-rows .ensures)))
 
 same-length : tie.Need-same-length
 same-length c = search needs
 
+same-length-2 : tie.Need-same-length-2
+same-length-2 c = search needs
+
 returns : tie.Need-returns
 returns c =
-    let e = c .before .before .before .before .before .before .before .before .before .before .before .before .before .before .before .before .before .args in
-    let p = c .before .before .before .before .before .before .before .before .before .before .before .before .before .before .before .before .before .pre in
+    let e = c .before .before .before .before .before .before .before .before .before .before .before .before .before .before .before .before .before .before .before .before .before .before .before .args in
+    let p = c .before .before .before .before .before .before .before .before .before .before .before .before .before .before .before .before .before .before .before .before .before .before .before .pre in
     errors-drawn (e .text .now) (e .words .now) (e .heads .now) (e .prints .now) (e .owners .now) (e .orphans .now) (e .extensions .now) (e .counts) (e .adopt) (e .rows .now) (e .row-count) (e .errors .now) p _ _ (simp sub-zero at (c .before .before .push-errors .ensures))
 
 pub draw-errors-spec : {M : Type 1} → statement M
@@ -82,6 +92,8 @@ draw-errors-spec =
     sub-heads
     part-heads-start
     part-heads-end
+    place-rows-requires
     push-errors-requires
     same-length
+    same-length-2
     returns)

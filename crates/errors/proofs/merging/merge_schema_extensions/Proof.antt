@@ -17,8 +17,8 @@ Inv-loop text words prints rows schema heads errors₀ from t₀ i₀ errors t i
 abbrev μ-loop : tie.MeasureT-loop
 μ-loop text words prints rows schema heads errors₀ from t₀ i₀ errors t i = length heads - i
 
-row-at-requires : tie.Need-row-at-requires Inv-loop μ-loop
-row-at-requires c κs = search needs
+find-row-requires : tie.Need-find-row-requires Inv-loop μ-loop
+find-row-requires c κs = search needs
 
 loop-holds : tie.Need-loop-holds Inv-loop μ-loop
 loop-holds c = (refl, omega arith, going-start _ _ (c .before .before .before .before .before .before .before .pre .1))
@@ -33,7 +33,7 @@ merge-schema-extension-requires : tie.Need-merge-schema-extension-requires Inv-l
 merge-schema-extension-requires c κs =
     let e = c .before .before .before .before .before .before .before .before .before .before .before .args in
     let a = c .before .before .before .loop in
-    (record { printed = c .before .before .before .before .before .before .before .before .before .before .before .pre .0; row = c .before .before .before .before .row-at .ensures }, next-room _ _ _ _ _ _ (flat-next (schemaMergeErrors (cardView (e .text .now) (e .words .now)) (e .rows .now) (e .schema)) (e .heads .now) (a .i) (c .before .before .loop-test .taken)) (a .inv .2))
+    (record { printed = c .before .before .before .before .before .before .before .before .before .before .before .pre .0; row = c .before .before .before .before .find-row .ensures }, next-room _ _ _ _ _ _ (flat-next (schemaMergeErrors (cardView (e .text .now) (e .words .now)) (e .rows .now) (e .schema)) (e .heads .now) (a .i) (c .before .before .loop-test .taken)) (a .inv .2))
 
 add-i : tie.Need-add-i Inv-loop μ-loop
 add-i c = search needs
@@ -65,7 +65,7 @@ merge-schema-extensions-spec =
     (tie.spec
     Inv-loop
     μ-loop
-    row-at-requires
+    find-row-requires
     loop-holds
     mul-merge-schema-extension
     shared-slice-read-merge-schema-extension

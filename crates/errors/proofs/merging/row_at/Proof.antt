@@ -1,85 +1,22 @@
-use Prim.Native.Nat.{_+_, _≤_, _-_}
-use native.Mathlib.Omega.{arith}
-use mathlib.Core.Path.{_≡_}
-use mathlib.Core.Logic.{⊎-elim}
-use lib.ListN.{length, drop}
-use Rattle.errors.specs.Standing.{rowAt}
-use Rattle.errors.proofs.LawsTurns.{row-is, row-no-what, row-no-card, row-hit, row-miss, row-end}
+use Rattle.errors.proofs.LawsPlaces.{search-from}
+use borrow.Author.Needs.{needs}
 use Rattle.errors.proofs.merging.row_at.Statement.{statement}
 use Rattle.errors.proofs.merging.row_at.Tie as tie
-use borrow.Author.Needs.{needs}
 
-abbrev Inv-loop : tie.InvT-loop
-Inv-loop rows what card i₀ i = (i ≤ length rows) × (rowAt what card rows ≡ i + rowAt what card (drop i rows))
+word-requires : tie.Need-word-requires
+word-requires c κs = search needs
 
-abbrev μ-loop : tie.MeasureT-loop
-μ-loop rows what card i₀ i = length rows - i
+cast-from : tie.Need-cast-from
+cast-from c = search needs
 
-loop-holds : tie.Need-loop-holds Inv-loop μ-loop
-loop-holds c = (omega arith, omega arith)
+find-row-requires : tie.Need-find-row-requires
+find-row-requires c κs =
+    let e = c .before .before .before .args in
+    let p = c .before .before .before .pre in
+    search-from (e .rows .now) (e .places .now) (e .what) (e .card) _ (p .0) (p .1) (c .word .ensures)
 
-add-loop : tie.Need-add-loop Inv-loop μ-loop
-add-loop c = search needs
-
-mul-if1 : tie.Need-mul-if1 Inv-loop μ-loop
-mul-if1 c = search needs
-
-shared-slice-read-if1 : tie.Need-shared-slice-read-if1 Inv-loop μ-loop
-shared-slice-read-if1 c = search needs
-
-add-if2 : tie.Need-add-if2 Inv-loop μ-loop
-add-if2 c = search needs
-
-mul-if2 : tie.Need-mul-if2 Inv-loop μ-loop
-mul-if2 c = search needs
-
-shared-slice-read-if2 : tie.Need-shared-slice-read-if2 Inv-loop μ-loop
-shared-slice-read-if2 c = search needs
-
-returns : tie.Need-returns Inv-loop μ-loop
-returns c =
-    let a = c .before .before .before .before .before in
-    let e = c .before .before .before .before .before .before .args in
-    omega (arith, a .loop .inv .1, row-hit (e .what) (e .card) (e .rows .now) (a .loop .i) (c .before .before .before .before .loop-test .taken) (row-is (e .what) (e .card) _ _ (c .before .before .if1 .taken) (c .if2 .taken)))
-
-add-i : tie.Need-add-i Inv-loop μ-loop
-add-i c = search needs
-
-loop-less : tie.Need-loop-less Inv-loop μ-loop
-loop-less c = search needs
-
-loop-again : tie.Need-loop-again Inv-loop μ-loop
-loop-again c =
-    let a = c .before .before .before in
-    let e = c .before .before .before .before .args in (
-      omega arith,
-      ⊎-elim
-          (λ w. omega (arith, a .loop .inv .1, row-miss (e .what) (e .card) (e .rows .now) (a .loop .i) (c .before .before .loop-test .taken) (row-no-card (e .what) (e .card) _ _ (w .2 .left))))
-          (λ w. omega (arith, a .loop .inv .1, row-miss (e .what) (e .card) (e .rows .now) (a .loop .i) (c .before .before .loop-test .taken) (row-no-what (e .what) (e .card) _ _ (w .left))))
-          (c .if1 .came),
-    )
-
-returns-2 : tie.Need-returns-2 Inv-loop μ-loop
-returns-2 c =
-    let a = c .before in
-    let e = c .before .before .args in
-    omega (arith, a .loop .inv .1, row-end (e .what) (e .card) (e .rows .now) (a .loop .i) (c .loop-test .left))
+returns : tie.Need-returns
+returns c = search needs
 
 pub row-at-spec : {M : Type 1} → statement M
-row-at-spec =
-    tie.close
-    (tie.spec
-    Inv-loop
-    μ-loop
-    loop-holds
-    add-loop
-    mul-if1
-    shared-slice-read-if1
-    add-if2
-    mul-if2
-    shared-slice-read-if2
-    returns
-    add-i
-    loop-less
-    loop-again
-    returns-2)
+row-at-spec = tie.close (tie.spec word-requires cast-from find-row-requires returns)

@@ -19,13 +19,13 @@ returns c =
     let e = c .before .before .before .before .before .before .before .before .before .before .before .args in
     one-pushed _ _ _ _ (schema-second (cardView (e .text .now) (e .words .now)) (e .rows .now) (e .schema) (e .before .now) (e .h) (c .before .before .before .before .if1 .taken)) (c .before .before .push-error .ensures)
 
-row-at-requires : tie.Need-row-at-requires
-row-at-requires c κs = search needs
+find-row-requires : tie.Need-find-row-requires
+find-row-requires c κs = search needs
 
 merge-errors-requires : tie.Need-merge-errors-requires
 merge-errors-requires c κs =
     let e = c .before .before .before .before .before .before .before .before .before .args in (
-      record { printed = c .before .before .before .before .before .before .before .before .before .pre .0; row = c .before .row-at .ensures },
+      record { printed = c .before .before .before .before .before .before .before .before .before .pre .0; row = c .before .find-row .ensures },
       first-room _ (ledger (e .errors .now) (e .t)) _ _ _ (schema-first (cardView (e .text .now) (e .words .now)) (e .rows .now) (e .schema) (e .before .now) (e .h) (c .before .before .if1 .left)) (c .before .before .before .before .before .before .before .before .before .pre .1),
     )
 
@@ -51,7 +51,7 @@ schema-errors-spec =
     push-error-requires
     same-length
     returns
-    row-at-requires
+    find-row-requires
     merge-errors-requires
     merge-schema-extensions-requires
     same-length-2

@@ -10,13 +10,13 @@ returns c =
     let e = c .before .before .before .before .before .before .args in
     none-pushed _ _ (extension-waits (cardView (e .text .now) (e .words .now)) (e .rows .now) (e .schema) (e .h) (c .if1 .taken))
 
-row-at-requires : tie.Need-row-at-requires
-row-at-requires c κs = search needs
+find-row-requires : tie.Need-find-row-requires
+find-row-requires c κs = search needs
 
 merge-errors-requires : tie.Need-merge-errors-requires
 merge-errors-requires c κs =
     let e = c .before .before .before .before .before .before .before .before .args in
-    (record { printed = c .before .before .before .before .before .before .before .before .pre .0; row = c .before .row-at .ensures }, same-room _ _ _ (extension-merged (cardView (e .text .now) (e .words .now)) (e .rows .now) (e .schema) (e .h) (c .before .before .if1 .left)) (c .before .before .before .before .before .before .before .before .pre .1))
+    (record { printed = c .before .before .before .before .before .before .before .before .pre .0; row = c .before .find-row .ensures }, same-room _ _ _ (extension-merged (cardView (e .text .now) (e .words .now)) (e .rows .now) (e .schema) (e .h) (c .before .before .if1 .left)) (c .before .before .before .before .before .before .before .before .pre .1))
 
 same-length : tie.Need-same-length
 same-length c = search needs
@@ -28,4 +28,4 @@ returns-2 c =
 
 pub schema-extension-errors-spec : {M : Type 1} → statement M
 schema-extension-errors-spec =
-    tie.close (tie.spec returns row-at-requires merge-errors-requires same-length returns-2)
+    tie.close (tie.spec returns find-row-requires merge-errors-requires same-length returns-2)

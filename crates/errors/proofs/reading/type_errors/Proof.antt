@@ -1,3 +1,4 @@
+use native.Mathlib.Omega.{arith}
 use Rattle.errors.specs.Pushing.{ledger}
 use Rattle.errors.proofs.LawsPush.{first-room, second-room, both-pushed}
 use Rattle.errors.proofs.LawsBranches.{same-pushed, same-room, defined-again, defined-first}
@@ -10,35 +11,37 @@ word-requires c κs = search needs
 
 redefinition-errors-requires : tie.Need-redefinition-errors-requires
 redefinition-errors-requires c κs =
-    let e = c .before .before .before .before .before .before .before .before .before .before .args in
-    same-room _ _ _ (defined-again (e .text .now) (e .words .now) (e .owners .now) (e .rows .now) (e .extensions .now) (e .h) _ (c .before .before .word .ensures) (c .before .if1 .taken)) (c .before .before .before .before .before .before .before .before .before .before .pre .1)
+    let e = c .before .before .before .before .before .before .before .before .before .before .before .args in
+    same-room _ _ _ (defined-again (e .text .now) (e .words .now) (e .owners .now) (e .rows .now) (e .extensions .now) (e .h) _ (c .before .before .word .ensures) (c .before .if1 .taken)) (c .before .before .before .before .before .before .before .before .before .before .before .pre .3)
 
 same-length : tie.Need-same-length
 same-length c = search needs
 
 returns : tie.Need-returns
 returns c =
-    let e = c .before .before .before .before .before .before .before .before .before .before .before .before .before .args in
+    let e = c .before .before .before .before .before .before .before .before .before .before .before .before .before .before .args in
     same-pushed _ _ _ _ (defined-again (e .text .now) (e .words .now) (e .owners .now) (e .rows .now) (e .extensions .now) (e .h) _ (c .before .before .before .before .before .word .ensures) (c .before .before .before .before .if1 .taken)) (c .before .before .redefinition-errors .ensures)
 
 card-kind-requires : tie.Need-card-kind-requires
 card-kind-requires c κs = search needs
 
 row-at-requires : tie.Need-row-at-requires
-row-at-requires c κs = search needs
+row-at-requires c κs = (c .before .before .before .before .before .before .before .before .before .before .before .pre .0 .placed, omega (arith, c .card-kind .ensures, c .before .before .before .before .before .before .before .before .before .before .before .pre .1))
 
 merge-errors-requires : tie.Need-merge-errors-requires
 merge-errors-requires c κs =
-    let e = c .before .before .before .before .before .before .before .before .before .before .before .before .args in (
-      record { printed = c .before .before .before .before .before .before .before .before .before .before .before .before .pre .0; row = c .before .row-at .ensures },
-      first-room _ (ledger (e .errors .now) (e .t)) _ _ _ (defined-first (e .text .now) (e .words .now) (e .owners .now) (e .rows .now) (e .extensions .now) (e .h) _ (c .before .before .before .before .word .ensures) (c .before .before .before .if1 .left) _ (c .before .before .card-kind .ensures)) (c .before .before .before .before .before .before .before .before .before .before .before .before .pre .1),
+    let e = c .before .before .before .before .before .before .before .before .before .before .before .before .before .args in (
+      record { printed = c .before .before .before .before .before .before .before .before .before .before .before .before .before .pre .0 .printed; row = c .before .row-at .ensures },
+      first-room _ (ledger (e .errors .now) (e .t)) _ _ _ (defined-first (e .text .now) (e .words .now) (e .owners .now) (e .rows .now) (e .extensions .now) (e .h) _ (c .before .before .before .before .word .ensures) (c .before .before .before .if1 .left) _ (c .before .before .card-kind .ensures)) (c .before .before .before .before .before .before .before .before .before .before .before .before .before .pre .3),
     )
 
 early-errors-requires : tie.Need-early-errors-requires
 early-errors-requires c κs =
-    let e = c .before .before .before .before .before .before .before .before .before .before .before .before .before .before .before .before .args in (
-      c .before .before .before .before .before .before .before .before .before .before .before .before .before .before .before .before .pre .0,
-      second-room _ _ _ _ _ (defined-first (e .text .now) (e .words .now) (e .owners .now) (e .rows .now) (e .extensions .now) (e .h) _ (c .before .before .before .before .before .before .before .before .word .ensures) (c .before .before .before .before .before .before .before .if1 .left) _ (c .before .before .before .before .before .before .card-kind .ensures)) (c .before .before .before .merge-errors .ensures) (c .before .before .before .before .before .before .before .before .before .before .before .before .before .before .before .before .pre .1),
+    let e = c .before .before .before .before .before .before .before .before .before .before .before .before .before .before .before .before .before .args in (
+      record { printed = c .before .before .before .before .before .before .before .before .before .before .before .before .before .before .before .before .before .pre .0 .printed; row = c .before .before .before .before .before .row-at .ensures },
+      c .before .before .before .before .before .before .card-kind .ensures,
+      c .before .before .before .before .before .before .before .before .before .before .before .before .before .before .before .before .before .pre .2,
+      second-room _ _ _ _ _ (defined-first (e .text .now) (e .words .now) (e .owners .now) (e .rows .now) (e .extensions .now) (e .h) _ (c .before .before .before .before .before .before .before .before .word .ensures) (c .before .before .before .before .before .before .before .if1 .left) _ (c .before .before .before .before .before .before .card-kind .ensures)) (c .before .before .before .merge-errors .ensures) (c .before .before .before .before .before .before .before .before .before .before .before .before .before .before .before .before .before .pre .3),
     )
 
 same-length-2 : tie.Need-same-length-2
@@ -46,7 +49,7 @@ same-length-2 c = search needs
 
 returns-2 : tie.Need-returns-2
 returns-2 c =
-    let e = c .before .before .before .before .before .before .before .before .before .before .before .before .before .before .before .before .before .before .before .args in
+    let e = c .before .before .before .before .before .before .before .before .before .before .before .before .before .before .before .before .before .before .before .before .args in
     both-pushed _ _ _ _ _ (defined-first (e .text .now) (e .words .now) (e .owners .now) (e .rows .now) (e .extensions .now) (e .h) _ (c .before .before .before .before .before .before .before .before .before .before .before .word .ensures) (c .before .before .before .before .before .before .before .before .before .before .if1 .left) _ (c .before .before .before .before .before .before .before .before .before .card-kind .ensures)) _ (c .before .before .before .before .before .before .merge-errors .ensures) (c .before .before .early-errors .ensures)
 
 pub type-errors-spec : {M : Type 1} → statement M

@@ -1,3 +1,4 @@
+use native.Mathlib.Omega.{arith}
 use Rattle.errors.proofs.LawsPush.{none-pushed, one-pushed, one-fits}
 use Rattle.errors.proofs.LawsBranches.{same-pushed, same-room, late-waits, late-mismatch, late-merged}
 use Rattle.errors.proofs.reading.type_extension_errors.Statement.{statement}
@@ -9,7 +10,7 @@ word-requires c κs = search needs
 
 returns : tie.Need-returns
 returns c =
-    let e = c .before .before .before .before .before .before .before .before .args in
+    let e = c .before .before .before .before .before .before .before .before .before .args in
     none-pushed _ _ (late-waits (e .text .now) (e .words .now) (e .owners .now) (e .rows .now) (e .h) _ (c .before .word .ensures) (c .if1 .taken))
 
 cast-card-kind : tie.Need-cast-card-kind
@@ -32,31 +33,31 @@ add-if2 c = search needs
 
 push-error-requires : tie.Need-push-error-requires
 push-error-requires c κs =
-    let e = c .before .before .before .before .before .before .before .before .before .before .before .before .args in
-    one-fits _ _ _ (late-mismatch (e .text .now) (e .words .now) (e .owners .now) (e .rows .now) (e .h) _ (c .before .before .before .before .before .word .ensures) (c .before .before .before .before .if1 .left) _ (c .before .before .before .card-kind .ensures) _ (c .before .before .card-kind2 .ensures) (c .before .if2 .taken)) (c .before .before .before .before .before .before .before .before .before .before .before .before .pre .1)
+    let e = c .before .before .before .before .before .before .before .before .before .before .before .before .before .args in
+    one-fits _ _ _ (late-mismatch (e .text .now) (e .words .now) (e .owners .now) (e .rows .now) (e .h) _ (c .before .before .before .before .before .word .ensures) (c .before .before .before .before .if1 .left) _ (c .before .before .before .card-kind .ensures) _ (c .before .before .card-kind2 .ensures) (c .before .if2 .taken)) (c .before .before .before .before .before .before .before .before .before .before .before .before .before .pre .2)
 
 same-length : tie.Need-same-length
 same-length c = search needs
 
 returns-2 : tie.Need-returns-2
 returns-2 c =
-    let e = c .before .before .before .before .before .before .before .before .before .before .before .before .before .before .before .args in
+    let e = c .before .before .before .before .before .before .before .before .before .before .before .before .before .before .before .before .args in
     one-pushed _ _ _ _ (late-mismatch (e .text .now) (e .words .now) (e .owners .now) (e .rows .now) (e .h) _ (c .before .before .before .before .before .before .before .before .word .ensures) (c .before .before .before .before .before .before .before .if1 .left) _ (c .before .before .before .before .before .before .card-kind .ensures) _ (c .before .before .before .before .before .card-kind2 .ensures) (c .before .before .before .before .if2 .taken)) (c .before .before .push-error .ensures)
 
 row-at-requires : tie.Need-row-at-requires
-row-at-requires c κs = search needs
+row-at-requires c κs = (c .before .before .before .before .before .before .before .before .before .before .before .before .pre .0 .placed, omega (arith, c .if2 .left, c .before .card-kind2 .ensures, c .before .before .before .before .before .before .before .before .before .before .before .before .pre .1))
 
 merge-errors-requires : tie.Need-merge-errors-requires
 merge-errors-requires c κs =
-    let e = c .before .before .before .before .before .before .before .before .before .before .before .before .before .args in
-    (record { printed = c .before .before .before .before .before .before .before .before .before .before .before .before .before .pre .0; row = c .before .row-at .ensures }, same-room _ _ _ (late-merged (e .text .now) (e .words .now) (e .owners .now) (e .rows .now) (e .h) _ (c .before .before .before .before .before .before .word .ensures) (c .before .before .before .before .before .if1 .left) _ (c .before .before .before .before .card-kind .ensures) _ (c .before .before .before .card-kind2 .ensures) (c .before .before .if2 .left)) (c .before .before .before .before .before .before .before .before .before .before .before .before .before .pre .1))
+    let e = c .before .before .before .before .before .before .before .before .before .before .before .before .before .before .args in
+    (record { printed = c .before .before .before .before .before .before .before .before .before .before .before .before .before .before .pre .0 .printed; row = c .before .row-at .ensures }, same-room _ _ _ (late-merged (e .text .now) (e .words .now) (e .owners .now) (e .rows .now) (e .h) _ (c .before .before .before .before .before .before .word .ensures) (c .before .before .before .before .before .if1 .left) _ (c .before .before .before .before .card-kind .ensures) _ (c .before .before .before .card-kind2 .ensures) (c .before .before .if2 .left)) (c .before .before .before .before .before .before .before .before .before .before .before .before .before .before .pre .2))
 
 same-length-2 : tie.Need-same-length-2
 same-length-2 c = search needs
 
 returns-3 : tie.Need-returns-3
 returns-3 c =
-    let e = c .before .before .before .before .before .before .before .before .before .before .before .before .before .before .before .before .args in
+    let e = c .before .before .before .before .before .before .before .before .before .before .before .before .before .before .before .before .before .args in
     same-pushed _ _ _ _ (late-merged (e .text .now) (e .words .now) (e .owners .now) (e .rows .now) (e .h) _ (c .before .before .before .before .before .before .before .before .before .word .ensures) (c .before .before .before .before .before .before .before .before .if1 .left) _ (c .before .before .before .before .before .before .before .card-kind .ensures) _ (c .before .before .before .before .before .before .card-kind2 .ensures) (c .before .before .before .before .before .if2 .left)) (c .before .before .merge-errors .ensures)
 
 pub type-extension-errors-spec : {M : Type 1} → statement M
