@@ -2,4 +2,3 @@ pub mod Drawings
 pub mod Refused
 pub mod Listed
 pub mod Roots
-pub mod Groups

@@ -8,14 +8,15 @@ use lib.Dec.{eqb, ltb}
 use lib.ListN.{length}
 use borrow.Author.Tests.{ne-eqb, lt-ltb, le-ltb, ltb-false}
 use Rattle.definition.specs.declared.Answer.{Answer}
-use Rattle.definition.specs.Lists.{choose, written}
+use Rattle.definition.specs.Lists.{choose, flatMap, written}
 use Rattle.definition.specs.Answers.{answer}
-use Rattle.definition.specs.Refusals.{originsRoom}
-use Rattle.definition.specs.LentRows.{lentRows}
-use Rattle.definition.specs.Lookups.{originList, extensionList}
-use Rattle.definition.specs.Outcomes.{ListOutcome, unlisted, listedIn, isShort, iter-origins, extensions}
+use Rattle.definition.specs.Refusals.{groupsRoom, originsRoom}
+use Rattle.definition.specs.Store.{accountIn}
+use Rattle.definition.specs.LentRows.{held, lentRows}
+use Rattle.definition.specs.Lookups.{originList, extensionList, groups, groupWords}
+use Rattle.definition.specs.Outcomes.{ListOutcome, unlisted, listedIn, isShort, iter-origins, extensions, implementers-map}
 use Rattle.collection.specs.Refused.{lookupRefusal, listRefusal}
-use Rattle.collection.proofs.Refused.{Unrefused, both, unrefused, one-number, iter-origins-by, extensions-by, outcome-refused, outcome-done}
+use Rattle.collection.proofs.Refused.{Unrefused, both, unrefused, one-number, iter-origins-by, extensions-by, implementers-map-by, outcome-refused, outcome-done}
 
 -- ---- The number, return by return. r is the number of the refusals before 7.
 
@@ -74,6 +75,11 @@ module _ (text words rows lent : List ℕ) where
 
   pub extensions-listed : ByNumber (listRefusal text words rows originsRoom (length lent)) lent (length (extensionList (lentRows rows))) (extensionList (lentRows rows)) (extensions text words rows lent)
   extensions-listed = listed originsRoom _ (extensionList (lentRows rows)) _ (extensions-by text words rows lent)
+
+  pub implementers-map-listed :
+      ByNumber (listRefusal text words rows groupsRoom (length lent)) lent (length (groups (held (accountIn text words .documents)) (lentRows rows))) (flatMap groupWords (groups (held (accountIn text words .documents)) (lentRows rows)))
+      (implementers-map text words rows lent)
+  implementers-map-listed = listed groupsRoom _ (flatMap groupWords (groups (held (accountIn text words .documents)) (lentRows rows))) _ (implementers-map-by text words rows lent)
 
 -- Return by return.
 module _ (n r : ℕ) (e : r ≡ n) (lent : List ℕ) (count : ℕ) (ws : List ℕ) (outcome : ListOutcome) (by : ByNumber n lent count ws outcome) where

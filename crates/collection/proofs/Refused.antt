@@ -59,9 +59,9 @@ rows-number ds ws e = go (eqb (length ws % 3) 0) (all (passes (held ds) (lentRow
     go false c e = refl
 
 module _ (text words rows : List ℕ) where
-  pub store-refused : (n : ℕ) → eqb (storeRefusal text words) 0 ≡ false → n ≡ storeRefusal text words → n ≡ lookupRefusal text words rows
+  pub store-refused : (n : ℕ) → n ≡ storeRefusal text words → (n ≡ 0 → ⊥) → n ≡ lookupRefusal text words rows
   unfolding lookupRefusal
-  store-refused n u e = rw (u, e)
+  store-refused n e z = rw (← e, ne-eqb n 0 z)
 
   module _ (s : storeRefusal text words ≡ 0) where
     pub rows-refused : eqb (rowsRefusal (accountIn text words .documents) rows) 0 ≡ false → 26 ≡ lookupRefusal text words rows

@@ -10,15 +10,10 @@ use store_check::StoreCheck;
 ghost use mathlib.Core.Path.{_≡_};
 ghost use mathlib.Core.List.{[]};
 ghost use Rattle.definition.specs.Store.{storeRefusal};
-ghost use Rattle.definition.specs.Outcomes.{open-store, add-ast, adopt-orphan-extensions, ignore-builtin-redefinitions, undrawn, build, root-operation, implementers-map};
-ghost use Rattle.collection.specs.Refused.{lookupRefusal};
+ghost use Rattle.definition.specs.Outcomes.{undrawn};
+ghost use Rattle.collection.specs.Refused.{lookupRefusal, listRefusal};
 ghost use Rattle.collection.specs.Room.{roomRefusal};
-ghost use Rattle.definition.specs.Outcomes.{check-rows};
-ghost use Rattle.definition.specs.Outcomes.{type-field};
-ghost use Rattle.definition.specs.Outcomes.{is-subtype};
-ghost use Rattle.definition.specs.Outcomes.{iter-origins};
-ghost use Rattle.definition.specs.Outcomes.{extensions};
-ghost use Rattle.collection.specs.Refused.{listRefusal};
+ghost use Rattle.collection.specs.Promised.{Opens, Files, Adopts, Ignores, Builds, ChecksRows, NamesRoot, FindsField, TellsSubtype, ListsOrigins, ListsExtensions, MapsImplementers};
 
 // The words that 7 asks of a slice for rows.
 const ROWS_ROOM: usize = 6912;
@@ -29,33 +24,33 @@ const ERRORS_ROOM: usize = 6900;
 // The words that 7 asks of a slice for groups.
 const GROUPS_ROOM: usize = 9200;
 
-// The words that a list of origins has at least.
+// The words that 7 asks of a slice for origins or extensions.
 const ORIGINS_ROOM: usize = 2304;
 
 // Files document 0 with both switches off, over whatever the store held.
 pub fn open(text: &mut [u8], words: &mut [u32], lent: &[u8], cards: &[u32]) -> Answer
-    ensures { λ r. ⌜ record { answer = r; text = now (text .exit); words = now (words .exit) } ≡ open-store (now (text .entry)) (now (words .entry)) (now (lent .entry)) (now (cards .entry)) ⌝ }
+    ensures { λ r. ⌜ Opens (now (text .entry)) (now (words .entry)) (now (lent .entry)) (now (cards .entry)) r (now (text .exit)) (now (words .exit)) ⌝ }
 {
     store::open(text, words, lent, cards)
 }
 
 // Files a document after those held.
 pub fn add_ast(text: &mut [u8], words: &mut [u32], lent: &[u8], cards: &[u32]) -> Answer
-    ensures { λ r. ⌜ record { answer = r; text = now (text .exit); words = now (words .exit) } ≡ add-ast (now (text .entry)) (now (words .entry)) (now (lent .entry)) (now (cards .entry)) ⌝ }
+    ensures { λ r. ⌜ Files (now (text .entry)) (now (words .entry)) (now (lent .entry)) (now (cards .entry)) r (now (text .exit)) (now (words .exit)) ⌝ }
 {
     store::add_ast(text, words, lent, cards)
 }
 
 // Extensions without a definition are adopted from now on.
 pub fn adopt_orphan_extensions(text: &[u8], words: &mut [u32]) -> Answer
-    ensures { λ r. ⌜ record { answer = r; text = now (text .exit); words = now (words .exit) } ≡ adopt-orphan-extensions (now (text .entry)) (now (words .entry)) ⌝ }
+    ensures { λ r. ⌜ Adopts (now (text .entry)) (now (words .entry)) r (now (text .exit)) (now (words .exit)) ⌝ }
 {
     store::adopt_orphan_extensions(text, words)
 }
 
 // Documents filed from now on may define the types of document 0 again.
 pub fn ignore_builtin_redefinitions(text: &[u8], words: &mut [u32]) -> Answer
-    ensures { λ r. ⌜ record { answer = r; text = now (text .exit); words = now (words .exit) } ≡ ignore-builtin-redefinitions (now (text .entry)) (now (words .entry)) ⌝ }
+    ensures { λ r. ⌜ Ignores (now (text .entry)) (now (words .entry)) r (now (text .exit)) (now (words .exit)) ⌝ }
 {
     store::ignore_builtin_redefinitions(text, words)
 }
@@ -77,7 +72,7 @@ fn refused_drawing(number: u32) -> Drawing
     }
 }
 
-// 21 and 22, or 0.
+// 21 and 22, which every call but opening asks first. 0 where neither holds.
 fn store_refusal(text: &[u8], words: &[u32]) -> u32
     ensures { λ r. ⌜ r ≡ storeRefusal (now (text .entry)) (now (words .entry)) ⌝ }
 {
@@ -87,7 +82,7 @@ fn store_refusal(text: &[u8], words: &[u32]) -> u32
     number
 }
 
-// 7 where a slice to be drawn into is too short, or 0.
+// 7 where a slice to be drawn into is too short, else 0.
 fn room_refusal(rows: usize, errors: usize) -> u32
     ensures { λ r. ⌜ r ≡ roomRefusal rows errors ⌝ }
 {
@@ -102,7 +97,7 @@ fn room_refusal(rows: usize, errors: usize) -> u32
 
 // Draws the store's documents: rows and errors, with their counts and tallies.
 pub fn build(text: &[u8], words: &[u32], rows: &mut [u32], errors: &mut [u32]) -> Drawing
-    ensures { λ r. ⌜ record { drawing = r; rows = now (rows .exit); errors = now (errors .exit) } ≡ build (now (text .entry)) (now (words .entry)) (now (rows .entry)) (now (errors .entry)) ⌝ }
+    ensures { λ r. ⌜ Builds (now (text .entry)) (now (words .entry)) (now (rows .entry)) (now (errors .entry)) r (now (rows .exit)) (now (errors .exit)) ⌝ }
 {
     let unsound = store_refusal(text, words);
     let short = room_refusal(rows.len(), errors.len());
@@ -119,7 +114,8 @@ pub fn build(text: &[u8], words: &[u32], rows: &mut [u32], errors: &mut [u32]) -
 fn refusal(text: &[u8], words: &[u32], rows: &[u32]) -> u32
     ensures { λ r. ⌜ r ≡ lookupRefusal (now (text .entry)) (now (words .entry)) (now (rows .entry)) ⌝ }
 {
-    if let StoreCheck::Refused(number) = store_check::check_store(text, words) {
+    let number = store_refusal(text, words);
+    if number != 0 {
         return number;
     }
     if !rows_check::check_lent_rows(text, words, rows) {
@@ -144,12 +140,27 @@ fn list_refusal(text: &[u8], words: &[u32], rows: &[u32], room: usize, len: usiz
 
 // What a lookup over this store and these rows is refused with, which tells a refused `root_operation` from one that found no root.
 pub fn check_rows(text: &[u8], words: &[u32], rows: &[u32]) -> Answer
-    ensures { λ r. ⌜ r ≡ check-rows (now (text .entry)) (now (words .entry)) (now (rows .entry)) ⌝ }
+    ensures { λ r. ⌜ ChecksRows (now (text .entry)) (now (words .entry)) (now (rows .entry)) r ⌝ }
 {
     Answer {
         number: refusal(text, words, rows),
         card: 0,
     }
+}
+
+// The name of a root operation's type, as a part of the store's text; empty where there is none or the call is refused.
+pub fn root_operation<'a>(
+    text: &'a [u8],
+    words: &[u32],
+    rows: &[u32],
+    op: OperationType,
+) -> &'a [u8]
+    ensures { λ r. ⌜ NamesRoot (now (text .entry)) (now (words .entry)) (now (rows .entry)) op (now r) ⌝ }
+{
+    if refusal(text, words, rows) != 0 {
+        return &text[0..0];
+    }
+    lookup::root_operation(text, words, rows, op)
 }
 
 // The field of a type, by both names.
@@ -160,7 +171,7 @@ pub fn type_field(
     type_name: &[u8],
     field: &[u8],
 ) -> FieldLookup
-    ensures { λ r. ⌜ r ≡ type-field (now (text .entry)) (now (words .entry)) (now (rows .entry)) (now («type_name» .entry)) (now (field .entry)) ⌝ }
+    ensures { λ r. ⌜ FindsField (now (text .entry)) (now (words .entry)) (now (rows .entry)) (now («type_name» .entry)) (now (field .entry)) r ⌝ }
 {
     let number = refusal(text, words, rows);
     if number != 0 {
@@ -177,7 +188,7 @@ pub fn is_subtype(
     general: &[u8],
     other: &[u8],
 ) -> SubtypeLookup
-    ensures { λ r. ⌜ r ≡ is-subtype (now (text .entry)) (now (words .entry)) (now (rows .entry)) (now (general .entry)) (now (other .entry)) ⌝ }
+    ensures { λ r. ⌜ TellsSubtype (now (text .entry)) (now (words .entry)) (now (rows .entry)) (now (general .entry)) (now (other .entry)) r ⌝ }
 {
     let number = refusal(text, words, rows);
     if number != 0 {
@@ -188,7 +199,7 @@ pub fn is_subtype(
 
 // Writes the origin of each part of the schema definition.
 pub fn iter_origins(text: &[u8], words: &[u32], rows: &[u32], list: &mut [u32]) -> Answer
-    ensures { λ r. ⌜ record { answer = r; list = now (list .exit) } ≡ iter-origins (now (text .entry)) (now (words .entry)) (now (rows .entry)) (now (list .entry)) ⌝ }
+    ensures { λ r. ⌜ ListsOrigins (now (text .entry)) (now (words .entry)) (now (rows .entry)) (now (list .entry)) r (now (list .exit)) ⌝ }
 {
     let number = list_refusal(text, words, rows, ORIGINS_ROOM, list.len());
     if number != 0 {
@@ -203,7 +214,7 @@ pub fn iter_origins(text: &[u8], words: &[u32], rows: &[u32], list: &mut [u32]) 
 
 // Writes the extensions that added to the schema definition, each once.
 pub fn extensions(text: &[u8], words: &[u32], rows: &[u32], list: &mut [u32]) -> Answer
-    ensures { λ r. ⌜ record { answer = r; list = now (list .exit) } ≡ extensions (now (text .entry)) (now (words .entry)) (now (rows .entry)) (now (list .entry)) ⌝ }
+    ensures { λ r. ⌜ ListsExtensions (now (text .entry)) (now (words .entry)) (now (rows .entry)) (now (list .entry)) r (now (list .exit)) ⌝ }
 {
     let number = list_refusal(text, words, rows, ORIGINS_ROOM, list.len());
     if number != 0 {
@@ -216,31 +227,13 @@ pub fn extensions(text: &[u8], words: &[u32], rows: &[u32], list: &mut [u32]) ->
     }
 }
 
-// The name of a root operation's type, as a part of the store's text; empty where there is none or the call is refused.
-pub fn root_operation<'a>(
-    text: &'a [u8],
-    words: &[u32],
-    rows: &[u32],
-    op: OperationType,
-) -> &'a [u8]
-    ensures { λ r. ⌜ now r ≡ root-operation (now (text .entry)) (now (words .entry)) (now (rows .entry)) op .bytes ⌝ }
-{
-    if refusal(text, words, rows) != 0 {
-        return &text[0..0];
-    }
-    lookup::root_operation(text, words, rows, op)
-}
-
 // The types that implement each interface, group by group. How many groups there are is answered.
 pub fn implementers_map(text: &[u8], words: &[u32], rows: &[u32], list: &mut [u32]) -> Answer
-    ensures { λ r. ⌜ record { answer = r; list = now (list .exit) } ≡ implementers-map (now (text .entry)) (now (words .entry)) (now (rows .entry)) (now (list .entry)) ⌝ }
+    ensures { λ r. ⌜ MapsImplementers (now (text .entry)) (now (words .entry)) (now (rows .entry)) (now (list .entry)) r (now (list .exit)) ⌝ }
 {
-    let number = refusal(text, words, rows);
+    let number = list_refusal(text, words, rows, GROUPS_ROOM, list.len());
     if number != 0 {
         return Answer { number, card: 0 };
-    }
-    if list.len() < GROUPS_ROOM {
-        return Answer { number: 7, card: 0 };
     }
     let groups = implementers::implementers_map(text, words, rows, list);
     Answer {

@@ -1,47 +1,30 @@
 use mathlib.Core.Path.{sym, _∙_}
+use borrow.Author.Needs.{needs}
 use borrow.Author.Tests.{not-true, not-false}
-use Rattle.store_check.proofs.Checked.{sound-store, refused-number, refused-store}
+use Rattle.store_check.proofs.Sound.{accepted}
 use Rattle.collection.proofs.Refused.{store-refused, rows-refused, none-refused}
 use Rattle.collection.proofs.refusal.Statement.{statement}
 use Rattle.collection.proofs.refusal.Tie as tie
-use borrow.Author.Needs.{needs}
 
-check-store-requires : tie.Need-check-store-requires
-check-store-requires c κs = search needs
-
-enum-known-number : tie.Need-enum-known-number
-enum-known-number c = search needs
+store-refusal-requires : tie.Need-store-refusal-requires
+store-refusal-requires c κs = search needs
 
 returns : tie.Need-returns
-returns c =
-    let k = c .before .before .before .check-store .ensures in
-    let e = c .before .number .given .1 in
-    store-refused _ _ _ _ (refused-store _ _ _ k _ e) (refused-number _ _ _ k _ e)
-
-enum-told : tie.Need-enum-told
-enum-told c = search needs
+returns c = store-refused _ _ _ _ (c .before .store-refusal .ensures) (c .if1 .taken)
 
 check-lent-rows-requires : tie.Need-check-lent-rows-requires
-check-lent-rows-requires c κs = sound-store _ _ _ (c .before .before .check-store .ensures) (c .enum-told .given .1) .sound
+check-lent-rows-requires c κs = accepted _ _ (sym (c .before .store-refusal .ensures) ∙ c .if1 .left) .1
 
 returns-2 : tie.Need-returns-2
 returns-2 c =
-    let s = sound-store _ _ _ (c .before .before .before .before .check-store .ensures) (c .before .before .enum-told .given .1) in
-    rows-refused _ _ _ (s .unrefused) (sym (c .before .check-lent-rows .ensures) ∙ not-true _ (c .if1 .taken))
+    let s = sym (c .before .before .before .store-refusal .ensures) ∙ c .before .before .if1 .left in
+    rows-refused _ _ _ s (sym (c .before .check-lent-rows .ensures) ∙ not-true _ (c .if2 .taken))
 
 returns-3 : tie.Need-returns-3
 returns-3 c =
-    let s = sound-store _ _ _ (c .before .before .before .before .check-store .ensures) (c .before .before .enum-told .given .1) in
-    none-refused _ _ _ (s .unrefused) (sym (c .before .check-lent-rows .ensures) ∙ not-false _ (c .if1 .left))
+    let s = sym (c .before .before .before .store-refusal .ensures) ∙ c .before .before .if1 .left in
+    none-refused _ _ _ s (sym (c .before .check-lent-rows .ensures) ∙ not-false _ (c .if2 .left))
 
 pub refusal-spec : {M : Type 1} → statement M
 refusal-spec =
-    tie.close
-    (tie.spec
-    check-store-requires
-    enum-known-number
-    returns
-    enum-told
-    check-lent-rows-requires
-    returns-2
-    returns-3)
+    tie.close (tie.spec store-refusal-requires returns check-lent-rows-requires returns-2 returns-3)
