@@ -6,3 +6,4 @@ pub mod Heads
 pub mod Owners
 pub mod Told
 pub mod Laws
+pub mod Spans

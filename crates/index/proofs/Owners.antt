@@ -10,7 +10,6 @@ use lib.Seq.{take-length}
 use borrow.Author.Tests.{leb-true, lt-leb}
 use Rattle.definition.specs.Lists.{keep, firsts, All}
 use Rattle.definition.specs.Cards.{isType}
-use Rattle.definition.specs.Refusals.{cardRoom}
 use Rattle.definition.specs.Store.{cardsUsed}
 use Rattle.stored.specs.Stored.{cardKind}
 use Rattle.stored.proofs.Lists.{and-true, all-to}
@@ -31,8 +30,8 @@ all-of : (P : ℕ → Type 0) (xs : List ℕ) → ((j : ℕ) → j < length xs �
 all-of P [] f = tt
 all-of P (x ∷ xs) f = (f 0 (omega arith), all-of P xs (λ j h. f (suc j) (omega arith)))
 
-module _ (text words prints cards owners₀ types₀ orphans₀ extensions₀ : List ℕ)
-    (a : OwnersAsked text words prints cards owners₀ types₀ orphans₀ extensions₀) where
+module _ (text words prints cards owners₀ types₀ orphans₀ extensions₀ typePrints₀ orphanPrints₀ : List ℕ)
+    (a : OwnersAsked text words prints cards owners₀ types₀ orphans₀ extensions₀ typePrints₀ orphanPrints₀) where
   all-stored : All (λ c. c < cardsUsed words) cards
   all-stored = all-of (λ c. c < cardsUsed words) cards (a .all-cards .stored)
 
@@ -57,15 +56,14 @@ module _ (text words prints cards owners₀ types₀ orphans₀ extensions₀ : 
           (all-keep (λ c. c < cardsUsed words) (isExtensionCard words) cards
           (all-to (λ c. c < cardsUsed words) (λ c. isExtensionCard words c ≡ true → c < cardsUsed words) (λ c h y. h) cards all-stored))
 
-      pub orphans-ready : (orphanPrints : List ℕ) → length owners₂ ≡ length owners₁ → cardRoom ≤ length orphanPrints →
-          OrphansAsked text words prints owners₂ (take e extensions₂) orphans₀ orphanPrints
-      orphans-ready orphanPrints l r = record {
+      pub orphans-ready : length owners₂ ≡ length owners₁ → OrphansAsked text words prints owners₂ (take e extensions₂) orphans₀ orphanPrints₀
+      orphans-ready l = record {
         printed = a .all-cards .printed;
         stored = all-at (λ c. c < cardsUsed words) (take e extensions₂) extension-stored;
         few = omega (arith, ap length extended, keep-most (isExtensionCard words) cards, a .all-cards .few);
         owners-room = omega (arith, a .owners-room);
         orphans-room = a .orphans-room;
-        prints-room = r;
+        prints-room = a .orphan-prints-room;
       }
 
       typed : take t types₁ ≡ firsts (sameCards text words) [] (keep (isTypeCard words) cards)

@@ -150,7 +150,7 @@ module _ (text words prints : List ℕ) (i : ℕ) (same : take i prints ≡ take
       ∙ ap (λ (x : ℕ). take i (map partPrint (storedParts text words)) ++ (x ∷ [])) (e ∙ sym (named-print text words i h))
       ∙ (rw add-one (sym (take-suc (map partPrint (storedParts text words)) i 0 l)))
 
-  pub prints-made : i ≡ cardsUsed words → wordsRoom ≤ length words → cardsUsed words ≤ cardRoom → cardRoom ≤ length prints → Printed text words prints
+  pub prints-made : i ≡ cardsUsed words → wordsRoom ≤ length words → cardsUsed words ≤ cardRoom → cardsUsed words ≤ length prints → Printed text words prints
   prints-made e w n l = record {
     prints-are =
         ap (λ (k : ℕ). take k prints) (sym e) ∙ same

@@ -83,7 +83,7 @@ module _ (text words : List ℕ) where
       go true b = refl
       go false b = refl
 
-  all-named : (n : List ℕ) (hs : List Heading) → All (λ h. choose (isTypeDefinition h) (isNamed n h) false ≡ definesType n h) hs
+  pub all-named : (n : List ℕ) (hs : List Heading) → All (λ h. choose (isTypeDefinition h) (isNamed n h) false ≡ definesType n h) hs
   all-named n [] = tt
   all-named n (h ∷ hs) = (named-defines n h, all-named n hs)
 
@@ -144,15 +144,15 @@ module _ (text words : List ℕ) where
 
 -- ---- The walks' records, told by the headings.
 
-pub heads-ready : (text words heads prints owners typeCards orphanCards extensionCards : List ℕ) →
-    IndexAsked text words heads prints owners typeCards orphanCards extensionCards → HeadsAsked words heads
-heads-ready text words heads prints owners typeCards orphanCards extensionCards a = record {
+pub heads-ready : (text words heads prints owners typeCards orphanCards extensionCards typePrints orphanPrints : List ℕ) →
+    IndexAsked text words heads prints owners typeCards orphanCards extensionCards typePrints orphanPrints → HeadsAsked words heads
+heads-ready text words heads prints owners typeCards orphanCards extensionCards typePrints orphanPrints a = record {
   cards-most = cards-fit text words (a .store-sound);
-  heads-room = omega (arith, cards-fit text words (a .store-sound), a .heads-length);
+  heads-room = a .heads-length;
   headed = heading-first text words (a .store-sound);
 }
 
-module _ (text words heads : List ℕ) (m : ℕ) (room : cardRoom < length heads) (few : cardsUsed words ≤ cardRoom) (is : HeadsAre words heads m) where
+module _ (text words heads : List ℕ) (m : ℕ) (room : cardsUsed words < length heads) (few : cardsUsed words ≤ cardRoom) (is : HeadsAre words heads m) where
   taken : take m heads ≡ map headingNumber (storedHeadings text words)
   taken =
       taken-front m heads (map headingNumber (storedHeadings text words)) (cardsUsed words) (is .heads-are text)
@@ -183,8 +183,8 @@ module _ (text words heads : List ℕ) (m : ℕ) (room : cardRoom < length heads
 
   module _ (prints owners typeCards orphanCards extensionCards : List ℕ) (p : Printed text words prints) (r : Counts)
       (w : OwnersAre text words (take m heads) owners typeCards orphanCards extensionCards r)
-      (owners-length : cardRoom ≤ length owners) (types-length : cardRoom ≤ length typeCards) (orphans-length : cardRoom ≤ length orphanCards)
-      (extensions-length : cardRoom ≤ length extensionCards) where
+      (owners-length : cardsUsed words ≤ length owners) (types-length : cardsUsed words ≤ length typeCards) (orphans-length : cardsUsed words ≤ length orphanCards)
+      (extensions-length : cardsUsed words ≤ length extensionCards) where
     hs : List Heading
     hs = storedHeadings text words
 

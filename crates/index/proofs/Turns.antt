@@ -15,7 +15,7 @@ use Rattle.definition.specs.Lists.{choose, found, keep, firstWhere, firsts, orE
 use Rattle.definition.specs.Answers.{absent}
 use Rattle.definition.specs.Cards.{isType}
 use Rattle.definition.specs.Names.{sameName}
-use Rattle.definition.specs.Refusals.{cardRoom}
+use Rattle.definition.specs.Store.{cardsUsed}
 use Rattle.stored.specs.Stored.{cardKind, cardName}
 use Rattle.name.proofs.Laws.{same-equal, same-self}
 use Rattle.index.specs.declared.Entry.the-variants.{Occupied, Vacant}
@@ -160,7 +160,7 @@ apart a b h e = omega arith
 
 module _ (text words prints heads : List ℕ) (cs : Cards text words prints heads) (k : ℕ) (h : k < length heads) where
   module _ (owners types typePrints : List ℕ) (t : ℕ) (i : TypesAre text words heads owners types typePrints k t)
-      (owners′ types′ typePrints′ : List ℕ) (r : ℕ) (room : cardRoom ≤ length owners)
+      (owners′ types′ typePrints′ : List ℕ) (r : ℕ) (room : cardsUsed words ≤ length owners)
       (w : TypeTurn text words (getD heads k 0) t r owners owners′ types types′ typePrints′) where
     types-more : (b : Bool) → isTypeCard words (getD heads k 0) ≡ b → take r types′ ≡ firsts (sameCards text words) [] (keep (isTypeCard words) (take (k + 1) heads))
     types-more true e =
@@ -182,7 +182,7 @@ module _ (text words prints heads : List ℕ) (cs : Cards text words prints head
     owners-new : isTypeCard words (getD heads k 0) ≡ true →
         getD owners′ (getD heads k 0) 0 ≡ firstCard (sameCards text words) (getD heads k 0) (keep (isTypeCard words) heads)
     owners-new e =
-        let inside : getD heads k 0 < length owners = omega (arith, cs .stored k h, cs .printed .cards-most) in
+        let inside : getD heads k 0 < length owners = omega (arith, cs .stored k h) in
         ap (λ (o : List ℕ). getD o (getD heads k 0) 0) (rw e at (w .owners-are))
         ∙ getD-set-same owners (getD heads k 0) (firstEntered (sameCards text words) (getD heads k 0) (take t types)) 0 inside
         ∙ ap (firstEntered (sameCards text words) (getD heads k 0)) (i .types-are)
@@ -258,7 +258,7 @@ extensions-none text words heads types owners extensions = record {
 
 module _ (text words prints heads : List ℕ) (cs : Cards text words prints heads) (k : ℕ) (h : k < length heads) where
   module _ (types owners₀ owners extensions : List ℕ) (e : ℕ) (i : ExtensionsAre text words heads types owners₀ owners extensions k e)
-      (owners′ extensions′ : List ℕ) (r : ℕ) (room : cardRoom ≤ length owners)
+      (owners′ extensions′ : List ℕ) (r : ℕ) (room : cardsUsed words ≤ length owners)
       (w : ExtensionTurn text words types (getD heads k 0) e r owners owners′ extensions extensions′) where
     extensions-more : (b : Bool) → isExtensionCard words (getD heads k 0) ≡ b → take r extensions′ ≡ keep (isExtensionCard words) (take (k + 1) heads)
     extensions-more true y =
@@ -277,7 +277,7 @@ module _ (text words prints heads : List ℕ) (cs : Cards text words prints head
 
     owned-new : isExtensionCard words (getD heads k 0) ≡ true → getD owners′ (getD heads k 0) 0 ≡ firstCard (sameCards text words) (getD heads k 0) types
     owned-new y =
-        let inside : getD heads k 0 < length owners = omega (arith, cs .stored k h, cs .printed .cards-most) in
+        let inside : getD heads k 0 < length owners = omega (arith, cs .stored k h) in
         ap (λ (o : List ℕ). getD o (getD heads k 0) 0) (rw y at (w .owners-are))
         ∙ getD-set-same owners (getD heads k 0) (firstCard (sameCards text words) (getD heads k 0) types) 0 inside
 

@@ -4,8 +4,8 @@ use mathlib.Core.Path.{_≡_}
 use mathlib.Core.List.{List, [], _∷_, _++_, map}
 use mathlib.Core.Bool.{Bool, true, _||_}
 use mathlib.Core.Option.{some}
-use Prim.Native.Nat.{ℕ, _+_, _*_, _%_, _≤_, _<_}
-use lib.ListN.{length, take, getD, getElem?}
+use Prim.Native.Nat.{ℕ, _+_, _-_, _*_, _%_, _≤_, _<_}
+use lib.ListN.{length, take, drop, getD, getElem?}
 use Rattle.definition.specs.Lists.{keep, firsts}
 use Rattle.definition.specs.Names.{sameName}
 use Rattle.definition.specs.Headings.{Part, Heading, isTypeDefinition, isTypeExtension, sameNamed, types, orphans, definition, numberOf}
@@ -44,20 +44,22 @@ isTyped h = isTypeDefinition h || isTypeExtension h
 -- For each card the fingerprint of its name.
 pub record Printed (text words prints : List ℕ) : Type 0 where
   pub prints-are : take (cardsUsed words) prints ≡ map partPrint (storedParts text words)
-  pub prints-length : cardRoom ≤ length prints
+  pub prints-length : cardsUsed words ≤ length prints
   pub cards-most : cardsUsed words ≤ cardRoom
   pub words-length : wordsRoom ≤ length words
 
--- What filling the arrays asks: a store that decodes, and room.
-pub record IndexAsked (text words heads prints owners typeCards orphanCards extensionCards : List ℕ) : Type 0 where
+-- What filling the arrays asks: a store that decodes, and room for its cards; one more heading marks the end.
+pub record IndexAsked (text words heads prints owners typeCards orphanCards extensionCards typePrints orphanPrints : List ℕ) : Type 0 where
   pub store-sound : sound text words ≡ true
   pub words-length : wordsRoom ≤ length words
-  pub heads-length : cardRoom < length heads
-  pub prints-length : cardRoom ≤ length prints
-  pub owners-length : cardRoom ≤ length owners
-  pub types-length : cardRoom ≤ length typeCards
-  pub orphans-length : cardRoom ≤ length orphanCards
-  pub extensions-length : cardRoom ≤ length extensionCards
+  pub heads-length : cardsUsed words < length heads
+  pub prints-length : cardsUsed words ≤ length prints
+  pub owners-length : cardsUsed words ≤ length owners
+  pub types-length : cardsUsed words ≤ length typeCards
+  pub orphans-length : cardsUsed words ≤ length orphanCards
+  pub extensions-length : cardsUsed words ≤ length extensionCards
+  pub type-prints-length : cardsUsed words ≤ length typePrints
+  pub orphan-prints-length : cardsUsed words ≤ length orphanPrints
 
 -- How far each array is used: m headings, t types, o names of orphans, e extensions.
 pub record Indexed (text words heads prints owners typeCards orphanCards extensionCards : List ℕ) (m t o e : ℕ) : Type 0 where
@@ -82,12 +84,42 @@ pub record Indexed (text words heads prints owners typeCards orphanCards extensi
   pub types-most : t ≤ m
   pub orphans-most : o ≤ e
   pub extensions-most : e ≤ m
-  pub heads-length : cardRoom < length heads
-  pub owners-length : cardRoom ≤ length owners
-  pub types-length : cardRoom ≤ length typeCards
-  pub orphans-length : cardRoom ≤ length orphanCards
-  pub extensions-length : cardRoom ≤ length extensionCards
+  pub heads-length : cardsUsed words < length heads
+  pub owners-length : cardsUsed words ≤ length owners
+  pub types-length : cardsUsed words ≤ length typeCards
+  pub orphans-length : cardsUsed words ≤ length orphanCards
+  pub extensions-length : cardsUsed words ≤ length extensionCards
   pub heads-stored : (k : ℕ) → k < m → getD heads k 0 < cardsUsed words
   pub types-stored : (k : ℕ) → k < t → getD typeCards k 0 < cardsUsed words
   pub orphans-stored : (k : ℕ) → k < o → getD orphanCards k 0 < cardsUsed words
   pub extensions-stored : (k : ℕ) → k < e → getD extensionCards k 0 < cardsUsed words
+
+-- ---- Where the extensions of a type stand among all extensions.
+
+-- The owner of the extension i.
+abbrev pub ownerAt : List ℕ → List ℕ → ℕ → ℕ
+ownerAt owners extensions i = getD owners (getD extensions i 0) 0
+
+-- The extensions from k on stand at or after the place that `starts` has for their owner, the first k ones before the place that `ends` has.
+pub record StartsAre (owners extensions starts : List ℕ) (k : ℕ) : Type 0 where
+  pub at-or-after :
+      (i : ℕ) → k ≤ i → i < length extensions → ownerAt owners extensions i < length starts →
+      getD starts (ownerAt owners extensions i) 0 ≤ i
+
+pub record EndsAre (owners extensions ends : List ℕ) (k : ℕ) : Type 0 where
+  pub before-end : (i : ℕ) → i < k → ownerAt owners extensions i < length ends → i < getD ends (ownerAt owners extensions i) 0
+
+-- Of an owner without extensions nothing is said.
+pub record Spanned (words owners extensions starts ends : List ℕ) : Type 0 where
+  pub starts-are : StartsAre owners extensions starts 0
+  pub ends-are : EndsAre owners extensions ends (length extensions)
+  pub starts-length : cardsUsed words ≤ length starts
+  pub ends-length : cardsUsed words ≤ length ends
+
+-- The part of a list from one place to another, as far as the list reaches.
+unfoldable pub part : ℕ → ℕ → List ℕ → List ℕ
+part start end xs = take (end - start) (drop start xs)
+
+-- The part of all extensions in which those of a type stand.
+unfoldable pub ownExtensions : List ℕ → List ℕ → List ℕ → ℕ → List ℕ
+ownExtensions extensions starts ends c = part (getD starts c 0) (getD ends c 0) extensions

@@ -90,7 +90,7 @@ pub record Cards (text words prints cards : List ℕ) : Type 0 where
   pub printed : Printed text words prints
   pub stored : (j : ℕ) → j < length cards → getD cards j 0 < cardsUsed words
   pub rising : (i j : ℕ) → i < j → j < length cards → getD cards i 0 < getD cards j 0
-  pub few : length cards ≤ cardRoom
+  pub few : length cards ≤ cardsUsed words
 
 -- ---- Types.
 
@@ -98,7 +98,7 @@ pub record Cards (text words prints cards : List ℕ) : Type 0 where
 pub record TypeAsked (text words prints owners types typePrints : List ℕ) (card count : ℕ) : Type 0 where
   pub printed : Printed text words prints
   pub stored : card < cardsUsed words
-  pub owners-room : cardRoom ≤ length owners
+  pub owners-room : cardsUsed words ≤ length owners
   pub types-room : count < length types
   pub prints-room : count < length typePrints
   pub prints-are : take count typePrints ≡ map (cardPrint text words) (take count types)
@@ -112,9 +112,9 @@ pub record TypeTurn (text words : List ℕ) (card count r : ℕ) (owners₀ owne
 
 pub record TypesAsked (text words prints heads owners types typePrints : List ℕ) : Type 0 where
   pub cards : Cards text words prints heads
-  pub owners-room : cardRoom ≤ length owners
-  pub types-room : cardRoom ≤ length types
-  pub prints-room : cardRoom ≤ length typePrints
+  pub owners-room : cardsUsed words ≤ length owners
+  pub types-room : cardsUsed words ≤ length types
+  pub prints-room : cardsUsed words ≤ length typePrints
 
 -- What the first k headings did.
 pub record TypesAre (text words heads owners types typePrints : List ℕ) (k t : ℕ) : Type 0 where
@@ -131,7 +131,7 @@ pub record ExtensionAsked (text words prints types typePrints owners extensions 
   pub printed : Printed text words prints
   pub stored : card < cardsUsed words
   pub prints-are : typePrints ≡ map (cardPrint text words) types
-  pub owners-room : cardRoom ≤ length owners
+  pub owners-room : cardsUsed words ≤ length owners
   pub extensions-room : count < length extensions
 
 pub record ExtensionTurn (text words types : List ℕ) (card count r : ℕ) (owners₀ owners extensions₀ extensions : List ℕ) : Type 0 where
@@ -142,8 +142,8 @@ pub record ExtensionTurn (text words types : List ℕ) (card count r : ℕ) (own
 pub record ExtensionsAsked (text words prints heads types typePrints owners extensions : List ℕ) : Type 0 where
   pub cards : Cards text words prints heads
   pub prints-are : typePrints ≡ map (cardPrint text words) types
-  pub owners-room : cardRoom ≤ length owners
-  pub extensions-room : cardRoom ≤ length extensions
+  pub owners-room : cardsUsed words ≤ length owners
+  pub extensions-room : cardsUsed words ≤ length extensions
 
 -- What the first k headings did; the owners of other cards stay.
 pub record ExtensionsAre (text words heads types owners₀ owners extensions : List ℕ) (k e : ℕ) : Type 0 where
@@ -159,7 +159,7 @@ pub record ExtensionsAre (text words heads types owners₀ owners extensions : L
 pub record OrphanAsked (text words prints owners orphans orphanPrints : List ℕ) (card count : ℕ) : Type 0 where
   pub printed : Printed text words prints
   pub stored : card < cardsUsed words
-  pub owners-room : cardRoom ≤ length owners
+  pub owners-room : cardsUsed words ≤ length owners
   pub orphans-room : count < length orphans
   pub prints-room : count < length orphanPrints
   pub prints-are : take count orphanPrints ≡ map (cardPrint text words) (take count orphans)
@@ -172,10 +172,10 @@ pub record OrphanTurn (text words owners : List ℕ) (card count r : ℕ) (orpha
 pub record OrphansAsked (text words prints owners extensions orphans orphanPrints : List ℕ) : Type 0 where
   pub printed : Printed text words prints
   pub stored : (j : ℕ) → j < length extensions → getD extensions j 0 < cardsUsed words
-  pub few : length extensions ≤ cardRoom
-  pub owners-room : cardRoom ≤ length owners
-  pub orphans-room : cardRoom ≤ length orphans
-  pub prints-room : cardRoom ≤ length orphanPrints
+  pub few : length extensions ≤ cardsUsed words
+  pub owners-room : cardsUsed words ≤ length owners
+  pub orphans-room : cardsUsed words ≤ length orphans
+  pub prints-room : cardsUsed words ≤ length orphanPrints
 
 -- What the first k extensions did.
 pub record OrphansAre (text words owners extensions orphans orphanPrints : List ℕ) (k o : ℕ) : Type 0 where
@@ -185,12 +185,14 @@ pub record OrphansAre (text words owners extensions orphans orphanPrints : List 
 
 -- ---- Types, extensions and orphans of all headings' cards.
 
-pub record OwnersAsked (text words prints cards owners types orphans extensions : List ℕ) : Type 0 where
+pub record OwnersAsked (text words prints cards owners types orphans extensions typePrints orphanPrints : List ℕ) : Type 0 where
   pub all-cards : Cards text words prints cards
-  pub owners-room : cardRoom ≤ length owners
-  pub types-room : cardRoom ≤ length types
-  pub orphans-room : cardRoom ≤ length orphans
-  pub extensions-room : cardRoom ≤ length extensions
+  pub owners-room : cardsUsed words ≤ length owners
+  pub types-room : cardsUsed words ≤ length types
+  pub orphans-room : cardsUsed words ≤ length orphans
+  pub extensions-room : cardsUsed words ≤ length extensions
+  pub type-prints-room : cardsUsed words ≤ length typePrints
+  pub orphan-prints-room : cardsUsed words ≤ length orphanPrints
 
 pub record OwnersAre (text words cards owners types orphans extensions : List ℕ) (r : Counts) : Type 0 where
   pub headings-are : r .headings ≡ length cards
@@ -206,3 +208,10 @@ pub record OwnersAre (text words cards owners types orphans extensions : List �
   pub types-most : r .types ≤ length cards
   pub extensions-most : r .extensions ≤ length cards
   pub orphans-most : r .orphans ≤ r .extensions
+
+-- ---- Spans.
+
+-- Extensions that have owners.
+pub record SpansAsked (owners extensions : List ℕ) : Type 0 where
+  pub stored : (j : ℕ) → j < length extensions → getD extensions j 0 < length owners
+  pub few : length extensions ≤ cardRoom

@@ -1,12 +1,22 @@
 // The arrays that a drawing's walks read: filled once, from the stored cards.
 ghost use mathlib.Core.Path.{_≡_};
 ghost use Prim.Native.Nat.{_≤_, _<_};
-ghost use lib.ListN.{length};
+ghost use lib.ListN.{length, take, set};
 ghost use Rattle.definition.specs.Lists.{firstWhere};
 ghost use Rattle.definition.specs.Refusals.{cardRoom};
 ghost use Rattle.definition.specs.Cards.{isType};
 ghost use Rattle.definition.specs.Store.{cardsUsed, wordsRoom};
-ghost use Rattle.index.specs.Index.{fingerprint, sameCards, Printed, IndexAsked, Indexed};
+ghost use Rattle.index.specs.Index.{
+  fingerprint,
+  sameCards,
+  Printed,
+  IndexAsked,
+  Indexed,
+  StartsAre,
+  EndsAre,
+  Spanned,
+  ownExtensions,
+};
 ghost use Rattle.index.specs.Turns.{
   extendsType,
   entryOf,
@@ -29,6 +39,7 @@ ghost use Rattle.index.specs.Turns.{
   OrphansAre,
   OwnersAsked,
   OwnersAre,
+  SpansAsked,
 };
 
 // The word that stands for no card.
@@ -156,7 +167,7 @@ pub fn index_headings(words: &[u32], heads: &mut [u32]) -> usize
 
 // The fingerprint of each card's name.
 pub fn fingerprints(text: &[u8], words: &[u32], prints: &mut [u32])
-    requires { ⌜ (wordsRoom ≤ length (now words)) × (cardsUsed (now words) ≤ cardRoom) × (cardRoom ≤ length (now prints)) ⌝ }
+    requires { ⌜ (wordsRoom ≤ length (now words)) × (cardsUsed (now words) ≤ cardRoom) × (cardsUsed (now words) ≤ length (now prints)) ⌝ }
     ensures { λ _. ⌜ Printed (now (text .entry)) (now (words .entry)) (now (prints .exit)) ⌝ }
 {
     let used = stored::cards_used(words);
@@ -365,13 +376,13 @@ fn index_owners(
     types: &mut [u32],
     orphans: &mut [u32],
     extensions: &mut [u32],
+    type_prints: &mut [u32],
+    orphan_prints: &mut [u32],
 ) -> Counts
-    requires { ⌜ OwnersAsked (now text) (now words) (now prints) (now heads) (now owners) (now types) (now orphans) (now extensions) ⌝ }
+    requires { ⌜ OwnersAsked (now text) (now words) (now prints) (now heads) (now owners) (now types) (now orphans) (now extensions) (now «type_prints») (now «orphan_prints») ⌝ }
     ensures { λ r. ⌜ OwnersAre (now (text .entry)) (now (words .entry)) (now (heads .entry)) (now (owners .exit)) (now (types .exit)) (now (orphans .exit)) (now (extensions .exit)) r ⌝ }
 {
-    let mut type_prints = [0u32; 2300];
-    let mut orphan_prints = [0u32; 2300];
-    let t = index_types(text, words, prints, heads, owners, types, &mut type_prints);
+    let t = index_types(text, words, prints, heads, owners, types, type_prints);
     let e = index_extensions(
         text,
         words,
@@ -389,7 +400,7 @@ fn index_owners(
         owners,
         &extensions[0..e],
         orphans,
-        &mut orphan_prints,
+        orphan_prints,
     );
     Counts {
         headings: heads.len(),
@@ -399,8 +410,8 @@ fn index_owners(
     }
 }
 
-// Fills all arrays.
-pub fn index(
+// All arrays but those of the spans.
+fn index_cards(
     text: &[u8],
     words: &[u32],
     heads: &mut [u32],
@@ -409,8 +420,10 @@ pub fn index(
     types: &mut [u32],
     orphans: &mut [u32],
     extensions: &mut [u32],
+    type_prints: &mut [u32],
+    orphan_prints: &mut [u32],
 ) -> Counts
-    requires { ⌜ IndexAsked (now text) (now words) (now heads) (now prints) (now owners) (now types) (now orphans) (now extensions) ⌝ }
+    requires { ⌜ IndexAsked (now text) (now words) (now heads) (now prints) (now owners) (now types) (now orphans) (now extensions) (now «type_prints») (now «orphan_prints») ⌝ }
     ensures { λ r. ⌜ Indexed (now (text .entry)) (now (words .entry)) (now (heads .exit)) (now (prints .exit)) (now (owners .exit)) (now (types .exit)) (now (orphans .exit)) (now (extensions .exit)) (r .headings) (r .types) (r .orphans) (r .extensions) ⌝ }
 {
     let count = index_headings(words, heads);
@@ -424,5 +437,102 @@ pub fn index(
         types,
         orphans,
         extensions,
+        type_prints,
+        orphan_prints,
     )
+}
+
+// Writes a word where the array has that place.
+fn note(array: &mut [u32], at: usize, word: u32)
+    ensures { λ _. ⌜ now (array .exit) ≡ set (now (array .entry)) at word ⌝ }
+{
+    if array.len() <= at {
+        return;
+    }
+    array[at] = word;
+}
+
+// For each type the place of its first extension among all; the word of a type without extensions stays.
+pub fn index_starts(owners: &[u32], extensions: &[u32], starts: &mut [u32])
+    requires { ⌜ SpansAsked (now owners) (now extensions) ⌝ }
+    ensures { λ _. ⌜ StartsAre (now (owners .entry)) (now (extensions .entry)) (now (starts .exit)) 0 ⌝ }
+{
+    let mut i = extensions.len();
+    while i > 0 {
+        i -= 1;
+        note(starts, owners[extensions[i] as usize] as usize, i as u32);
+    }
+}
+
+// For each type the place after its last extension among all; the word of a type without extensions stays.
+pub fn index_ends(owners: &[u32], extensions: &[u32], ends: &mut [u32])
+    requires { ⌜ SpansAsked (now owners) (now extensions) ⌝ }
+    ensures { λ _. ⌜ EndsAre (now (owners .entry)) (now (extensions .entry)) (now (ends .exit)) (length (now (extensions .entry))) ⌝ }
+{
+    let mut i = 0;
+    while i < extensions.len() {
+        let owner = owners[extensions[i] as usize];
+        i += 1;
+        note(ends, owner as usize, i as u32);
+    }
+}
+
+// The part of all extensions in which those of a type stand.
+pub fn own_extensions<'a>(
+    extensions: &'a [u32],
+    starts: &[u32],
+    ends: &[u32],
+    card: u32,
+) -> &'a [u32]
+    requires { ⌜ (card < length (now starts)) × (card < length (now ends)) ⌝ }
+    ensures { λ r. ⌜ now r ≡ ownExtensions (now (extensions .entry)) (now (starts .entry)) (now (ends .entry)) card ⌝ }
+{
+    let start = starts[card as usize] as usize;
+    let end = ends[card as usize] as usize;
+    if end <= start {
+        return &extensions[0..0];
+    }
+    if extensions.len() < start {
+        return &extensions[0..0];
+    }
+    if extensions.len() < end {
+        return &extensions[start..];
+    }
+    &extensions[start..end]
+}
+
+// Fills all arrays; the last two are for the fingerprints beside the types and the orphans.
+pub fn index(
+    text: &[u8],
+    words: &[u32],
+    heads: &mut [u32],
+    prints: &mut [u32],
+    owners: &mut [u32],
+    types: &mut [u32],
+    orphans: &mut [u32],
+    extensions: &mut [u32],
+    starts: &mut [u32],
+    ends: &mut [u32],
+    type_prints: &mut [u32],
+    orphan_prints: &mut [u32],
+) -> Counts
+    requires { ⌜ IndexAsked (now text) (now words) (now heads) (now prints) (now owners) (now types) (now orphans) (now extensions) (now «type_prints») (now «orphan_prints») × (cardsUsed (now words) ≤ length (now starts)) × (cardsUsed (now words) ≤ length (now ends)) ⌝ }
+    ensures { λ r. ⌜ Indexed (now (text .entry)) (now (words .entry)) (now (heads .exit)) (now (prints .exit)) (now (owners .exit)) (now (types .exit)) (now (orphans .exit)) (now (extensions .exit)) (r .headings) (r .types) (r .orphans) (r .extensions) × Spanned (now (words .entry)) (now (owners .exit)) (take (r .extensions) (now (extensions .exit))) (now (starts .exit)) (now (ends .exit)) ⌝ }
+{
+    let counts = index_cards(
+        text,
+        words,
+        heads,
+        prints,
+        owners,
+        types,
+        orphans,
+        extensions,
+        type_prints,
+        orphan_prints,
+    );
+    let e = counts.extensions;
+    index_starts(owners, &extensions[0..e], starts);
+    index_ends(owners, &extensions[0..e], ends);
+    counts
 }

@@ -1,41 +1,37 @@
--- What each step leaves is what the next one asks; the last law tells all of it by the headings.
-use native.Mathlib.Omega.{arith}
+-- The spans are those of the extensions that the other arrays list.
 use native.Mathlib.Nat.{sub-zero}
-use Rattle.stored.proofs.Laws.{cards-fit}
-use Rattle.index.proofs.Told.{heads-ready, cards-ready, indexed}
+use native.Mathlib.Omega.{arith}
+use Rattle.index.proofs.Spans.{spans-ready}
+use borrow.Author.Needs.{needs}
 use Rattle.index.proofs.index.Statement.{statement}
 use Rattle.index.proofs.index.Tie as tie
-use borrow.Author.Needs.{needs}
 
-index-headings-requires : tie.Need-index-headings-requires
-index-headings-requires c κs = heads-ready _ _ _ _ _ _ _ _ (c .before .before .before .before .before .before .before .before .before .pre)
+index-cards-requires : tie.Need-index-cards-requires
+index-cards-requires c κs = search needs
 
-fingerprints-requires : tie.Need-fingerprints-requires
-fingerprints-requires c κs =
-    let a = c .before .before .before .before .before .before .before .before .before .before .before .before .before .pre in
-    (a .words-length, cards-fit _ _ (a .store-sound), a .prints-length)
+sub-index-starts : tie.Need-sub-index-starts
+sub-index-starts c = search needs
 
-sub-index-owners : tie.Need-sub-index-owners
-sub-index-owners c = search needs
+part-index-starts-start : tie.Need-part-index-starts-start
+part-index-starts-start c = search needs
 
-part-index-owners-start : tie.Need-part-index-owners-start
-part-index-owners-start c = search needs
+part-index-starts-end : tie.Need-part-index-starts-end
+part-index-starts-end c = search needs
 
-part-index-owners-end : tie.Need-part-index-owners-end
-part-index-owners-end c = search needs
+index-starts-requires : tie.Need-index-starts-requires
+index-starts-requires c κs = rw sub-zero (spans-ready _ _ _ _ _ _ _ _ _ _ _ _ (c .before .before .before .before .before .before .before .before .before .before .before .before .before .before .before .before .before .before .before .before .index-cards .ensures))
 
-index-owners-requires : tie.Need-index-owners-requires
-index-owners-requires c κs =
-    let a = c .before .before .before .before .before .before .before .before .before .before .before .before .before .before .before .before .before .before .before .before .before .before .before .pre in
-    let h = c .before .before .before .before .before .before .before .before .before .before .before .before .before .index-headings in
-    let p = c .before .before .before .before .before .before .before .before .before .fingerprints in
-    rw sub-zero (record {
-      all-cards = cards-ready _ _ _ _ (omega (arith, a .heads-length, h .kept .1 .0)) (cards-fit _ _ (a .store-sound)) (h .ensures) _ (p .ensures);
-      owners-room = a .owners-length;
-      types-room = a .types-length;
-      orphans-room = a .orphans-length;
-      extensions-room = a .extensions-length;
-    })
+sub-index-ends : tie.Need-sub-index-ends
+sub-index-ends c = search needs
+
+part-index-ends-start : tie.Need-part-index-ends-start
+part-index-ends-start c = search needs
+
+part-index-ends-end : tie.Need-part-index-ends-end
+part-index-ends-end c = search needs
+
+index-ends-requires : tie.Need-index-ends-requires
+index-ends-requires c κs = rw sub-zero (spans-ready _ _ _ _ _ _ _ _ _ _ _ _ (c .before .before .before .before .before .before .before .before .before .before .before .before .before .before .before .before .before .before .before .before .before .before .before .before .before .before .before .index-cards .ensures))
 
 same-length : tie.Need-same-length
 same-length c = search needs
@@ -55,30 +51,53 @@ same-length-5 c = search needs
 same-length-6 : tie.Need-same-length-6
 same-length-6 c = search needs
 
+same-length-7 : tie.Need-same-length-7
+same-length-7 c = search needs
+
+same-length-8 : tie.Need-same-length-8
+same-length-8 c = search needs
+
+same-length-9 : tie.Need-same-length-9
+same-length-9 c = search needs
+
+same-length-10 : tie.Need-same-length-10
+same-length-10 c = search needs
+
 returns : tie.Need-returns
 returns c =
-    let a = c .before .before .before .before .before .before .before .before .before .before .before .before .before .before .before .before .before .before .before .before .before .before .before .before .before .before .before .before .before .before .before .before .pre in
-    let h = c .before .before .before .before .before .before .before .before .before .before .before .before .before .before .before .before .before .before .before .before .before .before .index-headings in
-    let p = c .before .before .before .before .before .before .before .before .before .before .before .before .before .before .before .before .before .before .fingerprints in
-    let o = c .before .before .before .before .before .before .before .before .index-owners in
-    indexed _ _ _ _ (omega (arith, a .heads-length, h .kept .1 .0)) (cards-fit _ _ (a .store-sound)) (h .ensures) _ _ _ _ _ (p .ensures) _ (rw sub-zero at (o .ensures))
-    (omega (arith, a .owners-length, o .kept .1 .1 .1 .1 .0)) (omega (arith, a .types-length, o .kept .1 .1 .1 .1 .1 .0))
-    (omega (arith, a .orphans-length, o .kept .1 .1 .1 .1 .1 .1 .0)) (omega (arith, a .extensions-length, o .kept .1 .1 .1 .1 .1 .1 .1 .0))
+    let a = c .before .before .before .before .before .before .before .before .before .before .before .before .before .before .before .before .before .before .before .before .before .before .before .before .before .before .before .before .before .before .before .before .before .before .before .before .before .before .before .before .before .before .before .before .before .before .before .before .before .before .before .pre in
+    let s = c .before .before .before .before .before .before .before .before .before .index-starts in
+    let e = c .before .before .index-ends in (
+      c .before .before .before .before .before .before .before .before .before .before .before .before .before .before .before .before .before .before .before .before .before .before .before .before .before .before .before .before .before .before .index-cards .ensures,
+      record {
+        starts-are = rw sub-zero at (s .ensures);
+        ends-are = rw sub-zero at (e .ensures);
+        starts-length = omega (arith, a .1, s .kept .1 .1 .0);
+        ends-length = omega (arith, a .2, e .kept .1 .1 .0);
+      },
+    )
 
 pub index-spec : {M : Type 1} → statement M
 index-spec =
     tie.close
     (tie.spec
-    index-headings-requires
-    fingerprints-requires
-    sub-index-owners
-    part-index-owners-start
-    part-index-owners-end
-    index-owners-requires
+    index-cards-requires
+    sub-index-starts
+    part-index-starts-start
+    part-index-starts-end
+    index-starts-requires
+    sub-index-ends
+    part-index-ends-start
+    part-index-ends-end
+    index-ends-requires
     same-length
     same-length-2
     same-length-3
     same-length-4
     same-length-5
     same-length-6
+    same-length-7
+    same-length-8
+    same-length-9
+    same-length-10
     returns)

@@ -3,7 +3,7 @@ use Prim.Native.Nat.{_≤_, _-_}
 use native.Mathlib.Omega.{arith}
 use mathlib.Core.Path.{_≡_, _∙_, refl}
 use lib.ListN.{length}
-use Rattle.definition.specs.Refusals.{cardRoom}
+use Rattle.definition.specs.Store.{cardsUsed}
 use Rattle.index.specs.Turns.{TypesAre}
 use Rattle.index.proofs.Turns.{types-none, types-turn}
 use Rattle.index.proofs.index_types.Statement.{statement}
@@ -54,7 +54,7 @@ loop-again c =
     let i = l .inv in
     let h = c .before .before .before .before .before .before .before .before .before .before .before .loop-test .taken in
     let r = c .before .before .before .before .before .before .index-type in
-    let room : cardRoom ≤ length (l .owners) = omega (arith, s .pre .owners-room, i .2) in (
+    let room : cardsUsed (s .args .words .now) ≤ length (l .owners) = omega (arith, s .pre .owners-room, i .2) in (
       omega (arith, h),
       types-turn (s .args .text .now) (s .args .words .now) (s .args .prints .now) (s .args .heads .now) (s .pre .cards) (l .k) h _ _ _ _ (i .1) _ _ _ _ room (r .ensures),
       r .kept .1 .1 .1 .1 .0 ∙ i .2,
