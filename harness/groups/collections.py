@@ -124,7 +124,7 @@ def size(number, mode):
 
 def make(new):
     introspection(new)
-    for number in range(45):
+    for number in range(40):
         collection(new, number, 'small', 10, 20)
     for number in range(12):
         collection(new, number, 'turns', 6, 10)

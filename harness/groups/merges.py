@@ -176,6 +176,41 @@ def texts(new):
     merged(new, 'no cards in document 0, nothing else', '', hand={'00': listed('4 - -')})
 
 
+# Names whose fingerprints (docs/DECISIONS.md, 24) are equal, so that only their bytes tell them apart.
+ALIKE = {'A': ('afcVxIN', 'afLjsQn'), 'n': ('ayHnQdC', 'aBykcJT'), 'd': ('afcVxIq', 'ahpxdGr'), 'Int': ('ahPBZRX', 'ajFxAXy'),
+         'Query': ('amgdHXq', 'atmnoIf')}
+
+
+def fingerprint(name):
+    print_of = 0
+    for byte in name.encode():
+        print_of = (print_of * 16777619 + byte) % 2 ** 32
+    return print_of
+
+
+def alike(new):
+    assert all(fingerprint(name) == fingerprint(other) for name, others in ALIKE.items() for other in others)
+    b, c = ALIKE['A']
+    m, o = ALIKE['n']
+    merged(new, 'types of equal fingerprints', INT, f'type A type {b} extend type {c}{{a:Int}}type {b}',
+           f'type {c} extend type {b}{{b:Int}}extend type A{{a:Int}}',
+           hand={'00': listed('4 - -, 5 0 -, 6 1 -, 22 10 9, 6 2 -, 22 8 7, 6 6 -, 22 4 3', '1 0', '4 5 2')})
+    merged(new, 'parts of equal fingerprints in every list', INT,
+           f'type T implements A&{b}&A&{c}{{n:Int {m}:Int {o}:Int {m}:Int}}interface I implements {b}&A{{{m}:Int n:Int}}',
+           f'union U=A|{b}|{c}|{b} enum E{{n {m} {o} n}}input N{{{o}:Int n:Int {o}:Int}}')
+    merged(new, 'orphans of equal fingerprints', INT, f'extend type A{{n:Int}}extend union {b}=A extend type {c}{{n:Int}}extend type A{{{m}:Int}}',
+           hand={'10': listed('4 - -, 5 0 -, 6 1 1, 22 2 1, 22 8 7, 8 3 3, 23 4 3, 6 5 5, 22 6 5'),
+                 '00': listed('4 - -, 5 0 -', '0 4', '7 1 -, 7 7 -, 7 3 -, 7 5 -')})
+    merged(new, 'directives and built-in types of equal fingerprints',
+           f'scalar Int directive@d on FIELD directive@{ALIKE["d"][0]} on FIELD scalar {ALIKE["Int"][0]}',
+           f'scalar {ALIKE["Int"][1]} directive@{ALIKE["d"][1]} on FIELD directive@{ALIKE["d"][0]} on FIELD',
+           f'scalar {ALIKE["Int"][0]} directive@{ALIKE["d"][1]} on FIELD')
+    merged(new, 'no default root by a fingerprint', INT, f'type {ALIKE["Query"][0]} extend schema@d', f'interface {ALIKE["Query"][1]}',
+           hand={'00': listed('4 - -, 5 0 -, 6 1 -, 7 4 -', '0 1', '6 2 -')})
+    merged(new, 'a default root among names of its fingerprint', INT, f'interface {ALIKE["Query"][0]} type Query type {ALIKE["Query"][1]}',
+           hand={'00': listed('4 - -, 26 - -, 5 0 -, 7 1 -, 6 2 -, 6 3 -')})
+
+
 def make(new):
-    for group in (duplicates, extensions, adopted, ignored, directives, schemas, default_roots, texts):
+    for group in (duplicates, extensions, adopted, ignored, directives, schemas, default_roots, texts, alike):
         group(new)
