@@ -2,9 +2,10 @@
 use mathlib.Core.Path.{_≡_, refl, sym, _∙_, ap, ap₂, subst}
 use mathlib.Core.List.{List, [], _∷_, _++_, map}
 use mathlib.Core.Bool.{Bool, true, false}
-use Prim.Native.Nat.{ℕ, _*_, _≤_, _<_}
+use Prim.Native.Nat.{ℕ, _+_, _-_, _*_, _≤_, _<_}
 use native.Mathlib.Omega.{arith}
 use lib.ListN.{length, getD, take, length-append, length-take, length-map}
+use Rattle.definition.specs.declared.Tallies.{Tallies}
 use Rattle.definition.specs.Lists.{All, keep, flatMap, firsts}
 use Rattle.definition.specs.Headings.{Heading, headings, isTypeExtension, sameNamed, orphans, schemaDefinition, numberOf}
 use Rattle.definition.specs.Catalogue.{Row, rows}
@@ -17,11 +18,11 @@ use Rattle.index.specs.declared.Counts.{Counts}
 use Rattle.index.specs.Index.{headingNumber}
 use Rattle.index.proofs.Lists.{taken-front, all-picture}
 use Rattle.errors.specs.declared.ErrorCounts.{ErrorCounts}
-use Rattle.errors.specs.Pushing.{Ledger, ledger, pushAll, Room, noErrors}
-use Rattle.errors.specs.Standing.{View}
-use Rattle.errors.specs.Placing.{Placed}
-use Rattle.errors.specs.ByCards.{readingAt, drawingAt}
-use Rattle.errors.specs.Views.{viewOf, Searching, Held, HeldHeadings, HeldExtensions, Ascending}
+use Rattle.errors_laws.specs.Pushing.{Ledger, ledger, pushAll, Room, noErrors}
+use Rattle.errors_laws.specs.Standing.{View}
+use Rattle.errors_laws.specs.Placing.{Placed}
+use Rattle.errors_laws.specs.ByCards.{readingAt, drawingAt}
+use Rattle.errors_laws.specs.Views.{viewOf, Searching, Held, HeldHeadings, HeldExtensions, Ascending}
 use Rattle.errors.specs.Drawn.{allErrors, ErrorsPushed, ErrorsAsked, ErrorsDrawn}
 use Rattle.definition.proofs.Lists.{flatMap-nil, flatMap-cons, keep-nil, keep-yes, keep-no}
 use Rattle.definition.proofs.All.{all-append, all-keep, all-firsts, all-with}
@@ -29,14 +30,35 @@ use Rattle.definition.proofs.Bounds.{rows-count}
 use Rattle.definition.proofs.DocumentHeadings.{headings-count, held-length}
 use Rattle.stored.proofs.Laws.{held-stored, headings-stored, cards-fit}
 use Rattle.stored.proofs.Words.{length-stored}
-use Rattle.errors.proofs.LawsRows.{HeadingTold, extends-kind, schema-shape}
-use Rattle.errors.proofs.LawsKnown.{headingOf, Rising, Known, kind-told}
-use Rattle.errors.proofs.LawsReading.{reading-found}
-use Rattle.errors.proofs.LawsDrawing.{Orphan, adoptees-known}
-use Rattle.errors.proofs.LawsSchema.{drawing-found}
-use Rattle.errors.proofs.LawsLegal.{legal-reading, legal-drawing}
-use Rattle.errors.proofs.LawsStored.{known-stored, legal-known}
-use Rattle.errors.proofs.LawsTallies.{Legal, pushed-total, pushed-words, pushed-tallies, room-empty}
+use Rattle.errors_laws.proofs.LawsRows.{HeadingTold, extends-kind, schema-shape}
+use Rattle.errors_laws.proofs.LawsKnown.{headingOf, Rising, Known, kind-told}
+use Rattle.errors_laws.proofs.LawsReading.{reading-found}
+use Rattle.errors_laws.proofs.LawsDrawing.{Orphan, adoptees-known}
+use Rattle.errors_laws.proofs.LawsSchema.{drawing-found}
+use Rattle.errors_laws.proofs.LawsLegal.{legal-reading, legal-drawing}
+use Rattle.errors_laws.proofs.LawsStored.{known-stored, legal-known}
+use Rattle.errors_laws.proofs.LawsPush.{both-pushed}
+use Rattle.errors_laws.proofs.LawsTallies.{Legal, pushed-total, pushed-words, pushed-tallies, room-empty}
+
+-- ---- Errors of reading, then those of drawing.
+
+module _ (before middle after : List ℕ) (t r : Tallies) (read drawn : List Error) (first : ledger middle t ≡ pushAll (ledger before noErrors) read)
+    (second : ledger after r ≡ pushAll (ledger middle t) drawn) where
+  read-total : t .total ≡ length read
+  read-total = ap (λ (l : Ledger). l .tallies .total) first ∙ (pushed-total (ledger before noErrors) read ∙ omega arith)
+
+  all-total : r .total ≡ t .total + length drawn
+  all-total = ap (λ (l : Ledger). l .tallies .total) second ∙ pushed-total (ledger middle t) drawn
+
+  pub total-least : t .total ≤ r .total
+  total-least = omega (arith, all-total)
+
+  pub pushed-apart : ErrorsPushed before after (record { reading = t .total; drawing = r .total - t .total; tallies = r }) read drawn
+  pushed-apart = record {
+    pushed = both-pushed (ledger before noErrors) (ledger middle t) (read ++ drawn) read drawn refl (ledger after r) first second;
+    reading-count = read-total;
+    drawing-count = omega (arith, all-total);
+  }
 
 row-words : (rs : List Row) → length (flatMap wordsOfRow rs) ≡ 3 * length rs
 row-words [] = ap length (flatMap-nil wordsOfRow) ∙ omega arith

@@ -15,7 +15,7 @@ use Rattle.stored.specs.Stored.{storedHeadings}
 use Rattle.index.specs.declared.Counts.{Counts}
 use Rattle.index.specs.Index.{Indexed}
 use Rattle.errors.specs.declared.ErrorCounts.{ErrorCounts}
-use Rattle.errors.specs.Pushing.{ledger, noErrors, pushAll}
+use Rattle.errors_laws.specs.Pushing.{ledger, noErrors, pushAll}
 
 -- All errors, those of reading first.
 unfoldable pub allErrors : Bool → List Heading → List Error

@@ -11,9 +11,9 @@ ghost use Rattle.definition.specs.Lists.{flatMap};
 ghost use Rattle.definition.specs.Store.{cardsUsed};
 ghost use Rattle.stored.specs.Stored.{cardKind};
 ghost use Rattle.index.specs.Index.{Printed};
-ghost use Rattle.errors.specs.Pushing.{ledger, pushAll, Room};
-ghost use Rattle.errors.specs.ByCards.{isOrphanOf, adoptionErrorsAt, unadoptedErrorsAt, orphanErrorsAt, unmetErrors, isBare, noSchemaErrorsAt, drawingAt};
-ghost use Rattle.errors.specs.Views.{viewOf, cardView, Merging, Searching, Held, HeldExtensions};
+ghost use Rattle.errors_laws.specs.Pushing.{ledger, pushAll, Room};
+ghost use Rattle.errors_laws.specs.ByCards.{isOrphanOf, adoptionErrorsAt, unadoptedErrorsAt, orphanErrorsAt, unmetErrors, isBare, noSchemaErrorsAt, drawingAt};
+ghost use Rattle.errors_laws.specs.Views.{viewOf, cardView, Merging, Searching, Held, HeldExtensions};
 
 // Whether the card is a type extension without a definition that has the name of g.
 fn is_orphan_of(

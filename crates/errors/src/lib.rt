@@ -7,9 +7,9 @@ use index::Counts;
 ghost use mathlib.Core.List.{[], _++_};
 ghost use lib.ListN.{getD};
 ghost use Rattle.stored.specs.Stored.{storedHeadings};
-ghost use Rattle.errors.specs.Pushing.{ledger, noErrors, Room};
-ghost use Rattle.errors.specs.ByCards.{readingAt, drawingAt};
-ghost use Rattle.errors.specs.Views.{viewOf, Searching, Held, HeldHeadings, HeldExtensions, Ascending};
+ghost use Rattle.errors_laws.specs.Pushing.{ledger, noErrors, Room};
+ghost use Rattle.errors_laws.specs.ByCards.{readingAt, drawingAt};
+ghost use Rattle.errors_laws.specs.Views.{viewOf, Searching, Held, HeldHeadings, HeldExtensions, Ascending};
 ghost use Rattle.errors.specs.Drawn.{ErrorsPushed, ErrorsAsked, ErrorsDrawn};
 
 mod drawing;
@@ -20,12 +20,6 @@ mod reading;
 
 // The word that stands for no card.
 const ABSENT: u32 = 4294967295;
-
-// The card that stands for a part, where a list has one of its name.
-pub enum Standing {
-    Card(u32),
-    Nothing,
-}
 
 // How many errors arose while reading documents and while drawing, and the tallies of all.
 pub struct ErrorCounts {

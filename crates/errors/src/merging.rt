@@ -1,8 +1,8 @@
 // Parts that are merged into a type or the schema: a part clashes where the finished rows have another card that stands for its name.
-use crate::Standing;
 use crate::pushing;
 use ast::kinds;
 use definition::Tallies;
+use errors_laws::Standing;
 ghost use mathlib.Core.Path.{_≡_};
 ghost use mathlib.Core.Bool.{true};
 ghost use Prim.Native.Nat.{_+_, _≤_, _<_};
@@ -13,11 +13,11 @@ ghost use Rattle.definition.specs.Errors.{clashNumber};
 ghost use Rattle.definition.specs.Store.{cardsUsed};
 ghost use Rattle.stored.specs.Stored.{cardKind, cardAt};
 ghost use Rattle.index.specs.Index.{Printed};
-ghost use Rattle.errors.specs.Pushing.{ledger, pushAll, Room};
-ghost use Rattle.errors.specs.Standing.{standsFor, standingUnder, rowAt, clashUnder, mergeErrors};
-ghost use Rattle.errors.specs.Placing.{Placed};
-ghost use Rattle.errors.specs.ByCards.{schemaMergeErrors};
-ghost use Rattle.errors.specs.Views.{cardView, Merging};
+ghost use Rattle.errors_laws.specs.Pushing.{ledger, pushAll, Room};
+ghost use Rattle.errors_laws.specs.Standing.{standsFor, standingUnder, rowAt, clashUnder, mergeErrors};
+ghost use Rattle.errors_laws.specs.Placing.{Placed};
+ghost use Rattle.errors_laws.specs.ByCards.{schemaMergeErrors};
+ghost use Rattle.errors_laws.specs.Views.{cardView, Merging};
 
 // The numbers of the errors of parts that come again, by the part's kind from 21 on.
 const CLASHES: [u32; 8] = [10, 12, 15, 14, 16, 9, 9, 9];

@@ -2,7 +2,7 @@
 ghost use mathlib.Core.Path.{_≡_};
 ghost use Prim.Native.Nat.{ℕ, _+_, _<_};
 ghost use lib.ListN.{length, getD};
-ghost use Rattle.errors.specs.Placing.{PlacedFrom, Placed};
+ghost use Rattle.errors_laws.specs.Placing.{PlacedFrom, Placed};
 
 fn clear(places: &mut [u32])
     ensures { λ _. ⌜ ((c : ℕ) → getD (now (places .exit)) c 0 ≡ 0) ⌝ }

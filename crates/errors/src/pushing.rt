@@ -6,7 +6,7 @@ ghost use Prim.Native.Nat.{_+_, _-_, _≤_, _<_};
 ghost use lib.ListN.{length, getD};
 ghost use Rattle.definition.specs.Lists.{written};
 ghost use Rattle.definition.specs.Errors.{error};
-ghost use Rattle.errors.specs.Pushing.{ledger, noErrors, countedIn, push, Fits};
+ghost use Rattle.errors_laws.specs.Pushing.{ledger, noErrors, countedIn, push, Fits};
 
 // No errors yet.
 pub fn no_errors() -> Tallies

@@ -11,9 +11,9 @@ ghost use Rattle.definition.specs.Lists.{flatMap};
 ghost use Rattle.definition.specs.Store.{cardsUsed};
 ghost use Rattle.stored.specs.Stored.{cardKind};
 ghost use Rattle.index.specs.Index.{Printed};
-ghost use Rattle.errors.specs.Pushing.{ledger, noErrors, pushAll, Room};
-ghost use Rattle.errors.specs.ByCards.{collides, directiveErrorsAt, schemaErrorsAt, schemaExtensionErrorsAt, redefinitionErrorsAt, earlyErrors, typeErrorsAt, typeExtensionErrorsAt, errorsAtCard, readingAt};
-ghost use Rattle.errors.specs.Views.{viewOf, cardView, cardsView, Merging, Searching, Held, HeldHeadings, Ascending};
+ghost use Rattle.errors_laws.specs.Pushing.{ledger, noErrors, pushAll, Room};
+ghost use Rattle.errors_laws.specs.ByCards.{collides, directiveErrorsAt, schemaErrorsAt, schemaExtensionErrorsAt, redefinitionErrorsAt, earlyErrors, typeErrorsAt, typeExtensionErrorsAt, errorsAtCard, readingAt};
+ghost use Rattle.errors_laws.specs.Views.{viewOf, cardView, cardsView, Merging, Searching, Held, HeldHeadings, Ascending};
 
 // Whether the card is a directive definition that is not built-in and has the name of h.
 fn collides(text: &[u8], words: &[u32], prints: &[u32], h: u32, card: u32) -> bool

@@ -1,7 +1,7 @@
 use mathlib.Core.Path.{refl}
-use Rattle.errors.specs.Pushing.{ledger, noErrors}
-use Rattle.errors.proofs.LawsPush.{first-room, second-room}
-use Rattle.errors.proofs.LawsTallies.{total-least, pushed-apart}
+use Rattle.errors_laws.specs.Pushing.{ledger, noErrors}
+use Rattle.errors_laws.proofs.LawsPush.{first-room, second-room}
+use Rattle.errors.proofs.LawsDrawn.{total-least, pushed-apart}
 use Rattle.errors.proofs.push_errors.Statement.{statement}
 use Rattle.errors.proofs.push_errors.Tie as tie
 use borrow.Author.Needs.{needs}

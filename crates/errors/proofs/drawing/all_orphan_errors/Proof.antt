@@ -4,11 +4,11 @@ use mathlib.Core.Path.{_≡_, _∙_, refl}
 use lib.ListN.{length, drop}
 use Rattle.definition.specs.Lists.{flatMap}
 use Rattle.definition.specs.Store.{cardsUsed}
-use Rattle.errors.specs.Pushing.{ledger}
-use Rattle.errors.proofs.LawsPush.{Going, going-start, next-room, next-on, going-end, flat-next, flat-done}
-use Rattle.errors.proofs.LawsBranches.{held-at}
-use Rattle.errors.specs.ByCards.{orphanErrorsAt}
-use Rattle.errors.specs.Views.{viewOf}
+use Rattle.errors_laws.specs.Pushing.{ledger}
+use Rattle.errors_laws.proofs.LawsPush.{Going, going-start, next-room, next-on, going-end, flat-next, flat-done}
+use Rattle.errors_laws.proofs.LawsBranches.{held-at}
+use Rattle.errors_laws.specs.ByCards.{orphanErrorsAt}
+use Rattle.errors_laws.specs.Views.{viewOf}
 use Rattle.stored.specs.Stored.{cardKind}
 use Rattle.errors.proofs.drawing.all_orphan_errors.Statement.{statement}
 use Rattle.errors.proofs.drawing.all_orphan_errors.Tie as tie

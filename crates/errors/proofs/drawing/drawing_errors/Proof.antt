@@ -1,8 +1,8 @@
 use mathlib.Core.Path.{sym, _∙_}
 use lib.ListN.{getD}
-use Rattle.errors.specs.Pushing.{ledger}
-use Rattle.errors.proofs.LawsPush.{first-room, second-room, both-pushed}
-use Rattle.errors.proofs.LawsBranches.{same-pushed, drawing-defined, drawing-both, drawing-parts}
+use Rattle.errors_laws.specs.Pushing.{ledger}
+use Rattle.errors_laws.proofs.LawsPush.{first-room, second-room, both-pushed}
+use Rattle.errors_laws.proofs.LawsBranches.{same-pushed, drawing-defined, drawing-both, drawing-parts}
 use Rattle.errors.proofs.drawing.drawing_errors.Statement.{statement}
 use Rattle.errors.proofs.drawing.drawing_errors.Tie as tie
 use borrow.Author.Needs.{needs}

@@ -1,5 +1,5 @@
 use mathlib.Core.Path.{sym}
-use Rattle.errors.proofs.LawsBranches.{bare-short, bare-long}
+use Rattle.errors_laws.proofs.LawsBranches.{bare-short, bare-long}
 use Rattle.errors.proofs.drawing.is_bare.Statement.{statement}
 use Rattle.errors.proofs.drawing.is_bare.Tie as tie
 use borrow.Author.Needs.{needs}

@@ -1,4 +1,4 @@
-use Rattle.errors.proofs.LawsBranches.{same-pushed, same-room, no-schema-adopted, no-schema-unmet, no-schema-met}
+use Rattle.errors_laws.proofs.LawsBranches.{same-pushed, same-room, no-schema-adopted, no-schema-unmet, no-schema-met}
 use Rattle.errors.proofs.drawing.no_schema_errors.Statement.{statement}
 use Rattle.errors.proofs.drawing.no_schema_errors.Tie as tie
 use borrow.Author.Needs.{needs}

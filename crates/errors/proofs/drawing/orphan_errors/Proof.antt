@@ -1,5 +1,5 @@
-use Rattle.errors.specs.Views.{viewOf}
-use Rattle.errors.proofs.LawsBranches.{same-pushed, same-room, orphans-adopted, orphans-unadopted}
+use Rattle.errors_laws.specs.Views.{viewOf}
+use Rattle.errors_laws.proofs.LawsBranches.{same-pushed, same-room, orphans-adopted, orphans-unadopted}
 use Rattle.errors.proofs.drawing.orphan_errors.Statement.{statement}
 use Rattle.errors.proofs.drawing.orphan_errors.Tie as tie
 use borrow.Author.Needs.{needs}

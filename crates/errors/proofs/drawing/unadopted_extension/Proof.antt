@@ -1,7 +1,7 @@
 use mathlib.Core.List.{[]}
 use borrow.Author.Tests.{not-true, not-false}
-use Rattle.errors.proofs.LawsPush.{none-pushed, one-pushed, one-fits}
-use Rattle.errors.proofs.LawsBranches.{unadopted-other, unadopted-same}
+use Rattle.errors_laws.proofs.LawsPush.{none-pushed, one-pushed, one-fits}
+use Rattle.errors_laws.proofs.LawsBranches.{unadopted-other, unadopted-same}
 use Rattle.errors.proofs.drawing.unadopted_extension.Statement.{statement}
 use Rattle.errors.proofs.drawing.unadopted_extension.Tie as tie
 use borrow.Author.Needs.{needs}

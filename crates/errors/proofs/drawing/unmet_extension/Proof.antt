@@ -1,8 +1,8 @@
 use mathlib.Core.Path.{sym, _∙_}
 use mathlib.Core.List.{[]}
-use Rattle.errors.specs.Views.{cardView}
-use Rattle.errors.proofs.LawsPush.{none-pushed, one-pushed, one-fits}
-use Rattle.errors.proofs.LawsBranches.{unmet-other, unmet-is}
+use Rattle.errors_laws.specs.Views.{cardView}
+use Rattle.errors_laws.proofs.LawsPush.{none-pushed, one-pushed, one-fits}
+use Rattle.errors_laws.proofs.LawsBranches.{unmet-other, unmet-is}
 use Rattle.errors.proofs.drawing.unmet_extension.Statement.{statement}
 use Rattle.errors.proofs.drawing.unmet_extension.Tie as tie
 use borrow.Author.Needs.{needs}

@@ -1,6 +1,6 @@
 use native.Mathlib.Omega.{arith}
 use Prim.Native.Nat.{_-_}
-use Rattle.errors.proofs.LawsTurns.{clash-small, clash-interface, clash-other}
+use Rattle.errors_laws.proofs.LawsTurns.{clash-small, clash-interface, clash-other}
 use Rattle.errors.proofs.merging.clash_number.Statement.{statement}
 use Rattle.errors.proofs.merging.clash_number.Tie as tie
 use borrow.Author.Needs.{needs}

@@ -3,8 +3,8 @@ use native.Mathlib.Omega.{arith}
 use mathlib.Core.Path.{_≡_}
 use mathlib.Core.Logic.{⊎-elim}
 use lib.ListN.{length, drop}
-use Rattle.errors.specs.Standing.{rowAt}
-use Rattle.errors.proofs.LawsTurns.{row-is, row-no-what, row-no-card, row-hit, row-miss, row-end}
+use Rattle.errors_laws.specs.Standing.{rowAt}
+use Rattle.errors_laws.proofs.LawsTurns.{row-is, row-no-what, row-no-card, row-hit, row-miss, row-end}
 use Rattle.errors.proofs.merging.find_row.Statement.{statement}
 use Rattle.errors.proofs.merging.find_row.Tie as tie
 use borrow.Author.Needs.{needs}

@@ -4,10 +4,10 @@ use mathlib.Core.Path.{_≡_, sym, _∙_, refl, ap}
 use mathlib.Core.Logic.{⊎-elim}
 use lib.ListN.{length, drop}
 use Rattle.stored.specs.Stored.{cardAt}
-use Rattle.errors.specs.declared.Standing.the-variants.{Nothing}
-use Rattle.errors.specs.Standing.{standsFor, standingIn, standingUnder}
-use Rattle.errors.specs.Views.{cardView}
-use Rattle.errors.proofs.LawsTurns.{row-is, row-no-what, row-no-card, row-inside, under-from, under-hit, under-miss, under-end, in-stop, in-hit, in-miss, in-end}
+use Rattle.errors_laws.specs.declared.Standing.the-variants.{Nothing}
+use Rattle.errors_laws.specs.Standing.{standsFor, standingIn, standingUnder}
+use Rattle.errors_laws.specs.Views.{cardView}
+use Rattle.errors_laws.proofs.LawsTurns.{row-is, row-no-what, row-no-card, row-inside, under-from, under-hit, under-miss, under-end, in-stop, in-hit, in-miss, in-end}
 use Rattle.errors.proofs.merging.find_standing.Statement.{statement}
 use Rattle.errors.proofs.merging.find_standing.Tie as tie
 use borrow.Author.Needs.{needs}

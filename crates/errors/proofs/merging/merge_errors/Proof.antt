@@ -8,11 +8,11 @@ use Rattle.definition.specs.Store.{cardsUsed}
 use Prim.Native.Nat.{_<_}
 use mathlib.Core.Bool.{true}
 use Rattle.stored.specs.Stored.{cardKind}
-use Rattle.errors.specs.Pushing.{ledger}
-use Rattle.errors.specs.Standing.{mergeErrors}
-use Rattle.errors.specs.Views.{cardView}
-use Rattle.errors.proofs.LawsPush.{Going, going-start, going-as, next-room, next-on, going-end}
-use Rattle.errors.proofs.LawsMerge.{mergeRest, merge-all, merge-next, merge-stop, merge-end}
+use Rattle.errors_laws.specs.Pushing.{ledger}
+use Rattle.errors_laws.specs.Standing.{mergeErrors}
+use Rattle.errors_laws.specs.Views.{cardView}
+use Rattle.errors_laws.proofs.LawsPush.{Going, going-start, going-as, next-room, next-on, going-end}
+use Rattle.errors_laws.proofs.LawsMerge.{mergeRest, merge-all, merge-next, merge-stop, merge-end}
 use Rattle.errors.proofs.merging.merge_errors.Statement.{statement}
 use Rattle.errors.proofs.merging.merge_errors.Tie as tie
 use borrow.Author.Needs.{needs}

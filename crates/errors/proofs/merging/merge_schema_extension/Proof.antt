@@ -1,7 +1,7 @@
 use mathlib.Core.Path.{sym, _∙_}
-use Rattle.errors.specs.Views.{cardView}
-use Rattle.errors.proofs.LawsPush.{none-pushed}
-use Rattle.errors.proofs.LawsBranches.{same-pushed, same-room, schema-merge-other, schema-merge-is}
+use Rattle.errors_laws.specs.Views.{cardView}
+use Rattle.errors_laws.proofs.LawsPush.{none-pushed}
+use Rattle.errors_laws.proofs.LawsBranches.{same-pushed, same-room, schema-merge-other, schema-merge-is}
 use Rattle.errors.proofs.merging.merge_schema_extension.Statement.{statement}
 use Rattle.errors.proofs.merging.merge_schema_extension.Tie as tie
 use borrow.Author.Needs.{needs}

@@ -3,10 +3,10 @@ use native.Mathlib.Omega.{arith}
 use mathlib.Core.Path.{_≡_, _∙_, refl}
 use lib.ListN.{length, drop}
 use Rattle.definition.specs.Lists.{flatMap}
-use Rattle.errors.specs.Pushing.{ledger}
-use Rattle.errors.specs.ByCards.{schemaMergeErrors}
-use Rattle.errors.specs.Views.{cardView}
-use Rattle.errors.proofs.LawsPush.{Going, going-start, next-room, next-on, going-end, flat-next, flat-done}
+use Rattle.errors_laws.specs.Pushing.{ledger}
+use Rattle.errors_laws.specs.ByCards.{schemaMergeErrors}
+use Rattle.errors_laws.specs.Views.{cardView}
+use Rattle.errors_laws.proofs.LawsPush.{Going, going-start, next-room, next-on, going-end, flat-next, flat-done}
 use Rattle.errors.proofs.merging.merge_schema_extensions.Statement.{statement}
 use Rattle.errors.proofs.merging.merge_schema_extensions.Tie as tie
 use borrow.Author.Needs.{needs}

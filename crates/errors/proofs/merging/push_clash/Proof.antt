@@ -4,10 +4,10 @@ use Prim.Native.Nat.{ℕ}
 use Rattle.definition.specs.Cards.{isPart}
 use Rattle.definition.specs.Errors.{error, clashNumber}
 use Rattle.stored.specs.Stored.{cardAt}
-use Rattle.errors.specs.Standing.{clashUnder}
-use Rattle.errors.specs.Views.{cardView}
-use Rattle.errors.proofs.LawsPush.{none-pushed, one-pushed, one-fits}
-use Rattle.errors.proofs.LawsMerge.{clash-use, clash-nothing, clash-own, clash-other, clash-kind}
+use Rattle.errors_laws.specs.Standing.{clashUnder}
+use Rattle.errors_laws.specs.Views.{cardView}
+use Rattle.errors_laws.proofs.LawsPush.{none-pushed, one-pushed, one-fits}
+use Rattle.errors_laws.proofs.LawsMerge.{clash-use, clash-nothing, clash-own, clash-other, clash-kind}
 use Rattle.errors.proofs.merging.push_clash.Statement.{statement}
 use Rattle.errors.proofs.merging.push_clash.Tie as tie
 use borrow.Author.Needs.{needs}

@@ -1,4 +1,4 @@
-use Rattle.errors.proofs.LawsPlaces.{search-from}
+use Rattle.errors_laws.proofs.LawsPlaces.{search-from}
 use borrow.Author.Needs.{needs}
 use Rattle.errors.proofs.merging.row_at.Statement.{statement}
 use Rattle.errors.proofs.merging.row_at.Tie as tie

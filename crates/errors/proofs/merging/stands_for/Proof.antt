@@ -3,8 +3,8 @@ use native.Mathlib.Omega.{arith}
 use Rattle.definition.specs.Cards.{isRoot}
 use Rattle.stored.specs.Stored.{cardAt}
 use Rattle.index.specs.Index.{sameCards}
-use Rattle.errors.specs.Views.{cardView}
-use Rattle.errors.proofs.LawsTurns.{stands-other, stands-root, stands-past, stands-named}
+use Rattle.errors_laws.specs.Views.{cardView}
+use Rattle.errors_laws.proofs.LawsTurns.{stands-other, stands-root, stands-past, stands-named}
 use Rattle.errors.proofs.merging.stands_for.Statement.{statement}
 use Rattle.errors.proofs.merging.stands_for.Tie as tie
 use borrow.Author.Needs.{needs}

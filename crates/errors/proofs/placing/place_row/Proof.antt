@@ -1,6 +1,6 @@
 use Prim.Native.Nat.{_+_}
 use native.Mathlib.Omega.{arith}
-use Rattle.errors.proofs.LawsPlaces.{placed-part, placed-past, placed-here}
+use Rattle.errors_laws.proofs.LawsPlaces.{placed-part, placed-past, placed-here}
 use borrow.Author.Needs.{needs}
 use Rattle.errors.proofs.placing.place_row.Statement.{statement}
 use Rattle.errors.proofs.placing.place_row.Tie as tie

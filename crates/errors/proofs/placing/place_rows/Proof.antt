@@ -4,8 +4,8 @@ use mathlib.Core.Path.{_≡_, _∙_, refl, subst}
 use mathlib.Core.Logic.{inl}
 use lib.ListN.{length}
 use borrow.Author.Needs.{needs}
-use Rattle.errors.specs.Placing.{PlacedFrom}
-use Rattle.errors.proofs.LawsPlaces.{placed-all}
+use Rattle.errors_laws.specs.Placing.{PlacedFrom}
+use Rattle.errors_laws.proofs.LawsPlaces.{placed-all}
 use Rattle.errors.proofs.placing.place_rows.Statement.{statement}
 use Rattle.errors.proofs.placing.place_rows.Tie as tie
 

@@ -1,4 +1,4 @@
-use Rattle.errors.specs.Pushing.{countedIn}
+use Rattle.errors_laws.specs.Pushing.{countedIn}
 use Rattle.errors.proofs.pushing.counted.Statement.{statement}
 use Rattle.errors.proofs.pushing.counted.Tie as tie
 use borrow.Author.Needs.{needs}

@@ -2,7 +2,7 @@ use native.Mathlib.Omega.{arith}
 use Prim.Native.Nat.{_*_}
 use mathlib.Core.List.{_∷_, []}
 use Rattle.definition.specs.Errors.{error}
-use Rattle.errors.proofs.LawsPush.{tail-written, pushed}
+use Rattle.errors_laws.proofs.LawsPush.{tail-written, pushed}
 use Rattle.errors.proofs.pushing.push_error.Statement.{statement}
 use Rattle.errors.proofs.pushing.push_error.Tie as tie
 use borrow.Author.Needs.{needs}

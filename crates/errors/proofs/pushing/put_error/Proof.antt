@@ -1,6 +1,6 @@
 use native.Mathlib.Omega.{arith}
 use lib.ListN.{length-set}
-use Rattle.errors.proofs.LawsPush.{three-written}
+use Rattle.errors_laws.proofs.LawsPush.{three-written}
 use Rattle.errors.proofs.pushing.put_error.Statement.{statement}
 use Rattle.errors.proofs.pushing.put_error.Tie as tie
 use borrow.Author.Needs.{needs}

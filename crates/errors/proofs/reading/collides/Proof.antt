@@ -1,7 +1,7 @@
 use mathlib.Core.Path.{sym, _∙_}
 use Rattle.index.specs.Index.{sameCards}
-use Rattle.errors.specs.Views.{cardView}
-use Rattle.errors.proofs.LawsBranches.{collides-other, collides-built-in, collides-named}
+use Rattle.errors_laws.specs.Views.{cardView}
+use Rattle.errors_laws.proofs.LawsBranches.{collides-other, collides-built-in, collides-named}
 use Rattle.errors.proofs.reading.collides.Statement.{statement}
 use Rattle.errors.proofs.reading.collides.Tie as tie
 use borrow.Author.Needs.{needs}

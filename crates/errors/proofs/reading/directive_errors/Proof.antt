@@ -4,11 +4,11 @@ use mathlib.Core.Path.{_≡_, sym, _∙_, refl, ap}
 use lib.ListN.{length, drop}
 use Rattle.definition.specs.Lists.{firstWhere}
 use Rattle.definition.specs.Store.{cardsUsed}
-use Rattle.errors.specs.Pushing.{ledger}
-use Rattle.errors.specs.ByCards.{collides}
-use Rattle.errors.specs.Views.{cardView}
-use Rattle.errors.proofs.LawsPush.{none-pushed, one-pushed, one-fits}
-use Rattle.errors.proofs.LawsBranches.{first-here, first-later, first-past, held-at, directive-found, directive-none}
+use Rattle.errors_laws.specs.Pushing.{ledger}
+use Rattle.errors_laws.specs.ByCards.{collides}
+use Rattle.errors_laws.specs.Views.{cardView}
+use Rattle.errors_laws.proofs.LawsPush.{none-pushed, one-pushed, one-fits}
+use Rattle.errors_laws.proofs.LawsBranches.{first-here, first-later, first-past, held-at, directive-found, directive-none}
 use Rattle.errors.proofs.reading.directive_errors.Statement.{statement}
 use Rattle.errors.proofs.reading.directive_errors.Tie as tie
 use borrow.Author.Needs.{needs}

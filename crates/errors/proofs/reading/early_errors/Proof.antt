@@ -3,11 +3,11 @@ use native.Mathlib.Omega.{arith}
 use mathlib.Core.Path.{_≡_, _∙_, refl}
 use lib.ListN.{length, drop}
 use Rattle.definition.specs.Lists.{flatMap}
-use Rattle.errors.specs.Pushing.{ledger}
-use Rattle.errors.specs.ByCards.{earlyErrors}
-use Rattle.errors.specs.Views.{viewOf}
-use Rattle.errors.proofs.LawsPush.{Going, going-start, next-room, next-on, going-end, flat-next, flat-done}
-use Rattle.errors.proofs.LawsBranches.{none-early}
+use Rattle.errors_laws.specs.Pushing.{ledger}
+use Rattle.errors_laws.specs.ByCards.{earlyErrors}
+use Rattle.errors_laws.specs.Views.{viewOf}
+use Rattle.errors_laws.proofs.LawsPush.{Going, going-start, next-room, next-on, going-end, flat-next, flat-done}
+use Rattle.errors_laws.proofs.LawsBranches.{none-early}
 use Rattle.errors.proofs.reading.early_errors.Statement.{statement}
 use Rattle.errors.proofs.reading.early_errors.Tie as tie
 use borrow.Author.Needs.{needs}

@@ -1,5 +1,5 @@
-use Rattle.errors.proofs.LawsPush.{none-pushed}
-use Rattle.errors.proofs.LawsBranches.{same-pushed, same-room, early-other-kind, early-other-owner, early-own}
+use Rattle.errors_laws.proofs.LawsPush.{none-pushed}
+use Rattle.errors_laws.proofs.LawsBranches.{same-pushed, same-room, early-other-kind, early-other-owner, early-own}
 use Rattle.errors.proofs.reading.early_extension_errors.Statement.{statement}
 use Rattle.errors.proofs.reading.early_extension_errors.Tie as tie
 use borrow.Author.Needs.{needs}

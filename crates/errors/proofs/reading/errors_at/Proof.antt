@@ -1,6 +1,6 @@
 use native.Mathlib.Omega.{arith}
-use Rattle.errors.proofs.LawsPush.{one-pushed, one-fits}
-use Rattle.errors.proofs.LawsBranches.{same-pushed, same-room, at-executable, at-directive, at-schema, at-type, at-schema-extension, at-type-extension}
+use Rattle.errors_laws.proofs.LawsPush.{one-pushed, one-fits}
+use Rattle.errors_laws.proofs.LawsBranches.{same-pushed, same-room, at-executable, at-directive, at-schema, at-type, at-schema-extension, at-type-extension}
 use Rattle.errors.proofs.reading.errors_at.Statement.{statement}
 use Rattle.errors.proofs.reading.errors_at.Tie as tie
 use borrow.Author.Needs.{needs}

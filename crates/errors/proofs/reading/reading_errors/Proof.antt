@@ -7,11 +7,11 @@ use lib.ListN.{length, take, drop}
 use Rattle.definition.specs.Store.{cardsUsed}
 use Rattle.definition.proofs.All.{all-to}
 use Rattle.stored.specs.Stored.{cardKind}
-use Rattle.errors.specs.Pushing.{ledger, noErrors}
-use Rattle.errors.specs.ByCards.{readingAt}
-use Rattle.errors.specs.Views.{viewOf}
-use Rattle.errors.proofs.LawsPush.{Going, going-start, next-room, next-on, going-end}
-use Rattle.errors.proofs.LawsBranches.{reading-next, reading-done, held-at, held-before}
+use Rattle.errors_laws.specs.Pushing.{ledger, noErrors}
+use Rattle.errors_laws.specs.ByCards.{readingAt}
+use Rattle.errors_laws.specs.Views.{viewOf}
+use Rattle.errors_laws.proofs.LawsPush.{Going, going-start, next-room, next-on, going-end}
+use Rattle.errors_laws.proofs.LawsBranches.{reading-next, reading-done, held-at, held-before}
 use Rattle.errors.proofs.reading.reading_errors.Statement.{statement}
 use Rattle.errors.proofs.reading.reading_errors.Tie as tie
 use borrow.Author.Needs.{needs}

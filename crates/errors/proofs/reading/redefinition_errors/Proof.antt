@@ -1,6 +1,6 @@
 use borrow.Author.Tests.{not-true, not-false}
-use Rattle.errors.proofs.LawsPush.{none-pushed, one-pushed, one-fits}
-use Rattle.errors.proofs.LawsBranches.{second-own, second-ignored, second-scalar, second-other}
+use Rattle.errors_laws.proofs.LawsPush.{none-pushed, one-pushed, one-fits}
+use Rattle.errors_laws.proofs.LawsBranches.{second-own, second-ignored, second-scalar, second-other}
 use Rattle.errors.proofs.reading.redefinition_errors.Statement.{statement}
 use Rattle.errors.proofs.reading.redefinition_errors.Tie as tie
 use borrow.Author.Needs.{needs}

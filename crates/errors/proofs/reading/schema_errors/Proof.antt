@@ -1,7 +1,7 @@
-use Rattle.errors.specs.Pushing.{ledger}
-use Rattle.errors.specs.Views.{cardView}
-use Rattle.errors.proofs.LawsPush.{one-pushed, one-fits, first-room, second-room, both-pushed}
-use Rattle.errors.proofs.LawsBranches.{schema-second, schema-first}
+use Rattle.errors_laws.specs.Pushing.{ledger}
+use Rattle.errors_laws.specs.Views.{cardView}
+use Rattle.errors_laws.proofs.LawsPush.{one-pushed, one-fits, first-room, second-room, both-pushed}
+use Rattle.errors_laws.proofs.LawsBranches.{schema-second, schema-first}
 use Rattle.errors.proofs.reading.schema_errors.Statement.{statement}
 use Rattle.errors.proofs.reading.schema_errors.Tie as tie
 use borrow.Author.Needs.{needs}

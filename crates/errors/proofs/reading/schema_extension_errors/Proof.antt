@@ -1,6 +1,6 @@
-use Rattle.errors.specs.Views.{cardView}
-use Rattle.errors.proofs.LawsPush.{none-pushed}
-use Rattle.errors.proofs.LawsBranches.{same-pushed, same-room, extension-waits, extension-merged}
+use Rattle.errors_laws.specs.Views.{cardView}
+use Rattle.errors_laws.proofs.LawsPush.{none-pushed}
+use Rattle.errors_laws.proofs.LawsBranches.{same-pushed, same-room, extension-waits, extension-merged}
 use Rattle.errors.proofs.reading.schema_extension_errors.Statement.{statement}
 use Rattle.errors.proofs.reading.schema_extension_errors.Tie as tie
 use borrow.Author.Needs.{needs}

@@ -1,7 +1,7 @@
 use native.Mathlib.Omega.{arith}
-use Rattle.errors.specs.Pushing.{ledger}
-use Rattle.errors.proofs.LawsPush.{first-room, second-room, both-pushed}
-use Rattle.errors.proofs.LawsBranches.{same-pushed, same-room, defined-again, defined-first}
+use Rattle.errors_laws.specs.Pushing.{ledger}
+use Rattle.errors_laws.proofs.LawsPush.{first-room, second-room, both-pushed}
+use Rattle.errors_laws.proofs.LawsBranches.{same-pushed, same-room, defined-again, defined-first}
 use Rattle.errors.proofs.reading.type_errors.Statement.{statement}
 use Rattle.errors.proofs.reading.type_errors.Tie as tie
 use borrow.Author.Needs.{needs}

@@ -1,6 +1,6 @@
 use native.Mathlib.Omega.{arith}
-use Rattle.errors.proofs.LawsPush.{none-pushed, one-pushed, one-fits}
-use Rattle.errors.proofs.LawsBranches.{same-pushed, same-room, late-waits, late-mismatch, late-merged}
+use Rattle.errors_laws.proofs.LawsPush.{none-pushed, one-pushed, one-fits}
+use Rattle.errors_laws.proofs.LawsBranches.{same-pushed, same-room, late-waits, late-mismatch, late-merged}
 use Rattle.errors.proofs.reading.type_extension_errors.Statement.{statement}
 use Rattle.errors.proofs.reading.type_extension_errors.Tie as tie
 use borrow.Author.Needs.{needs}

@@ -8,8 +8,8 @@ use Rattle.definition.specs.Names.{sameName}
 use Rattle.definition.specs.Cards.{isRoot}
 use Rattle.definition.specs.Headings.{Part}
 use Rattle.definition.specs.Errors.{Error, error, clashNumber}
-use Rattle.errors.specs.declared.Standing.{Standing}
-use Rattle.errors.specs.declared.Standing.the-variants.{Card, Nothing}
+use Rattle.errors_laws.specs.declared.Standing.{Standing}
+use Rattle.errors_laws.specs.declared.Standing.the-variants.{Card, Nothing}
 
 -- What is read of a card by its number: the first `used` numbers are cards'.
 pub record View : Type 0 where

@@ -13,18 +13,18 @@ use Rattle.definition.specs.Answers.{absent}
 use Rattle.definition.specs.Headings.{Part, Heading, isKind, isTypeDefinition, isTypeExtension, isNamed, sameNamed, definesType, definition, isMissing, isOrphan, orphans, isOf, extensionsOf, partsOf, parts}
 use Rattle.definition.specs.Catalogue.{ofExtensions, partIn, underType, rows}
 use Rattle.definition.specs.Errors.{Error, headingError, clashes, adoptionErrors, orphanErrors}
-use Rattle.errors.specs.Standing.{View, clashUnder}
-use Rattle.errors.specs.ByCards.{isOrphanOf, adoptionErrorsAt, unadoptedErrorsAt, orphanErrorsAt}
+use Rattle.errors_laws.specs.Standing.{View, clashUnder}
+use Rattle.errors_laws.specs.ByCards.{isOrphanOf, adoptionErrorsAt, unadoptedErrorsAt, orphanErrorsAt}
 use Rattle.definition.proofs.Lists.{flatMap-nil, flatMap-cons, keep-yes, keep-no, any-yes, any-append, sameName-eq}
 use Rattle.definition.proofs.All.{all-keep, all-firsts, all-found, all-every, all-to, all-with, keep-pass}
-use Rattle.errors.proofs.Walks.{flat-cong, flat-gated, flat-map, keep-both, keep-cong}
-use Rattle.errors.proofs.LawsRepeats.{times, times-append}
-use Rattle.errors.proofs.LawsStanding.{rowWords, isIn}
+use Rattle.errors_laws.proofs.Walks.{flat-cong, flat-gated, flat-map, keep-both, keep-cong}
+use Rattle.errors_laws.proofs.LawsRepeats.{times, times-append}
+use Rattle.errors_laws.proofs.LawsStanding.{rowWords, isIn}
 use Rattle.definition.proofs.DrawnRows.{orphans-extend}
-use Rattle.errors.proofs.LawsRows.{HeadingTold, extends-kind, adopted-stands}
-use Rattle.errors.proofs.LawsClashes.{clashes-found}
-use Rattle.errors.proofs.LawsKnown.{headingOf, OfType, Known, kind-told, name-told, merge-told, number-some, number-none, parts-cons, extensions-parts, times-kept}
-use Rattle.errors.proofs.LawsTypes.{or-right, kind-extends}
+use Rattle.errors_laws.proofs.LawsRows.{HeadingTold, extends-kind, adopted-stands}
+use Rattle.errors_laws.proofs.LawsClashes.{clashes-found}
+use Rattle.errors_laws.proofs.LawsKnown.{headingOf, OfType, Known, kind-told, name-told, merge-told, number-some, number-none, parts-cons, extensions-parts, times-kept}
+use Rattle.errors_laws.proofs.LawsTypes.{or-right, kind-extends}
 
 abbrev numberIn : Heading → ℕ
 numberIn h = h .number

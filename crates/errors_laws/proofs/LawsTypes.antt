@@ -14,17 +14,17 @@ use Rattle.definition.specs.Cards.{isType}
 use Rattle.definition.specs.Headings.{Part, Heading, isKind, isTypeDefinition, isTypeExtension, isNamed, definesType, isOf, extensionsOf, definition, numberOf, parts, partsOf}
 use Rattle.definition.specs.Catalogue.{components, ofExtensions, partIn, underType, typeComponents, rows}
 use Rattle.definition.specs.Errors.{error, headingError, clashes, redefinitionErrors, typeErrors, lateExtensionErrors, typeExtensionErrors}
-use Rattle.errors.specs.Standing.{View, clashUnder, mergeErrors}
-use Rattle.errors.specs.ByCards.{redefinitionErrorsAt, isEarly, earlyErrors, typeErrorsAt, lateErrorsAt, typeExtensionErrorsAt}
+use Rattle.errors_laws.specs.Standing.{View, clashUnder, mergeErrors}
+use Rattle.errors_laws.specs.ByCards.{redefinitionErrorsAt, isEarly, earlyErrors, typeErrorsAt, lateErrorsAt, typeExtensionErrorsAt}
 use Rattle.definition.proofs.Lists.{map-append, flatMap-nil, flatMap-cons, flatMap-append, keep-nil, keep-yes, keep-no, sameName-eq, sameName-refl, split}
 use Rattle.definition.proofs.All.{all-append, all-keep, all-flatMap, all-found, all-to, all-every}
 use Rattle.definition.proofs.Tests.{zero-one}
-use Rattle.errors.proofs.Walks.{flat-cong, flat-gated, flat-map, keep-both, keep-cong, keep-out}
-use Rattle.errors.proofs.LawsRepeats.{times, times-append}
-use Rattle.errors.proofs.LawsStanding.{rowWords, isIn}
-use Rattle.errors.proofs.LawsRows.{HeadingTold, PartsTold, defines-kind, type-stands}
-use Rattle.errors.proofs.LawsClashes.{clashes-found}
-use Rattle.errors.proofs.LawsKnown.{headingOf, OfType, Known, kind-told, built-in-told, ignored-told, merge-told, Around, all-here, all-before, defined-below, defined-above, defined-nowhere, defined-from, defined-here, number-some, number-none, keep-around, parts-nil, parts-cons, parts-append, components-parts, extensions-parts, times-with, found-defines, among-types}
+use Rattle.errors_laws.proofs.Walks.{flat-cong, flat-gated, flat-map, keep-both, keep-cong, keep-out}
+use Rattle.errors_laws.proofs.LawsRepeats.{times, times-append}
+use Rattle.errors_laws.proofs.LawsStanding.{rowWords, isIn}
+use Rattle.errors_laws.proofs.LawsRows.{HeadingTold, PartsTold, defines-kind, type-stands}
+use Rattle.errors_laws.proofs.LawsClashes.{clashes-found}
+use Rattle.errors_laws.proofs.LawsKnown.{headingOf, OfType, Known, kind-told, built-in-told, ignored-told, merge-told, Around, all-here, all-before, defined-below, defined-above, defined-nowhere, defined-from, defined-here, number-some, number-none, keep-around, parts-nil, parts-cons, parts-append, components-parts, extensions-parts, times-with, found-defines, among-types}
 
 -- ---- Walks over headings.
 

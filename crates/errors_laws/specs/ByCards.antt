@@ -11,7 +11,7 @@ use Rattle.definition.specs.Names.{sameName}
 use Rattle.definition.specs.Answers.{absent}
 use Rattle.definition.specs.Cards.{isType}
 use Rattle.definition.specs.Errors.{Error, error}
-use Rattle.errors.specs.Standing.{View, mergeErrors}
+use Rattle.errors_laws.specs.Standing.{View, mergeErrors}
 
 -- ---- While reading documents. `before` are the cards of the headings before h.
 

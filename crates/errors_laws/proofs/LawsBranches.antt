@@ -16,13 +16,13 @@ use Rattle.definition.specs.Answers.{absent}
 use Rattle.definition.specs.Cards.{isType}
 use Rattle.definition.specs.Errors.{Error, error}
 use Rattle.stored.specs.Stored.{cardKind, cardName, builtInAt, ignoredAt}
-use Rattle.errors.specs.Pushing.{Ledger, pushAll, Room}
-use Rattle.errors.specs.Standing.{View, standsFor, clashUnder, mergeErrors}
-use Rattle.errors.specs.ByCards.{collides, directiveErrorsAt, schemaMergeErrors, schemaErrorsAt, schemaExtensionErrorsAt, redefinitionErrorsAt, isEarly, earlyErrors, typeErrorsAt, lateErrorsAt, typeExtensionErrorsAt, errorsAtCard, readingAt, isOrphanOf, adoptionErrorsAt, unadoptedErrorsAt, orphanErrorsAt, unmetErrors, isBare, noSchemaErrorsAt, drawingAt}
-use Rattle.errors.specs.Views.{viewOf, cardView, cardsView, Ascending}
+use Rattle.errors_laws.specs.Pushing.{Ledger, pushAll, Room}
+use Rattle.errors_laws.specs.Standing.{View, standsFor, clashUnder, mergeErrors}
+use Rattle.errors_laws.specs.ByCards.{collides, directiveErrorsAt, schemaMergeErrors, schemaErrorsAt, schemaExtensionErrorsAt, redefinitionErrorsAt, isEarly, earlyErrors, typeErrorsAt, lateErrorsAt, typeExtensionErrorsAt, errorsAtCard, readingAt, isOrphanOf, adoptionErrorsAt, unadoptedErrorsAt, orphanErrorsAt, unmetErrors, isBare, noSchemaErrorsAt, drawingAt}
+use Rattle.errors_laws.specs.Views.{viewOf, cardView, cardsView, Ascending}
 use Rattle.definition.proofs.Lists.{flatMap-nil, flatMap-cons, first-nil, first-yes, first-no}
 use Rattle.definition.proofs.All.{all-to}
-use Rattle.errors.proofs.LawsMerge.{merge-owners}
+use Rattle.errors_laws.proofs.LawsMerge.{merge-owners}
 
 -- ---- Another name for what is pushed.
 

@@ -12,13 +12,13 @@ use Rattle.definition.specs.Names.{sameName}
 use Rattle.definition.specs.Answers.{absent}
 use Rattle.definition.specs.Headings.{Part, Heading, isKind, isTypeDefinition, isTypeExtension, isNamed, sameNamed, definesType, types, definition, numberOf, parts, partsOf}
 use Rattle.definition.specs.Catalogue.{component, components, ownComponents, ofExtensions, partIn, underType, underSchema}
-use Rattle.errors.specs.Standing.{View, clashUnder, mergeErrors}
+use Rattle.errors_laws.specs.Standing.{View, clashUnder, mergeErrors}
 use Rattle.definition.proofs.Lists.{map-append, flatMap-nil, flatMap-cons, flatMap-append, keep-nil, keep-yes, keep-no, keep-append, first-nil, first-yes, first-no, first-append-some, first-append-none, first-both, first-firsts, any-nil, any-yes, any-no, split, sameName-eq}
 use Rattle.definition.proofs.All.{all-left, all-right, all-found, all-to}
 use Rattle.definition.proofs.Tests.{zero-one}
-use Rattle.errors.proofs.LawsRepeats.{times, times-append}
-use Rattle.errors.proofs.LawsStanding.{isIn}
-use Rattle.errors.proofs.LawsRows.{PartsTold, HeadingTold}
+use Rattle.errors_laws.proofs.LawsRepeats.{times, times-append}
+use Rattle.errors_laws.proofs.LawsStanding.{isIn}
+use Rattle.errors_laws.proofs.LawsRows.{PartsTold, HeadingTold}
 
 -- ---- What is known.
 

@@ -9,9 +9,9 @@ use lib.Dec.{eqb, ltb}
 use lib.ListN.{length, getD, set, drop, List·getD-eq-default}
 use lib.Seq.{getD-set-same, getD-set-other}
 use borrow.Author.Tests.{eqb-true, eqb-false, ltb-true, ltb-false}
-use Rattle.errors.specs.Standing.{isRowOf, rowAt}
-use Rattle.errors.specs.Placing.{SameEnd, PlacedFrom, Placed}
-use Rattle.errors.proofs.LawsTurns.{row-no-what, row-no-card, row-miss}
+use Rattle.errors_laws.specs.Standing.{isRowOf, rowAt}
+use Rattle.errors_laws.specs.Placing.{SameEnd, PlacedFrom, Placed}
+use Rattle.errors_laws.proofs.LawsTurns.{row-no-what, row-no-card, row-miss}
 
 -- ---- Cleared.
 

@@ -4,7 +4,7 @@ use mathlib.Core.List.{List}
 use mathlib.Core.Logic.{_⊎_}
 use Prim.Native.Nat.{ℕ, _+_, _≤_, _<_}
 use lib.ListN.{length, getD, drop}
-use Rattle.errors.specs.Standing.{rowAt}
+use Rattle.errors_laws.specs.Standing.{rowAt}
 
 -- The search for a row that has a heading's kind and the card ends at the same word from i on and from p on.
 pub record SameEnd (rows : List ℕ) (i p card : ℕ) : Type 0 where

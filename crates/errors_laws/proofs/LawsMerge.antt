@@ -13,10 +13,10 @@ use Rattle.definition.specs.Errors.{Error, error, clashNumber}
 use Rattle.definition.specs.Store.{cardsUsed}
 use Rattle.stored.specs.Stored.{storedParts, cardKind, cardAt, partsFrom}
 use Rattle.stored.proofs.Words.{parts-next, parts-stop, parts-end}
-use Rattle.errors.specs.declared.Standing.{Standing}
-use Rattle.errors.specs.declared.Standing.the-variants.{Card, Nothing}
-use Rattle.errors.specs.Standing.{View, standsFor, standingUnder, clashWith, clashUnder, mergeErrors}
-use Rattle.errors.specs.Views.{viewOf, cardView}
+use Rattle.errors_laws.specs.declared.Standing.{Standing}
+use Rattle.errors_laws.specs.declared.Standing.the-variants.{Card, Nothing}
+use Rattle.errors_laws.specs.Standing.{View, standsFor, standingUnder, clashWith, clashUnder, mergeErrors}
+use Rattle.errors_laws.specs.Views.{viewOf, cardView}
 use Rattle.definition.proofs.Lists.{flatMap-nil, flatMap-cons}
 use Rattle.definition.proofs.Tests.{zero-one}
 

@@ -12,7 +12,7 @@ use Rattle.definition.specs.declared.Tallies.{Tallies}
 use Rattle.definition.specs.Lists.{flatMap, written}
 use Rattle.definition.specs.Errors.{Error, error}
 use Rattle.definition.specs.Outcomes.{wordsOfError}
-use Rattle.errors.specs.Pushing.{Ledger, ledger, countedIn, push, pushAll, Fits, Room}
+use Rattle.errors_laws.specs.Pushing.{Ledger, ledger, countedIn, push, pushAll, Fits, Room}
 use Rattle.definition.proofs.Lists.{flatMap-nil, flatMap-cons}
 
 -- ---- One push.

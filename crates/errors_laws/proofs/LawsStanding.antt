@@ -12,14 +12,14 @@ use Rattle.definition.specs.Cards.{isRoot}
 use Rattle.definition.specs.Headings.{Part, alike}
 use Rattle.definition.specs.Catalogue.{Component, Row, partIn, alikeComponents, kept, componentRow, isComponentOf, listed}
 use Rattle.definition.specs.Outcomes.{wordsOfRow}
-use Rattle.errors.specs.declared.Standing.{Standing}
-use Rattle.errors.specs.declared.Standing.the-variants.{Card, Nothing}
-use Rattle.errors.specs.Standing.{View, standsFor, standingIn, isRowOf, standingUnder}
+use Rattle.errors_laws.specs.declared.Standing.{Standing}
+use Rattle.errors_laws.specs.declared.Standing.the-variants.{Card, Nothing}
+use Rattle.errors_laws.specs.Standing.{View, standsFor, standingIn, isRowOf, standingUnder}
 use Rattle.definition.proofs.Lists.{flatMap-nil, flatMap-cons, keep-nil, keep-yes, keep-no, keep-none, keep-append, first-nil, first-yes, first-no, any-nil, any-no, first-both, first-firsts}
 use Rattle.definition.proofs.DrawnRows.{listed-kind}
 use Rattle.definition.proofs.All.{all-firsts, all-to, keep-all, first-cong}
-use Rattle.errors.proofs.Walks.{first-mapped}
-use Rattle.errors.proofs.LawsRepeats.{alike-both}
+use Rattle.errors_laws.proofs.Walks.{first-mapped}
+use Rattle.errors_laws.proofs.LawsRepeats.{alike-both}
 
 -- ---- The words of rows.
 

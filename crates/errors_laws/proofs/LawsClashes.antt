@@ -8,12 +8,12 @@ use lib.Dec.{eqb}
 use Rattle.definition.specs.Lists.{All, choose, found, firstWhere, flatMap}
 use Rattle.definition.specs.Headings.{Part, alike}
 use Rattle.definition.specs.Errors.{error, clash, clashes, clashNumber}
-use Rattle.errors.specs.declared.Standing.the-variants.{Card, Nothing}
-use Rattle.errors.specs.Standing.{View, standsFor, standingUnder, clashWith, clashUnder}
-use Rattle.errors.proofs.Walks.{flat-cong, map-flat}
-use Rattle.errors.proofs.LawsRepeats.{times, repeatIn, repeat-use, repeats-whole}
-use Rattle.errors.proofs.LawsStanding.{isIn, standingAmong}
-use Rattle.errors.proofs.LawsRows.{Stands}
+use Rattle.errors_laws.specs.declared.Standing.the-variants.{Card, Nothing}
+use Rattle.errors_laws.specs.Standing.{View, standsFor, standingUnder, clashWith, clashUnder}
+use Rattle.errors_laws.proofs.Walks.{flat-cong, map-flat}
+use Rattle.errors_laws.proofs.LawsRepeats.{times, repeatIn, repeat-use, repeats-whole}
+use Rattle.errors_laws.proofs.LawsStanding.{isIn, standingAmong}
+use Rattle.errors_laws.proofs.LawsRows.{Stands}
 
 clash-with : (k : ℕ) (ps : List Part) (x : Part) → clashWith k x (standingAmong ps x) ≡ map (clash k) (repeatIn ps x)
 unfolding clashWith standingAmong repeatIn clash

@@ -14,18 +14,18 @@ use Rattle.definition.specs.Headings.{Part, Heading, isKind, isTypeExtension, s
 use Rattle.definition.specs.Catalogue.{Component, component, ofExtensions, alikeComponents, partIn, kept, Row, row, componentRow, isComponentOf, listed, underSchema, defaultName, kindNamed, defaultRoot, defaultRoots, isRootComponent, unadoptedSchema, adoptedSchema, schemaComponents, rows}
 use Rattle.definition.specs.Errors.{headingError, clashes, noSchemaErrors, drawing}
 use Rattle.definition.specs.Outcomes.{wordsOfRow}
-use Rattle.errors.specs.Standing.{View, standsFor, standingUnder}
-use Rattle.errors.specs.ByCards.{schemaMergeErrors, unmetErrors, isBare, noSchemaErrorsAt, drawingAt}
+use Rattle.errors_laws.specs.Standing.{View, standsFor, standingUnder}
+use Rattle.errors_laws.specs.ByCards.{schemaMergeErrors, unmetErrors, isBare, noSchemaErrorsAt, drawingAt}
 use Rattle.definition.proofs.Lists.{map-append, keep-nil, keep-yes, any-nil, firsts-new}
 use Rattle.definition.proofs.All.{all-append, all-keep, all-flatMap, all-found, all-every, all-to}
-use Rattle.errors.proofs.Walks.{flat-gated, flat-map, keep-cong}
-use Rattle.errors.proofs.LawsRepeats.{times, times-none, times-append}
-use Rattle.errors.proofs.LawsStanding.{rowWords, isIn, ofKind, list-of, Stops}
-use Rattle.errors.proofs.LawsRows.{HeadingTold, PartTold, PartsTold, fresh-schema, afterSchema, after-stops, schema-lists, schema-shape, schema-stands}
-use Rattle.errors.proofs.LawsClashes.{clashes-found}
-use Rattle.errors.proofs.LawsKnown.{headingOf, Known, kind-told, number-some, number-none, extensions-parts, times-kept}
-use Rattle.errors.proofs.LawsReading.{schema-walk, schema-parts}
-use Rattle.errors.proofs.LawsDrawing.{orphans-found}
+use Rattle.errors_laws.proofs.Walks.{flat-gated, flat-map, keep-cong}
+use Rattle.errors_laws.proofs.LawsRepeats.{times, times-none, times-append}
+use Rattle.errors_laws.proofs.LawsStanding.{rowWords, isIn, ofKind, list-of, Stops}
+use Rattle.errors_laws.proofs.LawsRows.{HeadingTold, PartTold, PartsTold, fresh-schema, afterSchema, after-stops, schema-lists, schema-shape, schema-stands}
+use Rattle.errors_laws.proofs.LawsClashes.{clashes-found}
+use Rattle.errors_laws.proofs.LawsKnown.{headingOf, Known, kind-told, number-some, number-none, extensions-parts, times-kept}
+use Rattle.errors_laws.proofs.LawsReading.{schema-walk, schema-parts}
+use Rattle.errors_laws.proofs.LawsDrawing.{orphans-found}
 
 abbrev numberIn : Heading → ℕ
 numberIn h = h .number

@@ -7,8 +7,8 @@ use Rattle.definition.specs.Lists.{All}
 use Rattle.definition.specs.Store.{cardsUsed}
 use Rattle.stored.specs.Stored.{storedParts, cardKind, cardName, builtInAt, ignoredAt, partsFrom}
 use Rattle.index.specs.Index.{Printed}
-use Rattle.errors.specs.Standing.{View, rowAt}
-use Rattle.errors.specs.Placing.{Placed}
+use Rattle.errors_laws.specs.Standing.{View, rowAt}
+use Rattle.errors_laws.specs.Placing.{Placed}
 
 abbrev pub viewOf : List ℕ → List ℕ → List ℕ → View
 viewOf text words owners = record {

@@ -18,9 +18,9 @@ use Rattle.definition.proofs.Lists.{repeats-nil, repeats-new, repeats-old, any-
 use Rattle.definition.proofs.All.{all-append, all-keep, all-firsts, all-map, all-flatMap, all-every, all-to, all-with, keep-pass}
 use Rattle.definition.proofs.Tests.{zero-one}
 use Rattle.definition.proofs.DrawnRows.{orphans-extend}
-use Rattle.errors.proofs.LawsRows.{defines-kind, extends-kind}
-use Rattle.errors.proofs.LawsTypes.{of-kind, kinds-left}
-use Rattle.errors.proofs.LawsTallies.{Legal}
+use Rattle.errors_laws.proofs.LawsRows.{defines-kind, extends-kind}
+use Rattle.errors_laws.proofs.LawsTypes.{of-kind, kinds-left}
+use Rattle.errors_laws.proofs.LawsTallies.{Legal}
 
 -- ---- Kinds that an order has.
 

@@ -14,17 +14,17 @@ use Rattle.definition.specs.Cards.{isType}
 use Rattle.definition.specs.Headings.{Part, Heading, isKind, isTypeDefinition, isTypeExtension, isNamed, directives, standing, directiveNamed, schemaDefinition, schemaExtensions, numberOf, partsOf, parts}
 use Rattle.definition.specs.Catalogue.{components, ofExtensions, partIn, underSchema, schemaComponents, rows}
 use Rattle.definition.specs.Errors.{error, headingError, clashes, directiveErrors, schemaErrors, typeErrors, schemaExtensionErrors, typeExtensionErrors, errorsAt, reading}
-use Rattle.errors.specs.Standing.{View, clashUnder, mergeErrors}
-use Rattle.errors.specs.ByCards.{collides, directiveErrorsAt, schemaMergeErrors, schemaErrorsAt, schemaExtensionErrorsAt, typeErrorsAt, typeExtensionErrorsAt, errorsAtCard, readingAt}
+use Rattle.errors_laws.specs.Standing.{View, clashUnder, mergeErrors}
+use Rattle.errors_laws.specs.ByCards.{collides, directiveErrorsAt, schemaMergeErrors, schemaErrorsAt, schemaExtensionErrorsAt, typeErrorsAt, typeExtensionErrorsAt, errorsAtCard, readingAt}
 use Rattle.definition.proofs.Lists.{map-append, flatMap-append, keep-nil, keep-yes, keep-no, first-both, first-nil, first-yes, first-no, split}
 use Rattle.definition.proofs.All.{all-append, all-flatMap, all-every, all-to, first-cong}
-use Rattle.errors.proofs.Walks.{first-mapped, keep-cong}
-use Rattle.errors.proofs.LawsRepeats.{times, times-append}
-use Rattle.errors.proofs.LawsStanding.{rowWords, isIn}
-use Rattle.errors.proofs.LawsRows.{HeadingTold, schema-stands}
-use Rattle.errors.proofs.LawsClashes.{clashes-found}
-use Rattle.errors.proofs.LawsKnown.{headingOf, Known, kind-told, name-told, built-in-told, merge-told, Around, around, all-here, all-before, first-below, first-above, first-nowhere, first-from, first-here, number-some, number-none, keep-around, parts-cons, parts-append, components-parts, extensions-parts, times-with}
-use Rattle.errors.proofs.LawsTypes.{walk-merged, or-left, or-right, kinds-left, type-errors, type-extension-errors}
+use Rattle.errors_laws.proofs.Walks.{first-mapped, keep-cong}
+use Rattle.errors_laws.proofs.LawsRepeats.{times, times-append}
+use Rattle.errors_laws.proofs.LawsStanding.{rowWords, isIn}
+use Rattle.errors_laws.proofs.LawsRows.{HeadingTold, schema-stands}
+use Rattle.errors_laws.proofs.LawsClashes.{clashes-found}
+use Rattle.errors_laws.proofs.LawsKnown.{headingOf, Known, kind-told, name-told, built-in-told, merge-told, Around, around, all-here, all-before, first-below, first-above, first-nowhere, first-from, first-here, number-some, number-none, keep-around, parts-cons, parts-append, components-parts, extensions-parts, times-with}
+use Rattle.errors_laws.proofs.LawsTypes.{walk-merged, or-left, or-right, kinds-left, type-errors, type-extension-errors}
 
 abbrev numberIn : Heading → ℕ
 numberIn h = h .number

@@ -12,12 +12,12 @@ use Rattle.definition.specs.Answers.{absent}
 use Rattle.definition.specs.Cards.{isRoot, isType}
 use Rattle.definition.specs.Headings.{Part, Heading, isTypeDefinition, isTypeExtension, sameNamed, isOf, extensionsOf, types, isOrphan, orphans, directives, directiveNamed, schemaDefinition, numberOf}
 use Rattle.definition.specs.Catalogue.{Component, component, components, ownComponents, ofExtensions, Row, row, partIn, kept, listed, underType, underSchema, block, typeComponents, typeRow, typeRows, adoptedRow, adoptedRows, adopted, directiveRow, directiveRowAt, directiveRows, schemaComponents, schemaRows, rows}
-use Rattle.errors.specs.Standing.{View, standsFor, isRowOf, standingUnder}
+use Rattle.errors_laws.specs.Standing.{View, standsFor, isRowOf, standingUnder}
 use Rattle.definition.proofs.Lists.{flatMap-nil, flatMap-cons, any-nil, any-no}
 use Rattle.definition.proofs.DrawnRows.{listed-kind, types-define, orphans-extend}
 use Rattle.definition.proofs.Tests.{zero-one, and-true}
 use Rattle.definition.proofs.All.{all-append, all-keep, all-firsts, all-map, all-flatMap, all-every, all-to}
-use Rattle.errors.proofs.LawsStanding.{rowWords, under-here, under-skip, Stops, in-block, Fresh, isIn, standingAmong, Told, standing-listed}
+use Rattle.errors_laws.proofs.LawsStanding.{rowWords, under-here, under-skip, Stops, in-block, Fresh, isIn, standingAmong, Told, standing-listed}
 
 -- ---- What is taken of headings.
 

@@ -14,8 +14,8 @@ use Rattle.definition.specs.Names.{sameName}
 use Rattle.definition.specs.Cards.{isRoot}
 use Rattle.definition.specs.Headings.{Part}
 use Rattle.definition.specs.Errors.{clashNumber}
-use Rattle.errors.specs.declared.Standing.the-variants.{Card, Nothing}
-use Rattle.errors.specs.Standing.{View, standsFor, standingIn, isRowOf, standingUnder, rowAt}
+use Rattle.errors_laws.specs.declared.Standing.the-variants.{Card, Nothing}
+use Rattle.errors_laws.specs.Standing.{View, standsFor, standingIn, isRowOf, standingUnder, rowAt}
 
 drop3 : (s : List ℕ) (i : ℕ) → i + 2 < length s → drop i s ≡ getD s i 0 ∷ (getD s (i + 1) 0 ∷ (getD s (i + 2) 0 ∷ drop (i + 3) s))
 drop3 s i h =

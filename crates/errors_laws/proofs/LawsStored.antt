@@ -21,15 +21,15 @@ use Rattle.stored.proofs.Documents.{InPlaces, Ordered}
 use Rattle.stored.proofs.Laws.{cards-fit, headings-ordered}
 use Rattle.index.specs.Index.{Indexed, isTyped}
 use Rattle.index.proofs.Lists.{get-all}
-use Rattle.errors.specs.Standing.{View}
-use Rattle.errors.specs.Views.{viewOf}
+use Rattle.errors_laws.specs.Standing.{View}
+use Rattle.errors_laws.specs.Views.{viewOf}
 use Rattle.definition.proofs.All.{all-to, all-with}
 use Rattle.definition.proofs.Tests.{zero-one}
-use Rattle.errors.proofs.LawsRepeats.{times, times-none, times-append}
-use Rattle.errors.proofs.LawsStanding.{isIn}
-use Rattle.errors.proofs.LawsRows.{PartTold, PartsTold, HeadingTold, defines-kind, extends-kind}
-use Rattle.errors.proofs.LawsKnown.{headingOf, Rising, OfType, Known, parts-nil, parts-cons}
-use Rattle.errors.proofs.LawsLegal.{LegalParts, LegalKind, in-order, ordered-have, ordered-legal}
+use Rattle.errors_laws.proofs.LawsRepeats.{times, times-none, times-append}
+use Rattle.errors_laws.proofs.LawsStanding.{isIn}
+use Rattle.errors_laws.proofs.LawsRows.{PartTold, PartsTold, HeadingTold, defines-kind, extends-kind}
+use Rattle.errors_laws.proofs.LawsKnown.{headingOf, Rising, OfType, Known, parts-nil, parts-cons}
+use Rattle.errors_laws.proofs.LawsLegal.{LegalParts, LegalKind, in-order, ordered-have, ordered-legal}
 
 -- ---- Parts of a heading, by their positions.
 

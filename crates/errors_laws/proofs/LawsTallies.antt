@@ -13,9 +13,7 @@ use Rattle.definition.specs.Lists.{All, flatMap, written}
 use Rattle.definition.specs.Errors.{Error}
 use Rattle.definition.specs.Merge.{errorNumbers, numbersFrom, isNumbered, tally, tallies}
 use Rattle.definition.specs.Outcomes.{wordsOfError}
-use Rattle.errors.specs.Pushing.{Ledger, ledger, noErrors, countedIn, push, pushAll, Room}
-use Rattle.errors.specs.Drawn.{ErrorsPushed}
-use Rattle.errors.proofs.LawsPush.{both-pushed}
+use Rattle.errors_laws.specs.Pushing.{Ledger, ledger, noErrors, countedIn, push, pushAll, Room}
 use Rattle.definition.proofs.Lists.{flatMap-nil, flatMap-cons, keep-nil, keep-yes, keep-no}
 
 -- An error's number is one that a tally counts.
@@ -191,23 +189,3 @@ none-small (suc n) (suc i) = none-small n i
 
 pub room-empty : (errors : List ℕ) (es : List Error) → 3 * length es ≤ length errors → length es ≤ 2300 → All Legal es → Room (ledger errors noErrors) es
 room-empty errors es h m a = room-for (ledger errors noErrors) es (omega arith) (omega arith) a (none-small 16)
-
--- ---- Errors of reading, then those of drawing.
-
-module _ (before middle after : List ℕ) (t r : Tallies) (read drawn : List Error) (first : ledger middle t ≡ pushAll (ledger before noErrors) read)
-    (second : ledger after r ≡ pushAll (ledger middle t) drawn) where
-  read-total : t .total ≡ length read
-  read-total = ap (λ (l : Ledger). l .tallies .total) first ∙ (pushed-total (ledger before noErrors) read ∙ omega arith)
-
-  all-total : r .total ≡ t .total + length drawn
-  all-total = ap (λ (l : Ledger). l .tallies .total) second ∙ pushed-total (ledger middle t) drawn
-
-  pub total-least : t .total ≤ r .total
-  total-least = omega (arith, all-total)
-
-  pub pushed-apart : ErrorsPushed before after (record { reading = t .total; drawing = r .total - t .total; tallies = r }) read drawn
-  pushed-apart = record {
-    pushed = both-pushed (ledger before noErrors) (ledger middle t) (read ++ drawn) read drawn refl (ledger after r) first second;
-    reading-count = read-total;
-    drawing-count = omega (arith, all-total);
-  }
