@@ -677,7 +677,7 @@ fn schema_list(
         let own = extend_ast(text, words, prints, kind, card, ABSENT, rows, used, used);
         return schema_extensions(text, words, prints, heads, m, kind, rows, used, own);
     }
-    if adopt {
+    if schema.adopt {
         let set = schema_extensions(text, words, prints, heads, m, kind, rows, used, used);
         if implicit {
             return add_implicit_root(text, words, prints, heads, m, adopt, kind, rows, used, set);
