@@ -30,8 +30,8 @@ all-of : (P : ℕ → Type 0) (xs : List ℕ) → ((j : ℕ) → j < length xs �
 all-of P [] f = tt
 all-of P (x ∷ xs) f = (f 0 (omega arith), all-of P xs (λ j h. f (suc j) (omega arith)))
 
-module _ (text words prints cards owners₀ types₀ orphans₀ extensions₀ typePrints₀ orphanPrints₀ : List ℕ)
-    (a : OwnersAsked text words prints cards owners₀ types₀ orphans₀ extensions₀ typePrints₀ orphanPrints₀) where
+module _ (text words prints cards owners₀ types₀ orphans₀ extensions₀ scratch₀ : List ℕ)
+    (a : OwnersAsked text words prints cards owners₀ types₀ orphans₀ extensions₀ scratch₀) where
   all-stored : All (λ c. c < cardsUsed words) cards
   all-stored = all-of (λ c. c < cardsUsed words) cards (a .all-cards .stored)
 
@@ -56,14 +56,14 @@ module _ (text words prints cards owners₀ types₀ orphans₀ extensions₀ ty
           (all-keep (λ c. c < cardsUsed words) (isExtensionCard words) cards
           (all-to (λ c. c < cardsUsed words) (λ c. isExtensionCard words c ≡ true → c < cardsUsed words) (λ c h y. h) cards all-stored))
 
-      pub orphans-ready : length owners₂ ≡ length owners₁ → OrphansAsked text words prints owners₂ (take e extensions₂) orphans₀ orphanPrints₀
-      orphans-ready l = record {
+      pub orphans-ready : length owners₂ ≡ length owners₁ → length typePrints₁ ≡ length scratch₀ → OrphansAsked text words prints owners₂ (take e extensions₂) orphans₀ typePrints₁
+      orphans-ready l s = record {
         printed = a .all-cards .printed;
         stored = all-at (λ c. c < cardsUsed words) (take e extensions₂) extension-stored;
         few = omega (arith, ap length extended, keep-most (isExtensionCard words) cards, a .all-cards .few);
         owners-room = omega (arith, a .owners-room);
         orphans-room = a .orphans-room;
-        prints-room = a .orphan-prints-room;
+        prints-room = omega (arith, a .scratch-room);
       }
 
       typed : take t types₁ ≡ firsts (sameCards text words) [] (keep (isTypeCard words) cards)

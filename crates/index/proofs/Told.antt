@@ -144,9 +144,9 @@ module _ (text words : List ℕ) where
 
 -- ---- The walks' records, told by the headings.
 
-pub heads-ready : (text words heads prints owners typeCards orphanCards extensionCards typePrints orphanPrints : List ℕ) →
-    IndexAsked text words heads prints owners typeCards orphanCards extensionCards typePrints orphanPrints → HeadsAsked words heads
-heads-ready text words heads prints owners typeCards orphanCards extensionCards typePrints orphanPrints a = record {
+pub heads-ready : (text words heads prints owners typeCards orphanCards extensionCards scratch : List ℕ) →
+    IndexAsked text words heads prints owners typeCards orphanCards extensionCards scratch → HeadsAsked words heads
+heads-ready text words heads prints owners typeCards orphanCards extensionCards scratch a = record {
   cards-most = cards-fit text words (a .store-sound);
   heads-room = a .heads-length;
   headed = heading-first text words (a .store-sound);

@@ -49,7 +49,7 @@ pub record Printed (text words prints : List ℕ) : Type 0 where
   pub words-length : wordsRoom ≤ length words
 
 -- What filling the arrays asks: a store that decodes, and room for its cards; one more heading marks the end.
-pub record IndexAsked (text words heads prints owners typeCards orphanCards extensionCards typePrints orphanPrints : List ℕ) : Type 0 where
+pub record IndexAsked (text words heads prints owners typeCards orphanCards extensionCards scratch : List ℕ) : Type 0 where
   pub store-sound : sound text words ≡ true
   pub words-length : wordsRoom ≤ length words
   pub heads-length : cardsUsed words < length heads
@@ -58,8 +58,7 @@ pub record IndexAsked (text words heads prints owners typeCards orphanCards exte
   pub types-length : cardsUsed words ≤ length typeCards
   pub orphans-length : cardsUsed words ≤ length orphanCards
   pub extensions-length : cardsUsed words ≤ length extensionCards
-  pub type-prints-length : cardsUsed words ≤ length typePrints
-  pub orphan-prints-length : cardsUsed words ≤ length orphanPrints
+  pub scratch-length : cardsUsed words ≤ length scratch
 
 -- How far each array is used: m headings, t types, o names of orphans, e extensions.
 pub record Indexed (text words heads prints owners typeCards orphanCards extensionCards : List ℕ) (m t o e : ℕ) : Type 0 where

@@ -185,14 +185,13 @@ pub record OrphansAre (text words owners extensions orphans orphanPrints : List 
 
 -- ---- Types, extensions and orphans of all headings' cards.
 
-pub record OwnersAsked (text words prints cards owners types orphans extensions typePrints orphanPrints : List ℕ) : Type 0 where
+pub record OwnersAsked (text words prints cards owners types orphans extensions scratch : List ℕ) : Type 0 where
   pub all-cards : Cards text words prints cards
   pub owners-room : cardsUsed words ≤ length owners
   pub types-room : cardsUsed words ≤ length types
   pub orphans-room : cardsUsed words ≤ length orphans
   pub extensions-room : cardsUsed words ≤ length extensions
-  pub type-prints-room : cardsUsed words ≤ length typePrints
-  pub orphan-prints-room : cardsUsed words ≤ length orphanPrints
+  pub scratch-room : cardsUsed words ≤ length scratch
 
 pub record OwnersAre (text words cards owners types orphans extensions : List ℕ) (r : Counts) : Type 0 where
   pub headings-are : r .headings ≡ length cards

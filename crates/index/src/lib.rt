@@ -366,7 +366,7 @@ pub fn index_orphans(
     count
 }
 
-// Types, extensions, orphans and owners, from the headings' cards.
+// Types, extensions, orphans and owners, from the headings' cards. The scratch holds the fingerprints of the types, then those of the orphans.
 fn index_owners(
     text: &[u8],
     words: &[u32],
@@ -376,20 +376,19 @@ fn index_owners(
     types: &mut [u32],
     orphans: &mut [u32],
     extensions: &mut [u32],
-    type_prints: &mut [u32],
-    orphan_prints: &mut [u32],
+    scratch: &mut [u32],
 ) -> Counts
-    requires { ⌜ OwnersAsked (now text) (now words) (now prints) (now heads) (now owners) (now types) (now orphans) (now extensions) (now «type_prints») (now «orphan_prints») ⌝ }
+    requires { ⌜ OwnersAsked (now text) (now words) (now prints) (now heads) (now owners) (now types) (now orphans) (now extensions) (now scratch) ⌝ }
     ensures { λ r. ⌜ OwnersAre (now (text .entry)) (now (words .entry)) (now (heads .entry)) (now (owners .exit)) (now (types .exit)) (now (orphans .exit)) (now (extensions .exit)) r ⌝ }
 {
-    let t = index_types(text, words, prints, heads, owners, types, type_prints);
+    let t = index_types(text, words, prints, heads, owners, types, scratch);
     let e = index_extensions(
         text,
         words,
         prints,
         heads,
         &types[0..t],
-        &type_prints[0..t],
+        &scratch[0..t],
         owners,
         extensions,
     );
@@ -400,7 +399,7 @@ fn index_owners(
         owners,
         &extensions[0..e],
         orphans,
-        orphan_prints,
+        scratch,
     );
     Counts {
         headings: heads.len(),
@@ -420,10 +419,9 @@ fn index_cards(
     types: &mut [u32],
     orphans: &mut [u32],
     extensions: &mut [u32],
-    type_prints: &mut [u32],
-    orphan_prints: &mut [u32],
+    scratch: &mut [u32],
 ) -> Counts
-    requires { ⌜ IndexAsked (now text) (now words) (now heads) (now prints) (now owners) (now types) (now orphans) (now extensions) (now «type_prints») (now «orphan_prints») ⌝ }
+    requires { ⌜ IndexAsked (now text) (now words) (now heads) (now prints) (now owners) (now types) (now orphans) (now extensions) (now scratch) ⌝ }
     ensures { λ r. ⌜ Indexed (now (text .entry)) (now (words .entry)) (now (heads .exit)) (now (prints .exit)) (now (owners .exit)) (now (types .exit)) (now (orphans .exit)) (now (extensions .exit)) (r .headings) (r .types) (r .orphans) (r .extensions) ⌝ }
 {
     let count = index_headings(words, heads);
@@ -437,8 +435,7 @@ fn index_cards(
         types,
         orphans,
         extensions,
-        type_prints,
-        orphan_prints,
+        scratch,
     )
 }
 
@@ -501,7 +498,7 @@ pub fn own_extensions<'a>(
     &extensions[start..end]
 }
 
-// Fills all arrays; the last two are for the fingerprints beside the types and the orphans.
+// Fills all arrays; what the scratch holds then means nothing.
 pub fn index(
     text: &[u8],
     words: &[u32],
@@ -513,10 +510,9 @@ pub fn index(
     extensions: &mut [u32],
     starts: &mut [u32],
     ends: &mut [u32],
-    type_prints: &mut [u32],
-    orphan_prints: &mut [u32],
+    scratch: &mut [u32],
 ) -> Counts
-    requires { ⌜ IndexAsked (now text) (now words) (now heads) (now prints) (now owners) (now types) (now orphans) (now extensions) (now «type_prints») (now «orphan_prints») × (cardsUsed (now words) ≤ length (now starts)) × (cardsUsed (now words) ≤ length (now ends)) ⌝ }
+    requires { ⌜ IndexAsked (now text) (now words) (now heads) (now prints) (now owners) (now types) (now orphans) (now extensions) (now scratch) × (cardsUsed (now words) ≤ length (now starts)) × (cardsUsed (now words) ≤ length (now ends)) ⌝ }
     ensures { λ r. ⌜ Indexed (now (text .entry)) (now (words .entry)) (now (heads .exit)) (now (prints .exit)) (now (owners .exit)) (now (types .exit)) (now (orphans .exit)) (now (extensions .exit)) (r .headings) (r .types) (r .orphans) (r .extensions) × Spanned (now (words .entry)) (now (owners .exit)) (take (r .extensions) (now (extensions .exit))) (now (starts .exit)) (now (ends .exit)) ⌝ }
 {
     let counts = index_cards(
@@ -528,8 +524,7 @@ pub fn index(
         types,
         orphans,
         extensions,
-        type_prints,
-        orphan_prints,
+        scratch,
     );
     let e = counts.extensions;
     index_starts(owners, &extensions[0..e], starts);
