@@ -16,7 +16,8 @@ use Rattle.definition.specs.Headings.{Document}
 use Rattle.definition.specs.Refusals.{textHeld, cardsHeld, document, zeroFault, refuse, roomRefusal, openingRefusal, filingRefusal}
 use Rattle.definition.specs.Store.{accountIn, documentCount, textUsed, cardsUsed}
 use Rattle.store_check.proofs.Sound.{documents-held, text-held, cards-held}
-use Rattle.store.proofs.Clean.{item-in-text, name-in-text, fine-part, fine-heading}
+use Rattle.definition.proofs.CleanCards.{clean-part, clean-heading}
+use Rattle.store.proofs.Clean.{item-in-text, name-in-text}
 use Rattle.store_check.proofs.Checked.{SoundStore}
 use Rattle.store.specs.Filing.{Within, Fits, Opens}
 use Rattle.store.specs.Room.{roomFor}
@@ -33,10 +34,10 @@ fine-within bytes size n i h s (c ∷ cs) l e = go (isPart (c .kind)) refl (fine
         (faultFrom bytes 0 size (i + 1) (some c) none cs ≡ none → All (Within n) cs) →
         All (Within n) (c ∷ cs)
     go true p under new =
-        let q = fine-part bytes 0 size i h s c cs p e in
+        let q = clean-part bytes 0 size i h s c cs p e in
         ((omega (arith, item-in-text bytes size h s c (q .0)), omega (arith, name-in-text bytes size h s c (q .0))), under (q .1))
     go false p under new =
-        let q = fine-heading bytes 0 size i h s c cs p e in
+        let q = clean-heading bytes 0 size i h s c cs p e in
         ((omega (arith, item-in-text bytes size none h c (q .0)), omega (arith, name-in-text bytes size none h c (q .0))), new (q .1))
 
 broken-first : (b : Bool) (r : Option Answer) → choose b (some (answer 1 0)) r ≡ none → (b ≡ false) × (r ≡ none)

@@ -5,13 +5,13 @@ use mathlib.Core.Bool.{false}
 use mathlib.Core.Option.{none, some}
 use Prim.Native.Nat.{ℕ, _<_, _≤_}
 use lib.Dec.{eqb}
-use lib.ListN.{length, set}
+use lib.ListN.{length}
 use borrow.Author.Tests.{lt-ltb, le-ltb}
 use Rattle.definition.specs.declared.Answer.{Answer}
 use Rattle.definition.specs.Answers.{answer}
 use Rattle.definition.specs.Refusals.{document, openingRefusal, filingRefusal}
-use Rattle.definition.specs.Store.{accountIn, tooShort, storeRefusal, openedText, openedWords, filedText, filedWords, adoptingWords, ignoringWords}
-use Rattle.definition.specs.Outcomes.{StoreOutcome, unchanged, accepted, open-store, add-ast, turned, adopt-orphan-extensions, ignore-builtin-redefinitions}
+use Rattle.definition.specs.Store.{accountIn, tooShort, storeRefusal, openedText, openedWords, filedText, filedWords}
+use Rattle.definition.specs.Outcomes.{StoreOutcome, unchanged, accepted, open-store, add-ast, turned}
 
 abbrev pub left : Answer → List ℕ → List ℕ → StoreOutcome
 left a text words = record { answer = a; text = text; words = words }
@@ -56,21 +56,11 @@ module _ (text words lent cards : List ℕ) where
 
 -- ---- Turning on.
 
-module _ (text words : List ℕ) where
-  module _ (n : ℕ) (u : eqb (storeRefusal text words) 0 ≡ false) (e : n ≡ storeRefusal text words) where
-    pub adopt-unsound : left (answer n 0) text words ≡ adopt-orphan-extensions text words
-    unfolding adopt-orphan-extensions turned unchanged
-    adopt-unsound = rw (u, e)
+module _ (text words on : List ℕ) where
+  pub turned-unsound : (n : ℕ) → eqb (storeRefusal text words) 0 ≡ false → n ≡ storeRefusal text words → left (answer n 0) text words ≡ turned text words on
+  unfolding turned unchanged
+  turned-unsound n u e = rw (u, e)
 
-    pub ignore-unsound : left (answer n 0) text words ≡ ignore-builtin-redefinitions text words
-    unfolding ignore-builtin-redefinitions turned unchanged
-    ignore-unsound = rw (u, e)
-
-  module _ (s : storeRefusal text words ≡ 0) (a : Answer) (z : a ≡ answer 0 0) where
-    pub adopt-done : left a text (set words 1 1) ≡ adopt-orphan-extensions text words
-    unfolding adopt-orphan-extensions turned accepted adoptingWords
-    adopt-done = rw (s, z)
-
-    pub ignore-done : left a text (set words 2 1) ≡ ignore-builtin-redefinitions text words
-    unfolding ignore-builtin-redefinitions turned accepted ignoringWords
-    ignore-done = rw (s, z)
+  pub turned-done : storeRefusal text words ≡ 0 → (a : Answer) → a ≡ answer 0 0 → left a text on ≡ turned text words on
+  unfolding turned accepted
+  turned-done s a z = rw (s, z)

@@ -7,9 +7,9 @@ use store_check::TEXT_ROOM;
 use store_check::WORDS_ROOM;
 ghost use mathlib.Core.Path.{_≡_};
 ghost use Prim.Native.Nat.{_≤_, _/_};
-ghost use lib.ListN.{length};
+ghost use lib.ListN.{length, set};
 ghost use Rattle.definition.specs.Answers.{answer};
-ghost use Rattle.definition.specs.Outcomes.{open-store, add-ast, adopt-orphan-extensions, ignore-builtin-redefinitions};
+ghost use Rattle.definition.specs.Outcomes.{open-store, add-ast, turned, adopt-orphan-extensions, ignore-builtin-redefinitions};
 ghost use Rattle.store.specs.Room.{roomOption, roomFor};
 
 pub mod filing;
@@ -19,6 +19,11 @@ const DOCUMENT_ROOM: u32 = 64;
 
 // How many cards it holds.
 const CARD_ROOM: usize = 2300;
+
+// Where the two switches stand among the store's words.
+const ADOPT_AT: usize = 1;
+
+const IGNORE_AT: usize = 2;
 
 // There is room for a document, or it is refused with this number.
 enum Room {
@@ -99,24 +104,28 @@ pub fn add_ast(text: &mut [u8], words: &mut [u32], lent: &[u8], cards: &[u32]) -
     accepted()
 }
 
-// Extensions without a definition are adopted from now on.
-pub fn adopt_orphan_extensions(text: &[u8], words: &mut [u32]) -> Answer
-    ensures { λ r. ⌜ record { answer = r; text = now (text .exit); words = now (words .exit) } ≡ adopt-orphan-extensions (now (text .entry)) (now (words .entry)) ⌝ }
+// Turns a switch on, by the number of its word.
+fn turn_on(text: &[u8], words: &mut [u32], switch: usize) -> Answer
+    requires { ⌜ switch ≤ 2 ⌝ }
+    ensures { λ r. ⌜ record { answer = r; text = now (text .exit); words = now (words .exit) } ≡ turned (now (text .entry)) (now (words .entry)) (set (now (words .entry)) switch 1) ⌝ }
 {
     if let StoreCheck::Refused(number) = store_check::check_store(text, words) {
         return Answer { number, card: 0 };
     }
-    words[1] = 1;
+    words[switch] = 1;
     accepted()
+}
+
+// Extensions without a definition are adopted from now on.
+pub fn adopt_orphan_extensions(text: &[u8], words: &mut [u32]) -> Answer
+    ensures { λ r. ⌜ record { answer = r; text = now (text .exit); words = now (words .exit) } ≡ adopt-orphan-extensions (now (text .entry)) (now (words .entry)) ⌝ }
+{
+    turn_on(text, words, ADOPT_AT)
 }
 
 // Documents filed from now on may define the types of document 0 again.
 pub fn ignore_builtin_redefinitions(text: &[u8], words: &mut [u32]) -> Answer
     ensures { λ r. ⌜ record { answer = r; text = now (text .exit); words = now (words .exit) } ≡ ignore-builtin-redefinitions (now (text .entry)) (now (words .entry)) ⌝ }
 {
-    if let StoreCheck::Refused(number) = store_check::check_store(text, words) {
-        return Answer { number, card: 0 };
-    }
-    words[2] = 1;
-    accepted()
+    turn_on(text, words, IGNORE_AT)
 }

@@ -1,52 +1,18 @@
-use native.Mathlib.Omega.{arith}
-use Rattle.store_check.proofs.Checked.{sound-store, refused-number, refused-store}
-use Rattle.store.proofs.Entries.{adopt-unsound, adopt-done}
+use Rattle.definition.specs.Store.{adoptingWords}
+use Rattle.definition.specs.Outcomes.{adopt-orphan-extensions}
 use Rattle.store.proofs.adopt_orphan_extensions.Statement.{statement}
 use Rattle.store.proofs.adopt_orphan_extensions.Tie as tie
 use borrow.Author.Needs.{needs}
 
-check-store-requires : tie.Need-check-store-requires
-check-store-requires c κs = search needs
-
-enum-known-number : tie.Need-enum-known-number
-enum-known-number c = search needs
+turn-on-requires : tie.Need-turn-on-requires
+turn-on-requires c κs = search needs
 
 same-length : tie.Need-same-length
 same-length c = search needs
 
 returns : tie.Need-returns
-returns c =
-    let e = c .before .before .before .before .before .before .before .args in
-    let k = c .before .before .before .check-store .ensures in
-    adopt-unsound (e .text .now) (e .words .now) _ (refused-store _ _ _ k _ (c .before .number .given .1)) (refused-number _ _ _ k _ (c .before .number .given .1))
-
-enum-told : tie.Need-enum-told
-enum-told c = search needs
-
-slice-write-words : tie.Need-slice-write-words
-slice-write-words c = let s = sound-store _ _ _ (c .before .before .check-store .ensures) (c .enum-told .given .1) in omega (arith, s .wordsLong)
-
-accepted-requires : tie.Need-accepted-requires
-accepted-requires c κs = search needs
-
-same-length-2 : tie.Need-same-length-2
-same-length-2 c = search needs
-
-returns-2 : tie.Need-returns-2
-returns-2 c =
-    let e = c .before .before .before .before .before .before .before .args in
-    adopt-done (e .text .now) (e .words .now) (sound-store _ _ _ (c .before .before .before .check-store .ensures) (c .before .enum-told .given .1) .unrefused) _ (c .accepted .ensures)
+unfolding adopt-orphan-extensions adoptingWords
+returns c = c .before .before .turn-on .ensures
 
 pub adopt-orphan-extensions-spec : {M : Type 1} → statement M
-adopt-orphan-extensions-spec =
-    tie.close
-    (tie.spec
-    check-store-requires
-    enum-known-number
-    same-length
-    returns
-    enum-told
-    slice-write-words
-    accepted-requires
-    same-length-2
-    returns-2)
+adopt-orphan-extensions-spec = tie.close (tie.spec turn-on-requires same-length returns)
