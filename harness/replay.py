@@ -140,7 +140,8 @@ def replayed(folder, title):
             replay.change(word, *rest)
             continue
         got, wanted = getattr(replay, word.decode())(*rest)
-        calls += 1
+        # The tallies are a part of the last drawing's answer.
+        calls += word != b'tallies'
         if [shown([each]) if isinstance(each, int) else str(each) for each in got] != [each.decode() for each in wanted]:
             failures += 1
             print(f'{title} {at}: {line.decode("utf-8", "replace")}: {got} came')
