@@ -1,22 +1,22 @@
 -- The rows of a type by the numbers of cards are those of the definition.
 use mathlib.Core.Path.{_≡_, refl, sym, ap, _∙_}
 use mathlib.Core.Bool.{Bool, true, false, _&&_, _||_, not}
-use mathlib.Core.List.{List, [], _∷_, _++_, map, append-assoc, append-nil}
-use mathlib.Core.Option.{Option, none, some}
-use Prim.Native.Nat.{ℕ, zero, suc, _+_, _-_, _*_, _≤_, _<_}
+use mathlib.Core.List.{List, [], _∷_, _++_, map}
+use mathlib.Core.Option.{some}
+use Prim.Native.Nat.{ℕ, zero, suc, _+_, _-_, _≤_, _<_}
 use native.Mathlib.Omega.{arith}
 use borrow.Author.Tests.{eqb-true, leb-true, lt-ltb, le-leb, lt-leb}
-use lib.Dec.{eqb, leb, ltb}
-use lib.ListN.{length, drop, getElem?}
+use lib.Dec.{eqb, leb}
+use lib.ListN.{drop, getElem?}
 use Rattle.definition.specs.Lists.{choose, keep, any, before, flatMap, firsts, All}
 use Rattle.definition.specs.Names.{sameName}
 use Rattle.definition.specs.Answers.{absent}
 use Rattle.definition.specs.Cards.{isRoot, isType, isPart}
 use Rattle.definition.specs.Headings.{Part, Heading, alike, isKind, isNamed, isOf, isTypeDefinition, isTypeExtension, extensionsOf, types, sameNamed, orphans, isOrphan, isMissing, definition}
-use Rattle.definition.specs.Catalogue.{Component, component, components, ownComponents, ofExtensions, alikeComponents, kept, Row, row, componentRow, isComponentOf, listed, block, underType, typeComponents, typeRow, typeRows, adoptedRow, adoptedRows}
+use Rattle.definition.specs.Catalogue.{Component, component, components, ownComponents, ofExtensions, alikeComponents, kept, row, componentRow, listed, block, underType, typeComponents, typeRow, typeRows, adoptedRow, adoptedRows}
 use Rattle.definition.specs.Store.{cardsUsed}
-use Rattle.stored.specs.Stored.{cardKind, cardName, cardAt, headOf, headingAt, isHead, partsFrom, storedParts, storedHeadings}
-use Rattle.stored.proofs.Words.{stored-is, stored-inside, number-stored, headings-at}
+use Rattle.stored.specs.Stored.{cardKind, cardName, cardAt, headingAt, isHead, partsFrom, storedParts}
+use Rattle.stored.proofs.Words.{stored-is, stored-inside, number-stored}
 use Rattle.index.specs.Index.{sameCards, headingNumber}
 use Rattle.rows.specs.Pushed.{alikeRows, rowsOfKind}
 use Rattle.rows.specs.Drawn.{sameStored, headRows, extensionKind, isMatching, matching, extensionRowsAt, extensionRows, listRows, listAt, typeRowAt, typeRowsAt}

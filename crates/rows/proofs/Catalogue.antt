@@ -1,25 +1,25 @@
 -- All rows: by the numbers of cards they are those of the definition, for the headings of the store.
-use mathlib.Core.Path.{_≡_, refl, sym, ap, _∙_}
+use mathlib.Core.Path.{_≡_, sym, ap, _∙_}
 use mathlib.Core.Bool.{Bool, true, false}
 use mathlib.Core.List.{List, [], _∷_, _++_, map, append-nil}
-use Prim.Native.Nat.{ℕ, _+_, _*_, _≤_, _<_}
+use Prim.Native.Nat.{ℕ, _+_, _*_, _≤_}
 use native.Mathlib.Nat.{zero-add}
 use native.Mathlib.Omega.{arith}
 use lib.ListN.{length, take, length-map}
 use lib.Seq.{take-take, take-at}
-use Rattle.definition.specs.Lists.{choose, keep, flatMap, firsts, written, All}
-use Rattle.definition.specs.Headings.{Heading, types, orphans, sameNamed, isTypeExtension}
-use Rattle.definition.specs.Catalogue.{Row, rows, schemaRows, directiveRows, typeRows, adopted, adoptedRows}
+use Rattle.definition.specs.Lists.{choose, flatMap, firsts, written, All}
+use Rattle.definition.specs.Headings.{types, orphans, sameNamed}
+use Rattle.definition.specs.Catalogue.{Row, rows, typeRows, adopted, adoptedRows}
 use Rattle.definition.specs.Outcomes.{wordsOfRow}
 use Rattle.definition.specs.Store.{cardsUsed}
 use Rattle.stored.specs.Stored.{storedHeadings}
 use Rattle.stored.proofs.Words.{headings-at}
-use Rattle.index.specs.Index.{Printed, Indexed, headingNumber}
+use Rattle.index.specs.Index.{Indexed, headingNumber}
 use Rattle.rows.specs.Pushed.{Filled, filled, pushed}
-use Rattle.rows.specs.Drawn.{Stored, typeRowsAt, directiveRowsAt, schemaRowsAt}
+use Rattle.rows.specs.Drawn.{typeRowsAt, directiveRowsAt, schemaRowsAt}
 use Rattle.rows.specs.Arrays.{Arrays}
 use Rattle.rows.proofs.Pushing.{Rest, rest-begin}
-use Rattle.rows.proofs.Blocks.{At, types-rows, orphans-rows}
+use Rattle.rows.proofs.Blocks.{types-rows, orphans-rows}
 use Rattle.rows.proofs.Directives.{directives-rows}
 use Rattle.rows.proofs.SchemaLists.{schema-rows}
 

@@ -1,22 +1,21 @@
 -- The rows of directive definitions by the numbers of cards are those of the definition.
 use mathlib.Core.Path.{_≡_, refl, sym, ap, _∙_}
-use mathlib.Core.Bool.{Bool, true, false, _&&_, _||_, not}
-use mathlib.Core.List.{List, [], _∷_, _++_, map, append-assoc, append-nil}
+use mathlib.Core.Bool.{Bool, true, false, _&&_, not}
+use mathlib.Core.List.{List, [], _∷_, _++_, map, append-assoc}
 use mathlib.Core.Option.{Option, none, some}
-use Prim.Native.Nat.{ℕ, zero, suc, _+_, _-_, _*_, _≤_, _<_}
+use Prim.Native.Nat.{ℕ, _+_, _-_, _<_}
 use native.Mathlib.Omega.{arith}
-use borrow.Author.Tests.{eqb-true, lt-ltb}
-use lib.Dec.{eqb, leb, ltb}
+use lib.Dec.{eqb}
 use Rattle.definition.specs.Lists.{choose, found, keep, any, flatMap, firsts, All}
 use Rattle.definition.specs.Names.{sameName}
 use Rattle.definition.specs.Answers.{absent}
-use Rattle.definition.specs.Cards.{isPart, isRoot}
-use Rattle.definition.specs.Headings.{Part, Heading, isKind, isNamed, isOf, sameNamed, directives, directiveNamed, standing, numberOf}
+use Rattle.definition.specs.Cards.{isRoot}
+use Rattle.definition.specs.Headings.{Heading, isKind, isNamed, isOf, sameNamed, directives, directiveNamed, standing, numberOf}
 use Rattle.definition.specs.Catalogue.{Row, row, directiveRow, directiveRowAt, directiveRows}
 use Rattle.definition.specs.Store.{cardsUsed}
 use Rattle.name.proofs.Laws.{same-equal, same-self}
-use Rattle.stored.specs.Stored.{cardKind, cardName, cardAt, builtInAt, headOf, headingAt, storedHeadings}
-use Rattle.index.specs.Index.{sameCards, headingNumber}
+use Rattle.stored.specs.Stored.{cardName, builtInAt}
+use Rattle.index.specs.Index.{headingNumber}
 use Rattle.rows.specs.Pushed.{alikeRows}
 use Rattle.rows.specs.Drawn.{sameStored, standingCard, namesDirective, standingAt, directiveRowsOf, directiveRowsAt}
 use Rattle.rows.proofs.Listed.{keep-yes, keep-no, all-keep, firsts-map}

@@ -1,16 +1,15 @@
 -- The rows of one kind of a list of components: the firsts among the rows of that kind, each after the other.
 use mathlib.Core.Path.{_≡_, refl, sym, ap, _∙_}
-use mathlib.Core.Bool.{Bool, true, false, _&&_, _||_, not}
-use mathlib.Core.List.{List, [], _∷_, _++_, map, append-assoc, append-nil}
-use Prim.Native.Nat.{ℕ, zero, suc, _+_, _-_, _*_, _≤_, _<_}
-use native.Mathlib.Omega.{arith}
+use mathlib.Core.Bool.{Bool, true, false, _&&_}
+use mathlib.Core.List.{List, [], _∷_, _++_, map, append-nil}
+use Prim.Native.Nat.{ℕ, _+_, _-_}
 use borrow.Author.Tests.{eqb-true}
 use lib.Dec.{eqb}
 use Rattle.definition.specs.Lists.{choose, keep, any, flatMap, firsts, All}
-use Rattle.definition.specs.Headings.{Part, Heading, alike}
-use Rattle.definition.specs.Catalogue.{Component, component, components, ownComponents, ofExtensions, alikeComponents, kept, Row, row, componentRow, isComponentOf, listed}
+use Rattle.definition.specs.Headings.{Heading, alike}
+use Rattle.definition.specs.Catalogue.{Component, components, alikeComponents, kept, Row, componentRow, isComponentOf, listed}
 use Rattle.rows.specs.Pushed.{alikeRows, rowsOfKind}
-use Rattle.rows.proofs.Sticky.{firsts-old, firsts-new, firsts-none}
+use Rattle.rows.proofs.Sticky.{firsts-old, firsts-new}
 
 -- ---- Lists.
 

@@ -1,17 +1,17 @@
 -- The extensions that a type takes in: listed one after another, each a stored card.
-use mathlib.Core.Path.{_≡_, refl, sym, ap, _∙_}
-use mathlib.Core.Bool.{Bool, true, false, _&&_}
+use mathlib.Core.Path.{_≡_, sym, ap, _∙_}
+use mathlib.Core.Bool.{Bool, true, false}
 use mathlib.Core.List.{List, [], _∷_, _++_, append-assoc, append-nil}
 use Prim.Native.Nat.{ℕ, zero, suc, _+_, _-_, _≤_, _<_}
 use native.Mathlib.Nat.{sub-zero}
 use native.Mathlib.Omega.{arith}
 use borrow.Author.Tests.{eq-eqb, ne-eqb, le-leb, lt-leb}
-use lib.Dec.{eqb, leb}
+use lib.Dec.{eqb}
 use lib.ListN.{length, getD, take, drop, set}
 use lib.Seq.{length-take-le, getD-take, take-suc-set}
-use Rattle.definition.specs.Lists.{choose, keep, flatMap, All}
+use Rattle.definition.specs.Lists.{keep, flatMap, All}
 use Rattle.definition.specs.Headings.{isOf, isKind, isNamed}
-use Rattle.definition.specs.Catalogue.{Row, underType}
+use Rattle.definition.specs.Catalogue.{underType}
 use Rattle.definition.specs.Store.{cardsUsed}
 use Rattle.stored.specs.Stored.{cardKind}
 use Rattle.index.specs.Index.{sameCards}

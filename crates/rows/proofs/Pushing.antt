@@ -2,12 +2,11 @@
 use mathlib.Core.Path.{_≡_, refl, sym, ap, _∙_}
 use mathlib.Core.List.{List, [], _∷_, _++_, append-assoc, append-nil}
 use Prim.Native.Nat.{ℕ, zero, suc, _+_, _-_, _*_, _≤_, _<_}
-use native.Mathlib.Nat.{add-zero, zero-add, add-assoc}
-use native.Mathlib.Numerals.{add-one, towards-suc}
+use native.Mathlib.Nat.{add-zero, zero-add}
 use native.Mathlib.Omega.{arith}
 use borrow.Rule.Slice.PartMut.{putMid}
-use lib.ListN.{length, getD, take, drop, set, drop-of-length-le, length-append, length-drop, List·getD-append, length-take}
-use lib.Seq.{take-all, sets-eq, take-length, length-take-le, take-at, drop-at, drop-drop, paste-zero, length-paste, getD-take, getD-append-add}
+use lib.ListN.{length, getD, take, drop, set, drop-of-length-le, length-append, length-drop, List·getD-append}
+use lib.Seq.{take-all, sets-eq, take-length, length-take-le, take-at, drop-at, drop-drop, paste-zero, getD-take, getD-append-add}
 use Rattle.definition.specs.Lists.{flatMap, written}
 use Rattle.definition.specs.Catalogue.{Row, row}
 use Rattle.definition.specs.Outcomes.{wordsOfRow}

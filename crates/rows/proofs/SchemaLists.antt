@@ -1,13 +1,13 @@
 -- The schema's rows by the numbers of cards are those of the definition.
 use mathlib.Core.Path.{_≡_, refl, sym, ap, _∙_}
-use mathlib.Core.Bool.{Bool, true, false, _&&_, _||_, not}
-use mathlib.Core.List.{List, [], _∷_, _++_, map, append-assoc, append-nil}
+use mathlib.Core.Bool.{Bool, true, false, _&&_, not}
+use mathlib.Core.List.{List, [], _∷_, _++_, map, append-nil}
 use mathlib.Core.Option.{Option, none, some}
-use Prim.Native.Nat.{ℕ, zero, suc, _+_, _-_, _*_, _≤_, _<_}
+use Prim.Native.Nat.{ℕ, _+_, _-_, _≤_}
 use native.Mathlib.Omega.{arith}
-use borrow.Author.Tests.{eqb-true, eqb-false, eq-eqb, ne-eqb, leb-true}
-use lib.Dec.{eqb, leb, ltb}
-use lib.ListN.{length, drop}
+use borrow.Author.Tests.{eq-eqb, ne-eqb, leb-true}
+use lib.Dec.{eqb, leb}
+use lib.ListN.{drop}
 use Rattle.definition.specs.Lists.{choose, found, keep, any, isEmpty, firstWhere, before, flatMap, firsts, All}
 use Rattle.definition.specs.Answers.{absent}
 use Rattle.definition.specs.Cards.{Card, isPart, isRoot, isType}
@@ -16,7 +16,7 @@ use Rattle.definition.specs.Headings.{Part, Heading, partFrom, isKind, isNamed,
 use Rattle.definition.specs.Catalogue.{Component, component, components, ownComponents, ofExtensions, kept, Row, row, componentRow, isComponentOf, listed, underSchema, defaultName, kindNamed, defaultRoot, defaultRoots, isRootComponent, unadoptedSchema, adoptedSchema, schemaComponents, schemaRows}
 use Rattle.definition.specs.Store.{cardsUsed, storedCards}
 use Rattle.definition.specs.LentRows.{cardsNamed}
-use Rattle.stored.specs.Stored.{cardKind, cardName, headingAt, isHead, isHeadCard, partsFrom, storedParts}
+use Rattle.stored.specs.Stored.{cardKind, headingAt, isHead, isHeadCard, partsFrom, storedParts}
 use Rattle.stored.proofs.Documents.{named-drop}
 use Rattle.stored.proofs.Lists.{all-to}
 use Rattle.index.specs.Index.{headingNumber}

@@ -1,20 +1,20 @@
 -- One law for each way that a turn or a branch of the schema's functions can go.
 use mathlib.Core.Path.{_≡_, refl, sym, ap, _∙_}
-use mathlib.Core.Bool.{Bool, true, false, _&&_, _||_, not}
-use mathlib.Core.List.{List, [], _∷_, _++_, map, append-nil}
-use mathlib.Core.Option.{Option, none, some}
-use Prim.Native.Nat.{ℕ, zero, suc, _+_, _-_, _*_, _≤_, _<_}
+use mathlib.Core.Bool.{Bool, true, false, _&&_, not}
+use mathlib.Core.List.{List, [], _∷_, _++_, append-nil}
+use mathlib.Core.Option.{none, some}
+use Prim.Native.Nat.{ℕ, _+_, _-_, _*_, _≤_, _<_}
 use native.Mathlib.Omega.{arith}
 use borrow.Author.Tests.{eq-eqb, ne-eqb, le-leb, lt-leb}
-use lib.Dec.{eqb, leb, ltb}
+use lib.Dec.{eqb, leb}
 use lib.ListN.{length, take, drop, getD, drop-of-length-le}
-use Rattle.definition.specs.Lists.{choose, found, any, firstWhere, before, flatMap}
+use Rattle.definition.specs.Lists.{choose, any, firstWhere, before, flatMap}
 use Rattle.definition.specs.Names.{sameName}
 use Rattle.definition.specs.Answers.{absent}
 use Rattle.definition.specs.Cards.{Card, cardFrom, isPart, isRoot}
 use Rattle.definition.specs.Catalogue.{Row, row, defaultName, underSchema}
 use Rattle.definition.specs.Store.{cardsUsed, storedCards}
-use Rattle.stored.specs.Stored.{cardKind, cardName, headingAt, isHeadCard}
+use Rattle.stored.specs.Stored.{cardKind, cardName, isHeadCard}
 use Rattle.stored.proofs.Lists.{drop-get}
 use Rattle.stored.proofs.Laid.{length-stored-cards}
 use Rattle.stored.proofs.Words.{stored-card, card-kind}

@@ -1,13 +1,13 @@
 -- "The first of a name stays": lists of firsts one element, or one list, after another; and pushes that keep to it.
 use mathlib.Core.Path.{_≡_, refl, sym, ap, _∙_}
-use mathlib.Core.Bool.{Bool, true, false, _&&_, _||_, not}
-use mathlib.Core.List.{List, [], _∷_, _++_, map, append-assoc, append-nil}
-use Prim.Native.Nat.{ℕ, zero, suc, _+_, _-_, _*_, _≤_, _<_}
+use mathlib.Core.Bool.{Bool, true, false}
+use mathlib.Core.List.{List, [], _∷_, _++_, append-assoc, append-nil}
+use Prim.Native.Nat.{ℕ, _+_, _-_, _*_, _≤_}
 use native.Mathlib.Omega.{arith}
 use lib.ListN.{length, length-append}
-use Rattle.definition.specs.Lists.{choose, keep, any, flatMap, firsts, All}
+use Rattle.definition.specs.Lists.{keep, any, flatMap, firsts}
 use Rattle.definition.specs.Catalogue.{Row, row}
-use Rattle.rows.specs.Pushed.{Filled, filled, pushed, usedFrom, alikeRows, extended}
+use Rattle.rows.specs.Pushed.{Filled, pushed, usedFrom, alikeRows, extended}
 use Rattle.rows.proofs.Pushing.{pushed-none, pushed-append, length-pushed, used-none, used-pushed}
 
 module _ {ℓ} {A : Type ℓ} (alike : A → A → Bool) where

@@ -1,24 +1,24 @@
 -- One law for each way that a turn of a loop, or a branch, can go.
 use mathlib.Core.Path.{_≡_, refl, sym, ap, _∙_}
-use mathlib.Core.Bool.{Bool, true, false, _&&_, _||_, not}
-use mathlib.Core.List.{List, [], _∷_, _++_, map, append-assoc, append-nil}
-use Prim.Native.Nat.{ℕ, zero, suc, _+_, _-_, _*_, _≤_, _<_}
+use mathlib.Core.Bool.{Bool, true, false, _&&_, not}
+use mathlib.Core.List.{List, [], _∷_, _++_, map}
+use Prim.Native.Nat.{ℕ, suc, _+_, _-_, _*_, _≤_, _<_}
 use native.Mathlib.Omega.{arith}
 use borrow.Author.Tests.{eq-eqb, ne-eqb, lt-ltb, le-ltb, le-leb, lt-leb}
-use lib.Dec.{eqb, leb, ltb}
+use lib.Dec.{eqb, leb}
 use lib.ListN.{length, getD, take, drop, length-take, drop-of-length-le}
 use lib.Seq.{drop-cons, length-take-le, getD-take}
-use Rattle.definition.specs.Lists.{choose, keep, any, flatMap}
+use Rattle.definition.specs.Lists.{keep, any, flatMap}
 use Rattle.definition.specs.Answers.{absent}
 use Rattle.definition.specs.Cards.{isRoot, isPart}
 use Rattle.definition.specs.Headings.{Part, isOf, isKind, isNamed}
-use Rattle.definition.specs.Catalogue.{component, components, Row, row, componentRow, isComponentOf, underType}
+use Rattle.definition.specs.Catalogue.{component, components, Row, row, componentRow, isComponentOf}
 use Rattle.definition.specs.Store.{cardsUsed}
 use Rattle.index.specs.Index.{sameCards}
 use Rattle.stored.specs.Stored.{cardKind, cardAt, builtInCount, builtInAt, partsFrom, storedParts}
 use Rattle.stored.proofs.Words.{parts-next, parts-stop, parts-end}
-use Rattle.rows.specs.Pushed.{Filled, filled, rowAt, rowsFrom, usedFrom, alikeRows, pushed, extended, rowsOfKind}
-use Rattle.rows.specs.Drawn.{sameStored, headRows, extensionRowsAt, extensionRows, listRows, listAt, typeRowAt, typeRowsAt, standingCard, namesDirective, standingAt, directiveRowsOf, directiveRowsAt}
+use Rattle.rows.specs.Pushed.{Filled, rowAt, rowsFrom, alikeRows, pushed, extended, rowsOfKind}
+use Rattle.rows.specs.Drawn.{sameStored, headRows, extensionRowsAt, extensionRows, listRows, listAt, typeRowAt, standingCard, namesDirective, standingAt, directiveRowsOf, directiveRowsAt}
 use Rattle.rows.proofs.Sticky.{extended-none, extended-fresh}
 use Rattle.rows.proofs.Listed.{kind-append, keep-yes, keep-no}
 
@@ -94,10 +94,6 @@ pub listed-origin : (same : ℕ → ℕ → Bool) (kind card origin : ℕ) (rs :
 unfolding alikeRows
 listed-origin same kind card origin rs = refl
 
-pub used-are : (start : ℕ) (ws : List ℕ) (used : ℕ) → usedFrom start (filled ws used) ≡ rowsFrom ws start (used - start)
-unfolding usedFrom
-used-are start ws used = refl
-
 -- ---- The parts under a heading.
 
 -- The parts of kind k that stand from card p on, as rows.
@@ -151,15 +147,6 @@ module _ (ns : List ℕ) (count i : ℕ) where
 
   pub taken-end : count ≤ i → drop i (take count ns) ≡ []
   taken-end h = drop-of-length-le (take count ns) {i = i} (simp length-take (omega arith))
-
-module _ {ℓ} {B : Type ℓ} (f : ℕ → List B) (ns : List ℕ) (count i : ℕ) where
-  pub flat-next : i < count → count ≤ length ns → flatMap f (drop i (take count ns)) ≡ f (getD ns i 0) ++ flatMap f (drop (i + 1) (take count ns))
-  unfolding flatMap
-  flat-next h k = ap (flatMap f) (taken-next ns count i h k)
-
-  pub flat-end : count ≤ i → flatMap f (drop i (take count ns)) ≡ []
-  unfolding flatMap
-  flat-end h = ap (flatMap f) (taken-end ns count i h)
 
 -- nothing is added
 pub extended-nothing : (same : ℕ → ℕ → Bool) (start : ℕ) (rs : List Row) (s : Filled) → rs ≡ [] → s ≡ extended same start rs s

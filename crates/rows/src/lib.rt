@@ -8,7 +8,7 @@ ghost use Rattle.definition.specs.Answers.{absent};
 ghost use Rattle.definition.specs.Catalogue.{rows as catalogueRows, row, component, underType, underSchema};
 ghost use Rattle.definition.specs.Outcomes.{wordsOfRow};
 ghost use Rattle.definition.specs.Store.{cardsUsed};
-ghost use Rattle.stored.specs.Stored.{cardKind, cardAt, storedHeadings};
+ghost use Rattle.stored.specs.Stored.{cardAt, storedHeadings};
 ghost use Rattle.index.specs.Index.{Printed};
 ghost use Rattle.rows.specs.Pushed.{filled, pushed, usedFrom, alikeRows, extended, rowsOfKind};
 ghost use Rattle.rows.specs.Drawn.{Stored, sameStored, headRows, extensionKind, Matched, extensionRows, listAt, typeRowAt, typeRowsAt, namesDirective, standingAt, directiveRowsOf, directiveRowsAt, schemaCard, schemaExtensionAt, firstKind, kindNamedAt, hasDefault, anyDefault, defaultRows, setsRoot, isImplicit, schemaListAt, schemaRowsAt};

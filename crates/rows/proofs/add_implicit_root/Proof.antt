@@ -1,11 +1,10 @@
-use mathlib.Core.Path.{_≡_, refl, sym, ap, _∙_}
+use mathlib.Core.Path.{sym, ap, _∙_}
 use mathlib.Core.List.{List}
-use Prim.Native.Nat.{_*_, _≤_}
 use native.Mathlib.Omega.{arith}
 use borrow.Author.Tests.{not-true, not-false}
-use lib.ListN.{length, take}
+use lib.ListN.{take}
 use Rattle.definition.specs.Catalogue.{Row}
-use Rattle.rows.specs.Pushed.{Filled, filled, extended}
+use Rattle.rows.specs.Pushed.{filled, extended}
 use Rattle.rows.specs.Drawn.{sameStored}
 use Rattle.rows.proofs.Turns.{extended-nothing}
 use Rattle.rows.proofs.SchemaTurns.{no-default, default-unset, default-set}

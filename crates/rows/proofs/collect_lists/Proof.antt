@@ -1,15 +1,13 @@
-use mathlib.Core.Path.{_≡_, refl, sym, ap, _∙_}
-use mathlib.Core.List.{List, [], _∷_}
-use Prim.Native.Nat.{ℕ}
+use mathlib.Core.Path.{refl, _∙_}
+use mathlib.Core.List.{[], _∷_}
 use native.Mathlib.Omega.{arith}
 use Rattle.definition.specs.Lists.{flatMap}
 use Rattle.definition.specs.Catalogue.{underType}
-use Rattle.rows.specs.Pushed.{Filled, filled, pushed}
+use Rattle.rows.specs.Pushed.{filled, pushed}
 use Rattle.rows.specs.Drawn.{listAt}
 use Rattle.rows.proofs.Pushing.{Left, left-begin, left-room, left-next, left-end}
 use Rattle.rows.proofs.collect_lists.Statement.{statement}
 use Rattle.rows.proofs.collect_lists.Tie as tie
-use borrow.Author.Needs.{needs}
 use Rattle.rows.proofs.collect_lists.Reads as reads
 use Rattle.rows.proofs.collect_lists.Lts as lts
 use Rattle.rows.proofs.collect_sticky.Reads as collect-sticky-reads

@@ -1,8 +1,6 @@
-use mathlib.Core.Path.{_≡_, refl}
+use mathlib.Core.Path.{refl}
 use mathlib.Core.List.{[]}
-use Prim.Native.Nat.{_≤_}
 use native.Mathlib.Omega.{arith}
-use lib.ListN.{length}
 use Rattle.rows.proofs.Pushing.{rest-room, rest-next, rest-end}
 use Rattle.rows.proofs.Catalogue.{drawn-rest, pushed-first, choose-left, choose-right}
 use Rattle.rows.proofs.draw_rows.Statement.{statement}

@@ -1,13 +1,13 @@
 use mathlib.Core.Path.{_≡_, refl, sym, ap, _∙_}
 use mathlib.Core.List.{List, [], _∷_}
-use Prim.Native.Nat.{ℕ, _+_, _*_, _-_, _≤_, _<_}
+use Prim.Native.Nat.{_+_, _-_, _≤_}
 use native.Mathlib.Omega.{arith}
 use lib.ListN.{length}
 use borrow.Author.Tests.{not-true, not-false}
 use Rattle.definition.specs.Cards.{isPart}
 use Rattle.definition.specs.Catalogue.{Row, component}
 use Rattle.stored.specs.Stored.{cardAt}
-use Rattle.rows.specs.Pushed.{Filled, filled, extended, rowsOfKind}
+use Rattle.rows.specs.Pushed.{filled, extended, rowsOfKind}
 use Rattle.rows.specs.Drawn.{sameStored, headRows}
 use Rattle.rows.proofs.Sticky.{walk-room, walk-next, walk-start, walk-end}
 use Rattle.rows.proofs.Turns.{partRows, head-parts, part-next, part-stop, part-end}

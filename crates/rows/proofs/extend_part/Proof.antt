@@ -1,7 +1,5 @@
-use mathlib.Core.Path.{_≡_, sym, ap, _∙_}
-use Prim.Native.Nat.{_*_, _≤_}
+use mathlib.Core.Path.{sym, ap, _∙_}
 use native.Mathlib.Omega.{arith}
-use lib.ListN.{length}
 use Rattle.rows.specs.Pushed.{Filled, filled}
 use Rattle.rows.proofs.Turns.{part-take, part-skip}
 use Rattle.rows.proofs.extend_part.Statement.{statement}

@@ -1,4 +1,4 @@
-use mathlib.Core.Path.{_≡_, sym, _∙_}
+use mathlib.Core.Path.{sym, _∙_}
 use Rattle.definition.specs.Catalogue.{row}
 use Rattle.rows.specs.Pushed.{filled}
 use Rattle.rows.specs.Drawn.{sameStored}

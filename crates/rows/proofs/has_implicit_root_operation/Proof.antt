@@ -1,4 +1,4 @@
-use mathlib.Core.Path.{_≡_, refl, sym, ap, _∙_}
+use mathlib.Core.Path.{sym, _∙_}
 use Rattle.rows.proofs.SchemaTurns.{some-first, some-second, some-third}
 use Rattle.rows.proofs.has_implicit_root_operation.Statement.{statement}
 use Rattle.rows.proofs.has_implicit_root_operation.Tie as tie

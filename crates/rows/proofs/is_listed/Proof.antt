@@ -1,8 +1,6 @@
-use Prim.Native.Nat.{ℕ, _+_, _*_, _≤_, _-_}
+use Prim.Native.Nat.{_-_}
 use mathlib.Core.Path.{_≡_, refl, sym, _∙_}
 use mathlib.Core.Logic.{⊎-elim}
-use native.Mathlib.Omega.{arith}
-use lib.ListN.{length}
 use Rattle.definition.specs.Lists.{any}
 use Rattle.definition.specs.Catalogue.{row}
 use Rattle.rows.specs.Pushed.{alikeRows, usedFrom, rowsFrom}

@@ -1,4 +1,4 @@
-use mathlib.Core.Path.{_≡_, sym, _∙_}
+use mathlib.Core.Path.{sym, _∙_}
 use Rattle.rows.proofs.Turns.{directive-other, directive-is}
 use Rattle.rows.proofs.names_directive.Statement.{statement}
 use Rattle.rows.proofs.names_directive.Tie as tie

@@ -1,8 +1,7 @@
-use mathlib.Core.Path.{_≡_, refl, sym, ap, _∙_}
-use Prim.Native.Nat.{_*_, _≤_}
+use mathlib.Core.Path.{refl, ap, _∙_}
 use native.Mathlib.Omega.{arith}
 use lib.ListN.{length, take}
-use Rattle.rows.specs.Pushed.{Filled, filled, pushed}
+use Rattle.rows.specs.Pushed.{Filled, filled}
 use Rattle.rows.proofs.Pushing.{push-room, push-next}
 use Rattle.rows.proofs.Turns.{one-room}
 use Rattle.rows.proofs.SchemaTurns.{schema-cut}

@@ -1,4 +1,4 @@
-use mathlib.Core.Path.{_≡_, refl, _∙_}
+use mathlib.Core.Path.{refl, _∙_}
 use lib.ListN.{length}
 use Rattle.rows.specs.Pushed.{filled}
 use Rattle.rows.proofs.Pushing.{push-room, push-next, rest-begin, rest-next, rest-fits}

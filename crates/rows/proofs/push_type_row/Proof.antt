@@ -1,4 +1,4 @@
-use mathlib.Core.Path.{_≡_, sym, _∙_}
+use mathlib.Core.Path.{_∙_}
 use Rattle.rows.specs.Pushed.{filled}
 use Rattle.rows.proofs.Turns.{row-adopted, row-defined}
 use Rattle.rows.proofs.push_type_row.Statement.{statement}

@@ -1,4 +1,4 @@
-use mathlib.Core.Path.{_≡_, sym, _∙_}
+use mathlib.Core.Path.{sym, _∙_}
 use native.Mathlib.Omega.{arith}
 use Rattle.rows.proofs.Turns.{stored-not-first, stored-not-second, stored-both}
 use Rattle.rows.proofs.same_stored.Statement.{statement}

@@ -1,8 +1,8 @@
 use mathlib.Core.Path.{_≡_, refl, sym, ap, _∙_}
 use mathlib.Core.Option.{Option}
-use Prim.Native.Nat.{ℕ, _+_, _-_, _≤_, _<_}
+use Prim.Native.Nat.{ℕ, _-_}
 use native.Mathlib.Omega.{arith}
-use lib.ListN.{length, take, drop, getD}
+use lib.ListN.{take, drop}
 use Rattle.definition.specs.Lists.{found, firstWhere}
 use Rattle.definition.specs.Answers.{absent}
 use Rattle.rows.specs.Drawn.{isSchemaCard, schemaCard}

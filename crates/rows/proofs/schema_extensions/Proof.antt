@@ -1,10 +1,9 @@
-use mathlib.Core.Path.{_≡_, refl, sym, ap, _∙_}
-use mathlib.Core.List.{List, [], _∷_}
-use Prim.Native.Nat.{ℕ, _+_, _*_, _-_, _≤_, _<_}
+use mathlib.Core.Path.{_≡_, refl, _∙_}
+use Prim.Native.Nat.{_-_}
 use native.Mathlib.Omega.{arith}
-use lib.ListN.{length, take, drop, getD}
+use lib.ListN.{length, take, drop}
 use Rattle.definition.specs.Lists.{flatMap}
-use Rattle.rows.specs.Pushed.{Filled, filled, extended}
+use Rattle.rows.specs.Pushed.{filled, extended}
 use Rattle.rows.specs.Drawn.{sameStored, schemaExtensionAt}
 use Rattle.rows.proofs.Sticky.{Extending, extending, extending-room, extending-next, extending-end}
 use Rattle.rows.proofs.Turns.{taken-next, taken-end}

@@ -1,11 +1,11 @@
-use mathlib.Core.Path.{_≡_, refl, sym, ap, _∙_}
-use Prim.Native.Nat.{ℕ, _+_, _-_, _≤_, _<_}
+use mathlib.Core.Path.{_≡_, sym, ap, _∙_}
+use Prim.Native.Nat.{_-_, _≤_}
 use native.Mathlib.Omega.{arith}
 use borrow.Author.Tests.{not-true, not-false}
 use lib.ListN.{drop}
 use Rattle.definition.specs.Lists.{any, before}
-use Rattle.definition.specs.Cards.{isPart, isRoot}
-use Rattle.definition.specs.Store.{cardsUsed, storedCards}
+use Rattle.definition.specs.Cards.{isPart}
+use Rattle.definition.specs.Store.{storedCards}
 use Rattle.stored.specs.Stored.{isHeadCard}
 use Rattle.rows.specs.Drawn.{isRootCard, setsRoot}
 use Rattle.rows.proofs.SchemaTurns.{root-stop, root-hit, root-miss, root-end, sets-not, sets-is, root-kind, not-root-kind}

@@ -1,9 +1,8 @@
-use mathlib.Core.Path.{_≡_, refl, sym, ap, _∙_}
-use mathlib.Core.List.{List, [], _∷_}
-use Prim.Native.Nat.{ℕ, _+_, _*_, _-_, _≤_, _<_}
+use mathlib.Core.Path.{_≡_, refl, _∙_}
+use Prim.Native.Nat.{_-_, _≤_}
 use native.Mathlib.Omega.{arith}
 use lib.ListN.{length, drop}
-use Rattle.rows.specs.Pushed.{Filled, filled, extended}
+use Rattle.rows.specs.Pushed.{filled, extended}
 use Rattle.rows.specs.Drawn.{sameStored, extensionRows}
 use Rattle.rows.proofs.Sticky.{walk-room, walk-next, walk-start, walk-end}
 use Rattle.rows.proofs.Turns.{extensions-next, extensions-end}
