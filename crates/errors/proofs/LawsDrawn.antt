@@ -15,7 +15,7 @@ use Rattle.definition.specs.Outcomes.{wordsOfRow}
 use Rattle.definition.specs.Store.{cardsUsed, accountIn}
 use Rattle.stored.specs.Stored.{cardKind, storedHeadings}
 use Rattle.index.specs.declared.Counts.{Counts}
-use Rattle.index.specs.Index.{headingNumber}
+use Rattle.index.specs.Index.{headingNumber, Spanned}
 use Rattle.index.proofs.Lists.{taken-front, all-picture}
 use Rattle.errors.specs.declared.ErrorCounts.{ErrorCounts}
 use Rattle.errors_laws.specs.Pushing.{Ledger, ledger, pushAll, Room, noErrors}
@@ -90,8 +90,8 @@ ascending : (es : List Heading) → Rising es → Ascending (map (λ (h : Headin
 ascending [] r = tt
 ascending (e ∷ es) r = (all-picture (λ (h : Heading). h .number) (λ n. e .number < n) es (r .0), ascending es (r .1))
 
-module _ (text words heads prints owners orphanCards extensionCards : List ℕ) (counts : Counts) (adopt : Bool) (drawn : List ℕ) (n : ℕ) (errors : List ℕ)
-    (q : ErrorsAsked text words heads prints owners orphanCards extensionCards counts adopt drawn n errors) where
+module _ (text words heads prints owners orphanCards extensionCards starts ends : List ℕ) (counts : Counts) (adopt : Bool) (drawn : List ℕ) (n : ℕ) (errors : List ℕ)
+    (q : ErrorsAsked text words heads prints owners orphanCards extensionCards starts ends counts adopt drawn n errors) where
   abbrev hs : List Heading
   hs = storedHeadings text words
 
@@ -204,8 +204,9 @@ module _ (text words heads prints owners orphanCards extensionCards : List ℕ) 
   -- All that pushing them asks.
   pub push-asked : (places : List ℕ) → Placed (take (3 * n) drawn) places →
       Searching text words prints (take (3 * n) drawn) places × HeldHeadings words (take m heads) × Held words (take (counts .extensions) extensionCards)
-      × Ascending (take (counts .extensions) extensionCards) × HeldExtensions words (take (counts .orphans) orphanCards) × Room (ledger errors noErrors) (readingPushed ++ drawingPushed)
-  push-asked places placed = (record { printed = q .indexed .printed; placed = placed }, heads-held, extensions-held, extensions-ascend, orphans-held, all-room)
+      × Ascending (take (counts .extensions) extensionCards) × Spanned words owners (take (counts .extensions) extensionCards) starts ends
+      × HeldExtensions words (take (counts .orphans) orphanCards) × Room (ledger errors noErrors) (readingPushed ++ drawingPushed)
+  push-asked places placed = (record { printed = q .indexed .printed; placed = placed }, heads-held, extensions-held, extensions-ascend, q .spanned, orphans-held, all-room)
 
   -- What is left when both are pushed.
   pub errors-drawn : (after : List ℕ) (r : ErrorCounts) → ErrorsPushed errors after r readingPushed drawingPushed → ErrorsDrawn adopt hs errors after r

@@ -13,7 +13,7 @@ use Rattle.definition.specs.Outcomes.{wordsOfRow, wordsOfError}
 use Rattle.definition.specs.Store.{sound}
 use Rattle.stored.specs.Stored.{storedHeadings}
 use Rattle.index.specs.declared.Counts.{Counts}
-use Rattle.index.specs.Index.{Indexed}
+use Rattle.index.specs.Index.{Indexed, Spanned}
 use Rattle.errors.specs.declared.ErrorCounts.{ErrorCounts}
 use Rattle.errors_laws.specs.Pushing.{ledger, noErrors, pushAll}
 
@@ -28,11 +28,12 @@ pub record ErrorsPushed (before after : List ℕ) (r : ErrorCounts) (read drawn 
   pub drawing-count : r .drawing ≡ length drawn
 
 -- A sound store with its arrays filled, its rows drawn, and room for its errors.
-pub record ErrorsAsked (text words heads prints owners orphans extensions : List ℕ) (counts : Counts) (adopt : Bool) (drawn : List ℕ) (n : ℕ) (errors : List ℕ) : Type 0 where
+pub record ErrorsAsked (text words heads prints owners orphans extensions starts ends : List ℕ) (counts : Counts) (adopt : Bool) (drawn : List ℕ) (n : ℕ) (errors : List ℕ) : Type 0 where
   pub types : List ℕ
   pub store-sound : sound text words ≡ true
   pub indexed :
       Indexed text words heads prints owners types orphans extensions (counts .headings) (counts .types) (counts .orphans) (counts .extensions)
+  pub spanned : Spanned words owners (take (counts .extensions) extensions) starts ends
   pub row-count : n ≡ length (rows adopt (storedHeadings text words))
   pub rows-are : take (3 * n) drawn ≡ flatMap wordsOfRow (rows adopt (storedHeadings text words))
   pub errors-most : length (allErrors adopt (storedHeadings text words)) ≤ 2300

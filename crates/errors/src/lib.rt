@@ -7,6 +7,7 @@ use index::Counts;
 ghost use mathlib.Core.List.{[], _++_};
 ghost use lib.ListN.{getD};
 ghost use Rattle.stored.specs.Stored.{storedHeadings};
+ghost use Rattle.index.specs.Index.{Spanned};
 ghost use Rattle.errors_laws.specs.Pushing.{ledger, noErrors, Room};
 ghost use Rattle.errors_laws.specs.ByCards.{readingAt, drawingAt};
 ghost use Rattle.errors_laws.specs.Views.{viewOf, Searching, Held, HeldHeadings, HeldExtensions, Ascending};
@@ -36,13 +37,15 @@ fn push_errors(
     prints: &[u32],
     owners: &[u32],
     extensions: &[u32],
+    starts: &[u32],
+    ends: &[u32],
     rows: &[u32],
     places: &[u32],
     orphans: &[u32],
     heads: &[u32],
     errors: &mut [u32],
 ) -> ErrorCounts
-    requires { ⌜ Searching (now text) (now words) (now prints) (now rows) (now places) × HeldHeadings (now words) (now heads) × Held (now words) (now extensions) × Ascending (now extensions) × HeldExtensions (now words) (now orphans) × Room (ledger (now errors) noErrors) (readingAt (viewOf (now text) (now words) (now owners)) (now rows) (getD (now rows) 1 0) (now extensions) [] (now heads) ++ drawingAt adopt (viewOf (now text) (now words) (now owners)) (now rows) (getD (now rows) 1 0) (now extensions) (now orphans) (now heads)) ⌝ }
+    requires { ⌜ Searching (now text) (now words) (now prints) (now rows) (now places) × HeldHeadings (now words) (now heads) × Held (now words) (now extensions) × Ascending (now extensions) × Spanned (now words) (now owners) (now extensions) (now starts) (now ends) × HeldExtensions (now words) (now orphans) × Room (ledger (now errors) noErrors) (readingAt (viewOf (now text) (now words) (now owners)) (now rows) (getD (now rows) 1 0) (now extensions) [] (now heads) ++ drawingAt adopt (viewOf (now text) (now words) (now owners)) (now rows) (getD (now rows) 1 0) (now extensions) (now orphans) (now heads)) ⌝ }
     ensures { λ r. ⌜ ErrorsPushed (now (errors .entry)) (now (errors .exit)) r (readingAt (viewOf (now (text .entry)) (now (words .entry)) (now (owners .entry))) (now (rows .entry)) (getD (now (rows .entry)) 1 0) (now (extensions .entry)) [] (now (heads .entry))) (drawingAt adopt (viewOf (now (text .entry)) (now (words .entry)) (now (owners .entry))) (now (rows .entry)) (getD (now (rows .entry)) 1 0) (now (extensions .entry)) (now (orphans .entry)) (now (heads .entry))) ⌝ }
 {
     let t = reading_errors(
@@ -51,6 +54,8 @@ fn push_errors(
         prints,
         owners,
         extensions,
+        starts,
+        ends,
         rows,
         places,
         heads,
@@ -87,6 +92,8 @@ pub fn draw_errors(
     owners: &[u32],
     orphans: &[u32],
     extensions: &[u32],
+    starts: &[u32],
+    ends: &[u32],
     counts: Counts,
     adopt: bool,
     rows: &[u32],
@@ -94,7 +101,7 @@ pub fn draw_errors(
     places: &mut [u32],
     errors: &mut [u32],
 ) -> ErrorCounts
-    requires { ⌜ ErrorsAsked (now text) (now words) (now heads) (now prints) (now owners) (now orphans) (now extensions) counts adopt (now rows) «row_count» (now errors) ⌝ }
+    requires { ⌜ ErrorsAsked (now text) (now words) (now heads) (now prints) (now owners) (now orphans) (now extensions) (now starts) (now ends) counts adopt (now rows) «row_count» (now errors) ⌝ }
     ensures { λ r. ⌜ ErrorsDrawn adopt (storedHeadings (now (text .entry)) (now (words .entry))) (now (errors .entry)) (now (errors .exit)) r ⌝ }
 {
     let m = counts.headings;
@@ -113,6 +120,8 @@ pub fn draw_errors(
         prints,
         owners,
         extensions,
+        starts,
+        ends,
         rows,
         places,
         orphans,

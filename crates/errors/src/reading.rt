@@ -10,7 +10,7 @@ ghost use lib.ListN.{getD};
 ghost use Rattle.definition.specs.Lists.{flatMap};
 ghost use Rattle.definition.specs.Store.{cardsUsed};
 ghost use Rattle.stored.specs.Stored.{cardKind};
-ghost use Rattle.index.specs.Index.{Printed};
+ghost use Rattle.index.specs.Index.{Printed, Spanned};
 ghost use Rattle.errors_laws.specs.Pushing.{ledger, noErrors, pushAll, Room};
 ghost use Rattle.errors_laws.specs.ByCards.{collides, directiveErrorsAt, schemaErrorsAt, schemaExtensionErrorsAt, redefinitionErrorsAt, earlyErrors, typeErrorsAt, typeExtensionErrorsAt, errorsAtCard, readingAt};
 ghost use Rattle.errors_laws.specs.Views.{viewOf, cardView, cardsView, Merging, Searching, Held, HeldHeadings, Ascending};
@@ -189,20 +189,22 @@ fn early_errors(
     t
 }
 
-// A first type definition is merged with the extensions of its kind before it.
+// A first type definition is merged with the extensions of its kind before it; they stand in its part of all extensions.
 fn type_errors(
     text: &[u8],
     words: &[u32],
     prints: &[u32],
     owners: &[u32],
     extensions: &[u32],
+    starts: &[u32],
+    ends: &[u32],
     rows: &[u32],
     places: &[u32],
     h: u32,
     errors: &mut [u32],
     t: Tallies,
 ) -> Tallies
-    requires { ⌜ Searching (now text) (now words) (now prints) (now rows) (now places) × (cardKind (now words) h < 20) × Ascending (now extensions) × Room (ledger (now errors) t) (typeErrorsAt (viewOf (now text) (now words) (now owners)) (now rows) (now extensions) h) ⌝ }
+    requires { ⌜ Searching (now text) (now words) (now prints) (now rows) (now places) × (h < cardsUsed (now words)) × (cardKind (now words) h < 20) × Ascending (now extensions) × Spanned (now words) (now owners) (now extensions) (now starts) (now ends) × Room (ledger (now errors) t) (typeErrorsAt (viewOf (now text) (now words) (now owners)) (now rows) (now extensions) h) ⌝ }
     ensures { λ r. ⌜ ledger (now (errors .exit)) r ≡ pushAll (ledger (now (errors .entry)) t) (typeErrorsAt (viewOf (now (text .entry)) (now (words .entry)) (now (owners .entry))) (now (rows .entry)) (now (extensions .entry)) h) ⌝ }
 {
     if stored::word(owners, h as usize) < h {
@@ -211,12 +213,13 @@ fn type_errors(
     let kind = stored::card_kind(words, h as usize);
     let from = merging::row_at(rows, places, kind, h);
     let t = merging::merge_errors(text, words, prints, rows, from, kind, h, h, errors, t);
+    let own = index::own_extensions(extensions, starts, ends, h);
     early_errors(
         text,
         words,
         prints,
         owners,
-        extensions,
+        own,
         rows,
         from,
         kind,
@@ -260,6 +263,8 @@ fn errors_at(
     prints: &[u32],
     owners: &[u32],
     extensions: &[u32],
+    starts: &[u32],
+    ends: &[u32],
     rows: &[u32],
     places: &[u32],
     schema: u32,
@@ -268,7 +273,7 @@ fn errors_at(
     errors: &mut [u32],
     t: Tallies,
 ) -> Tallies
-    requires { ⌜ Searching (now text) (now words) (now prints) (now rows) (now places) × (h < cardsUsed (now words)) × (cardKind (now words) h ≤ 17) × Held (now words) (now before) × Ascending (now extensions) × Room (ledger (now errors) t) (errorsAtCard (viewOf (now text) (now words) (now owners)) (now rows) schema (now extensions) (now before) h) ⌝ }
+    requires { ⌜ Searching (now text) (now words) (now prints) (now rows) (now places) × (h < cardsUsed (now words)) × (cardKind (now words) h ≤ 17) × Held (now words) (now before) × Ascending (now extensions) × Spanned (now words) (now owners) (now extensions) (now starts) (now ends) × Room (ledger (now errors) t) (errorsAtCard (viewOf (now text) (now words) (now owners)) (now rows) schema (now extensions) (now before) h) ⌝ }
     ensures { λ r. ⌜ ledger (now (errors .exit)) r ≡ pushAll (ledger (now (errors .entry)) t) (errorsAtCard (viewOf (now (text .entry)) (now (words .entry)) (now (owners .entry))) (now (rows .entry)) schema (now (extensions .entry)) (now (before .entry)) h) ⌝ }
 {
     let kind = stored::card_kind(words, h as usize);
@@ -288,6 +293,8 @@ fn errors_at(
             prints,
             owners,
             extensions,
+            starts,
+            ends,
             rows,
             places,
             h,
@@ -308,12 +315,14 @@ pub fn reading_errors(
     prints: &[u32],
     owners: &[u32],
     extensions: &[u32],
+    starts: &[u32],
+    ends: &[u32],
     rows: &[u32],
     places: &[u32],
     heads: &[u32],
     errors: &mut [u32],
 ) -> Tallies
-    requires { ⌜ Searching (now text) (now words) (now prints) (now rows) (now places) × HeldHeadings (now words) (now heads) × Ascending (now extensions) × Room (ledger (now errors) noErrors) (readingAt (viewOf (now text) (now words) (now owners)) (now rows) (getD (now rows) 1 0) (now extensions) [] (now heads)) ⌝ }
+    requires { ⌜ Searching (now text) (now words) (now prints) (now rows) (now places) × HeldHeadings (now words) (now heads) × Ascending (now extensions) × Spanned (now words) (now owners) (now extensions) (now starts) (now ends) × Room (ledger (now errors) noErrors) (readingAt (viewOf (now text) (now words) (now owners)) (now rows) (getD (now rows) 1 0) (now extensions) [] (now heads)) ⌝ }
     ensures { λ r. ⌜ ledger (now (errors .exit)) r ≡ pushAll (ledger (now (errors .entry)) noErrors) (readingAt (viewOf (now (text .entry)) (now (words .entry)) (now (owners .entry))) (now (rows .entry)) (getD (now (rows .entry)) 1 0) (now (extensions .entry)) [] (now (heads .entry))) ⌝ }
 {
     let schema = stored::word(rows, 1);
@@ -328,6 +337,8 @@ pub fn reading_errors(
             prints,
             owners,
             extensions,
+            starts,
+            ends,
             rows,
             places,
             schema,

@@ -10,6 +10,7 @@ pub mod LawsReading
 pub mod LawsRepeats
 pub mod LawsRows
 pub mod LawsSchema
+pub mod LawsSpans
 pub mod LawsStanding
 pub mod LawsStored
 pub mod LawsTallies

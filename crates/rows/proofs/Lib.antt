@@ -5,6 +5,7 @@ pub mod Blocks
 pub mod Directives
 pub mod Turns
 pub mod Matching
+pub mod Parts
 pub mod SchemaLists
 pub mod SchemaTurns
 pub mod Catalogue

@@ -12,7 +12,7 @@ ghost use Rattle.stored.specs.Stored.{cardAt, storedHeadings};
 ghost use Rattle.index.specs.Index.{Printed};
 ghost use Rattle.rows.specs.Pushed.{filled, pushed, usedFrom, alikeRows, extended, rowsOfKind};
 ghost use Rattle.rows.specs.Drawn.{Stored, sameStored, headRows, extensionKind, Matched, extensionRows, listAt, typeRowAt, typeRowsAt, namesDirective, standingAt, directiveRowsOf, directiveRowsAt, schemaCard, schemaExtensionAt, firstKind, kindNamedAt, hasDefault, anyDefault, defaultRows, setsRoot, isImplicit, schemaListAt, schemaRowsAt};
-ghost use Rattle.rows.specs.Arrays.{Arrays};
+ghost use Rattle.rows.specs.Arrays.{Arrays, Parted};
 use index::Counts;
 
 // 01 writes it `-`.
@@ -307,7 +307,7 @@ fn push_type(
     collect_lists(text, words, prints, &mine[0..count], card, rows, next)
 }
 
-// Pushes the types of an array of cards: the first definitions, or the first orphans of each name.
+// Pushes the types of an array of cards: the first orphans of each name. No array tells where their extensions stand, so each walks all.
 fn push_types(
     text: &[u8],
     words: &[u32],
@@ -328,6 +328,35 @@ fn push_types(
     while i < t {
         let card = types[i];
         next = push_type(text, words, prints, exts, n, card, mine, rows, next);
+        i += 1;
+    }
+    next
+}
+
+// Pushes the defined types, each with the part of all extensions in which its own stand: a walk over all of them for each type takes long.
+fn push_defined_types(
+    text: &[u8],
+    words: &[u32],
+    prints: &[u32],
+    exts: &[u32],
+    n: usize,
+    starts: &[u32],
+    ends: &[u32],
+    types: &[u32],
+    t: usize,
+    mine: &mut [u32],
+    rows: &mut [u32],
+    used: usize,
+) -> usize
+    requires { ⌜ Printed (now text) (now words) (now prints) × Stored (now words) (now exts) n × Stored (now words) (now types) t × (n ≤ length (now mine)) × Parted (now text) (now words) (now types) (now exts) (now starts) (now ends) t n × (3 * pushed (flatMap (typeRowsAt (now text) (now words) (take n (now exts))) (take t (now types))) (filled (now rows) used) .used ≤ length (now rows)) ⌝ }
+    ensures { λ r. ⌜ filled (now (rows .exit)) r ≡ pushed (flatMap (typeRowsAt (now (text .entry)) (now (words .entry)) (take n (now (exts .entry)))) (take t (now (types .entry)))) (filled (now (rows .entry)) used) ⌝ }
+{
+    let mut next = used;
+    let mut i = 0;
+    while i < t {
+        let card = types[i];
+        let own = index::own_extensions(&exts[0..n], starts, ends, card);
+        next = push_type(text, words, prints, own, own.len(), card, mine, rows, next);
         i += 1;
     }
     next
@@ -746,12 +775,14 @@ pub fn draw_rows(
     types: &[u32],
     orphans: &[u32],
     exts: &[u32],
+    starts: &[u32],
+    ends: &[u32],
     counts: Counts,
     adopt: bool,
     mine: &mut [u32],
     rows: &mut [u32],
 ) -> usize
-    requires { ⌜ Arrays (now text) (now words) (now heads) (now prints) (now types) (now orphans) (now exts) (counts .headings) (counts .types) (counts .orphans) (counts .extensions) × (counts .extensions ≤ length (now mine)) × (3 * length (catalogueRows adopt (storedHeadings (now text) (now words))) ≤ length (now rows)) ⌝ }
+    requires { ⌜ Arrays (now text) (now words) (now heads) (now prints) (now types) (now orphans) (now exts) (counts .headings) (counts .types) (counts .orphans) (counts .extensions) × Parted (now text) (now words) (now types) (now exts) (now starts) (now ends) (counts .types) (counts .extensions) × (counts .extensions ≤ length (now mine)) × (3 * length (catalogueRows adopt (storedHeadings (now text) (now words))) ≤ length (now rows)) ⌝ }
     ensures { λ r. ⌜ (now (rows .exit) ≡ written (now (rows .entry)) 0 (flatMap wordsOfRow (catalogueRows adopt (storedHeadings (now (text .entry)) (now (words .entry)))))) × (r ≡ length (catalogueRows adopt (storedHeadings (now (text .entry)) (now (words .entry))))) ⌝ }
 {
     let m = counts.headings;
@@ -760,7 +791,20 @@ pub fn draw_rows(
     let o = counts.orphans;
     let first = push_schema(text, words, prints, heads, m, adopt, rows, 0);
     let next = directive_definitions(text, words, prints, heads, m, rows, first);
-    let used = push_types(text, words, prints, exts, n, types, t, mine, rows, next);
+    let used = push_defined_types(
+        text,
+        words,
+        prints,
+        exts,
+        n,
+        starts,
+        ends,
+        types,
+        t,
+        mine,
+        rows,
+        next,
+    );
     if adopt {
         return push_types(text, words, prints, exts, n, orphans, o, mine, rows, used);
     }

@@ -8,9 +8,9 @@ use borrow.Author.Needs.{needs}
 
 mul-end : tie.Need-mul-end
 mul-end c =
-    let e = c .before .before .before .before .before .before .before .before .before .before .args in
-    let p = c .before .before .before .before .before .before .before .before .before .before .pre in
-    omega (arith, rows-inside (e .text .now) (e .words .now) (e .heads .now) (e .prints .now) (e .owners .now) (e .orphans .now) (e .extensions .now) (e .counts) (e .adopt) (e .rows .now) (e .row-count) (e .errors .now) p)
+    let e = c .before .before .before .before .before .before .before .before .before .before .before .before .args in
+    let p = c .before .before .before .before .before .before .before .before .before .before .before .before .pre in
+    omega (arith, rows-few (e .text .now) (e .words .now) (e .heads .now) (e .prints .now) (e .owners .now) (e .orphans .now) (e .extensions .now) (e .starts .now) (e .ends .now) (e .counts) (e .adopt) (e .rows .now) (e .row-count) (e .errors .now) p)
 
 sub-extensions : tie.Need-sub-extensions
 sub-extensions c = search needs
@@ -29,9 +29,9 @@ part-rows-start c = search needs
 
 part-rows-end : tie.Need-part-rows-end
 part-rows-end c =
-    let e = c .before .before .before .before .before .before .before .before .before .before .before .args in
-    let p = c .before .before .before .before .before .before .before .before .before .before .before .pre in
-    rows-inside (e .text .now) (e .words .now) (e .heads .now) (e .prints .now) (e .owners .now) (e .orphans .now) (e .extensions .now) (e .counts) (e .adopt) (e .rows .now) (e .row-count) (e .errors .now) p
+    let e = c .before .before .before .before .before .before .before .before .before .before .before .before .before .args in
+    let p = c .before .before .before .before .before .before .before .before .before .before .before .before .before .pre in
+    rows-inside (e .text .now) (e .words .now) (e .heads .now) (e .prints .now) (e .owners .now) (e .orphans .now) (e .extensions .now) (e .starts .now) (e .ends .now) (e .counts) (e .adopt) (e .rows .now) (e .row-count) (e .errors .now) p
 
 sub-orphans : tie.Need-sub-orphans
 sub-orphans c = search needs
@@ -53,15 +53,15 @@ part-heads-end c = search needs
 
 place-rows-requires : tie.Need-place-rows-requires
 place-rows-requires c κs =
-    let e = c .before .before .before .before .before .before .before .before .before .before .before .before .before .before .before .args in
-    let p = c .before .before .before .before .before .before .before .before .before .before .before .before .before .before .before .pre in
-    simp (sub-zero, length-take) (omega (arith, rows-few (e .text .now) (e .words .now) (e .heads .now) (e .prints .now) (e .owners .now) (e .orphans .now) (e .extensions .now) (e .counts) (e .adopt) (e .rows .now) (e .row-count) (e .errors .now) p))
+    let e = c .before .before .before .before .before .before .before .before .before .before .before .before .before .before .before .before .before .args in
+    let p = c .before .before .before .before .before .before .before .before .before .before .before .before .before .before .before .before .before .pre in
+    simp (sub-zero, length-take) (omega (arith, rows-few (e .text .now) (e .words .now) (e .heads .now) (e .prints .now) (e .owners .now) (e .orphans .now) (e .extensions .now) (e .starts .now) (e .ends .now) (e .counts) (e .adopt) (e .rows .now) (e .row-count) (e .errors .now) p))
 
 push-errors-requires : tie.Need-push-errors-requires
 push-errors-requires c κs =
-    let e = c .before .before .before .before .before .before .before .before .before .before .before .before .before .before .before .before .before .before .before .before .args in
-    let p = c .before .before .before .before .before .before .before .before .before .before .before .before .before .before .before .before .before .before .before .before .pre in
-    simp sub-zero (push-asked (e .text .now) (e .words .now) (e .heads .now) (e .prints .now) (e .owners .now) (e .orphans .now) (e .extensions .now) (e .counts) (e .adopt) (e .rows .now) (e .row-count) (e .errors .now) p _ (simp sub-zero at (c .before .before .before .before .place-rows .ensures)))
+    let e = c .before .before .before .before .before .before .before .before .before .before .before .before .before .before .before .before .before .before .before .before .before .before .args in
+    let p = c .before .before .before .before .before .before .before .before .before .before .before .before .before .before .before .before .before .before .before .before .before .before .pre in
+    simp sub-zero (push-asked (e .text .now) (e .words .now) (e .heads .now) (e .prints .now) (e .owners .now) (e .orphans .now) (e .extensions .now) (e .starts .now) (e .ends .now) (e .counts) (e .adopt) (e .rows .now) (e .row-count) (e .errors .now) p _ (simp sub-zero at (c .before .before .before .before .place-rows .ensures)))
 
 same-length : tie.Need-same-length
 same-length c = search needs
@@ -71,9 +71,9 @@ same-length-2 c = search needs
 
 returns : tie.Need-returns
 returns c =
-    let e = c .before .before .before .before .before .before .before .before .before .before .before .before .before .before .before .before .before .before .before .before .before .before .before .args in
-    let p = c .before .before .before .before .before .before .before .before .before .before .before .before .before .before .before .before .before .before .before .before .before .before .before .pre in
-    errors-drawn (e .text .now) (e .words .now) (e .heads .now) (e .prints .now) (e .owners .now) (e .orphans .now) (e .extensions .now) (e .counts) (e .adopt) (e .rows .now) (e .row-count) (e .errors .now) p _ _ (simp sub-zero at (c .before .before .push-errors .ensures))
+    let e = c .before .before .before .before .before .before .before .before .before .before .before .before .before .before .before .before .before .before .before .before .before .before .before .before .before .args in
+    let p = c .before .before .before .before .before .before .before .before .before .before .before .before .before .before .before .before .before .before .before .before .before .before .before .before .before .pre in
+    errors-drawn (e .text .now) (e .words .now) (e .heads .now) (e .prints .now) (e .owners .now) (e .orphans .now) (e .extensions .now) (e .starts .now) (e .ends .now) (e .counts) (e .adopt) (e .rows .now) (e .row-count) (e .errors .now) p _ _ (simp sub-zero at (c .before .before .push-errors .ensures))
 
 pub draw-errors-spec : {M : Type 1} → statement M
 draw-errors-spec =

@@ -14,7 +14,7 @@ returns c =
     sym (orphan-owned (e .text .now) (e .words .now) (e .owners .now) (e .g) (e .card) _ (c .before .word .ensures) (c .if1 .taken))
 
 same-cards-requires : tie.Need-same-cards-requires
-same-cards-requires c κs = c .before .before .before .before .before .before .pre
+same-cards-requires c κs = search needs
 
 returns-2 : tie.Need-returns-2
 unfolding sameCards

@@ -11,7 +11,7 @@ word-requires c κs = search needs
 returns : tie.Need-returns
 returns c =
     let e = c .before .before .before .before .before .before .before .before .before .args in
-    none-pushed _ _ (late-waits (e .text .now) (e .words .now) (e .owners .now) (e .rows .now) (e .h) _ (c .before .word .ensures) (c .if1 .taken))
+    none-pushed _ _ (late-waits (e .text .now) (e .words .now) (e .owners .now) (e .rows .now) (e .h) _ (c .before .word .ensures) (omega arith))
 
 cast-card-kind : tie.Need-cast-card-kind
 cast-card-kind c = search needs
