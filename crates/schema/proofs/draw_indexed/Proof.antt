@@ -3,6 +3,7 @@ use native.Mathlib.Omega.{arith}
 use lib.Dec.{eqb}
 use lib.ListN.{getD}
 use Rattle.rows.proofs.Catalogue.{indexed-arrays}
+use Rattle.rows.proofs.Parts.{spanned-parted}
 use Rattle.schema.proofs.Bounds.{rows-fit, rows-room, rows-stand, errors-most, errors-room, built}
 use borrow.Author.Needs.{needs}
 use Rattle.schema.proofs.draw_indexed.Statement.{statement}
@@ -13,30 +14,32 @@ shared-slice-read-adopt c = search needs
 
 draw-rows-requires : tie.Need-draw-rows-requires
 draw-rows-requires c κs =
-    let s = c .before .before .before .before .before .before .before .before .before .before .before .before .before .before in
+    let s = c .before .before .before .before .before .before .before .before .before .before .before .before .before .before .before .before in
     let x = s .pre .1 in (
       indexed-arrays _ _ _ _ _ _ _ _ _ _ _ _ x,
-      omega (arith, x .extensions-most, x .headings-most, s .pre .2),
+      spanned-parted _ _ _ _ _ _ _ _ _ _ _ _ x _ _ (s .pre .2),
+      omega (arith, x .extensions-most, x .headings-most, s .pre .3),
       rows-room _ _ (s .pre .0 .store-sound) _ (s .args .rows .now) (s .pre .0 .rows-length),
     )
 
 draw-errors-requires : tie.Need-draw-errors-requires
 draw-errors-requires c κs =
     let y = c .before .before .before .before .before .before .before .draw-rows in
-    let s = c .before .before .before .before .before .before .before .before .before .before .before .before .before .before .before .before .before .before .before .before .before .before in
+    let s = c .before .before .before .before .before .before .before .before .before .before .before .before .before .before .before .before .before .before .before .before .before .before .before .before in
     record {
       types = _;
       store-sound = s .pre .0 .store-sound;
       indexed = s .pre .1;
+      spanned = s .pre .2;
       row-count = y .ensures .1;
       rows-are = rows-stand _ _ _ _ (y .ensures .1) (y .ensures .0);
       errors-most = errors-most _ _ (s .pre .0 .store-sound) _;
       errors-room = errors-room _ _ (s .pre .0 .store-sound) _ (s .args .errors .now) (s .pre .0 .errors-length);
     }
 
-cast-t18 : tie.Need-cast-t18
-cast-t18 c =
-    let s = c .before .before .before .before .before .before .before .before .before .before .before .before .before .before .before .before .before .before .before .before .before .before .before .before .before .before .before .before in
+cast-t20 : tie.Need-cast-t20
+cast-t20 c =
+    let s = c .before .before .before .before .before .before .before .before .before .before .before .before .before .before .before .before .before .before .before .before .before .before .before .before .before .before .before .before .before .before in
     let f = rows-fit _ _ (s .pre .0 .store-sound) (eqb (getD (s .args .words .now) 1 0) 1) in
     omega (arith, c .before .before .before .before .before .before .before .before .before .before .before .before .before .draw-rows .ensures .1)
 
@@ -52,7 +55,7 @@ same-length-3 c = search needs
 returns : tie.Need-returns
 returns c =
     let y = c .before .before .before .before .before .before .before .before .before .before .before .before .before .draw-rows in
-    built _ _ (c .before .before .before .before .before .before .before .before .before .before .before .before .before .before .before .before .before .before .before .before .before .before .before .before .before .before .before .before .pre .0 .store-sound) _ _ _ _ _ _ (y .ensures .0) (y .ensures .1) (c .before .before .before .before .before .draw-errors .ensures)
+    built _ _ (c .before .before .before .before .before .before .before .before .before .before .before .before .before .before .before .before .before .before .before .before .before .before .before .before .before .before .before .before .before .before .pre .0 .store-sound) _ _ _ _ _ _ (y .ensures .0) (y .ensures .1) (c .before .before .before .before .before .draw-errors .ensures)
 
 pub draw-indexed-spec : {M : Type 1} → statement M
 draw-indexed-spec =
@@ -61,7 +64,7 @@ draw-indexed-spec =
     shared-slice-read-adopt
     draw-rows-requires
     draw-errors-requires
-    cast-t18
+    cast-t20
     same-length
     same-length-2
     same-length-3
