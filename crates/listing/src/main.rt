@@ -1,0 +1,148 @@
+// Lists a folder's collection: files its documents in a store of local arrays, draws the catalogue and prints it.
+mod switches;
+
+use definition::Answer;
+use libc::STDOUT_FILENO;
+use listed::buffers;
+use listed::documents::Document;
+use listed::documents::read_document;
+use listed::put::put_listing;
+use listed::put::put_refusal;
+use switches::Switches;
+use switches::SwitchesFile;
+use switches::read_switches;
+ghost use Prim.Native.Nat.{_+_, _*_, _≤_};
+ghost use lib.ListN.{length};
+
+// No folder has a document of this number: the store holds 64.
+const LAST: usize = 18446744073709551615;
+
+// The store and the slices that a drawing fills.
+const STORE_BYTES: usize = 65536;
+
+const STORE_WORDS: usize = 11761;
+
+const ROWS: usize = 6912;
+
+const ERRORS: usize = 6900;
+
+// What comes after a document's turn.
+enum Next {
+    Document,
+    Drawing,
+    End,
+}
+
+fn main() {
+    let SwitchesFile::Set(switches) = read_switches() else {
+        return;
+    };
+    let mut text = [0u8; STORE_BYTES];
+    let mut words = [0u32; STORE_WORDS];
+    if file_documents(switches, &mut text, &mut words) {
+        draw(&text, &words);
+    }
+}
+
+// Files document after document, and answers whether to draw them: if not, a refusal was printed or it was told what can't be read.
+fn file_documents(switches: Switches, text: &mut [u8], words: &mut [u32]) -> bool {
+    let mut lent = buffers::file_bytes();
+    let mut bytes = buffers::file_bytes();
+    let mut cards = buffers::card_words();
+    let mut n = 0;
+    while n < LAST {
+        match file_document(n, switches, text, words, &mut lent, &mut bytes, &mut cards) {
+            Next::Document => n += 1,
+            Next::Drawing => return true,
+            Next::End => return false,
+        }
+    }
+    true
+}
+
+// A document's turn: it is read and filed, or its refusal is printed.
+fn file_document(
+    n: usize,
+    switches: Switches,
+    text: &mut [u8],
+    words: &mut [u32],
+    lent: &mut [u8],
+    bytes: &mut [u8],
+    cards: &mut [u32],
+) -> Next
+    requires { ⌜ length (now bytes) ≤ 4 * length (now cards) + 1 ⌝ }
+{
+    let document = read_document(b"", n, lent, bytes, cards);
+    match document {
+        Document::Missing => Next::Drawing,
+        Document::Told => Next::End,
+        Document::Uneven => {
+            print_refusal(Answer { number: 1, card: 0 });
+            Next::End
+        }
+        Document::Read {
+            text: size,
+            cards: count,
+        } => {
+            let answer = file(n, switches, text, words, &lent[..size], &cards[..count]);
+            if answer.number == 0 {
+                return Next::Document;
+            }
+            print_refusal(answer);
+            Next::End
+        }
+    }
+}
+
+// Document 0 opens the store, and behind it the switches are turned on.
+fn file(
+    n: usize,
+    switches: Switches,
+    text: &mut [u8],
+    words: &mut [u32],
+    lent: &[u8],
+    cards: &[u32],
+) -> Answer {
+    if n != 0 {
+        return collection::add_ast(text, words, lent, cards);
+    }
+    let opened = collection::open(text, words, lent, cards);
+    if opened.number != 0 {
+        return opened;
+    }
+    turn_on(switches, text, words)
+}
+
+fn turn_on(switches: Switches, text: &[u8], words: &mut [u32]) -> Answer {
+    if switches.adopt {
+        let answer = collection::adopt_orphan_extensions(text, words);
+        if answer.number != 0 {
+            return answer;
+        }
+    }
+    if switches.ignore {
+        return collection::ignore_builtin_redefinitions(text, words);
+    }
+    Answer { number: 0, card: 0 }
+}
+
+fn draw(text: &[u8], words: &[u32]) {
+    let mut rows = [0u32; ROWS];
+    let mut errors = [0u32; ERRORS];
+    let drawing = collection::build(text, words, &mut rows, &mut errors);
+    let mut out = buffers::output();
+    let n = put_listing(drawing, &rows, &errors, &mut out);
+    print(&out[..n]);
+}
+
+fn print_refusal(answer: Answer) {
+    let mut out = [0u8; 64];
+    let n = put_refusal(answer, &mut out);
+    print(&out[..n]);
+}
+
+fn print(bytes: &[u8]) {
+    if !io::write_all(STDOUT_FILENO, bytes) {
+        os::fail(b"the listing can't be written");
+    }
+}

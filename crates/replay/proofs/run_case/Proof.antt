@@ -1,0 +1,124 @@
+use native.Mathlib.Omega.{arith}
+use Rattle.listed.proofs.Input.{within}
+use Rattle.replay.proofs.run_case.Statement.{statement}
+use Rattle.replay.proofs.run_case.Tie as tie
+use borrow.Author.Needs.{needs}
+use Rattle.replay.proofs.run_case.Reads as reads
+use Rattle.replay.proofs.run_case.Lts as lts
+use Rattle.listed.proofs.files.is_missing.Reads as is-missing-reads
+use Rattle.listed.proofs.files.read_file.Reads as read-file-reads
+use Rattle.listed.proofs.put.put_byte.Reads as put-byte-reads
+use Rattle.listed.proofs.put.put_bytes.Reads as put-bytes-reads
+use Rattle.replay.proofs.buffers.file_bytes.Reads as file-bytes-reads
+use Rattle.replay.proofs.compare.first_bytes.Reads as first-bytes-reads
+use Rattle.replay.proofs.lines.run_lines.Reads as run-lines-reads
+use Rattle.replay.proofs.report.print_unread.Reads as print-unread-reads
+use Rattle.replay.proofs.report.put_count.Reads as put-count-reads
+
+slice-aggregate-put-count : tie.Need-slice-aggregate-put-count
+slice-aggregate-put-count c = search needs
+
+put-count-requires : tie.Need-put-count-requires
+put-count-requires c κs = search needs
+
+slice-aggregate-put-byte : tie.Need-slice-aggregate-put-byte
+slice-aggregate-put-byte c = search needs
+
+put-byte-requires : tie.Need-put-byte-requires
+put-byte-requires c κs = search needs
+
+slice-aggregate-put-bytes : tie.Need-slice-aggregate-put-bytes
+slice-aggregate-put-bytes c = search needs
+
+slice-aggregate-put-bytes-2 : tie.Need-slice-aggregate-put-bytes-2
+slice-aggregate-put-bytes-2 c = search needs
+
+put-bytes-requires : tie.Need-put-bytes-requires
+put-bytes-requires c κs = search needs
+
+slice-aggregate-first-bytes : tie.Need-slice-aggregate-first-bytes
+slice-aggregate-first-bytes c = search needs
+
+first-bytes-requires : tie.Need-first-bytes-requires
+first-bytes-requires c κs = search needs
+
+is-missing-requires : tie.Need-is-missing-requires
+is-missing-requires c κs = search needs
+
+returns : tie.Need-returns
+returns c = search needs
+
+file-bytes-requires : tie.Need-file-bytes-requires
+file-bytes-requires c κs = search needs
+
+slice-aggregate-read-file : tie.Need-slice-aggregate-read-file
+slice-aggregate-read-file c = search needs
+
+slice-aggregate-read-file-2 : tie.Need-slice-aggregate-read-file-2
+slice-aggregate-read-file-2 c = search needs
+
+read-file-requires : tie.Need-read-file-requires
+read-file-requires c κs = search needs
+
+enum-known-size : tie.Need-enum-known-size
+enum-known-size c = search needs
+
+enum-told : tie.Need-enum-told
+enum-told c = search needs
+
+print-unread-requires : tie.Need-print-unread-requires
+print-unread-requires c κs = search needs
+
+returns-2 : tie.Need-returns-2
+returns-2 c = search needs
+
+first-bytes-requires-2 : tie.Need-first-bytes-requires-2
+first-bytes-requires-2 c κs = search needs
+
+slice-aggregate-first-bytes-2 : tie.Need-slice-aggregate-first-bytes-2
+slice-aggregate-first-bytes-2 c = search needs
+
+first-bytes-requires-3 : tie.Need-first-bytes-requires-3
+first-bytes-requires-3 c κs = search needs
+
+run-lines-requires : tie.Need-run-lines-requires
+run-lines-requires c κs =
+    let f = c .first-bytes3 .ensures .1 in
+    let g = c .before .before .first-bytes2 .ensures .1 in
+    let w = within (c .before .before .before .before .size .given .1) (c .before .before .before .before .before .before .before .read-file .ensures) in
+    let e = c .before .before .before .before .before .before .before .before .before .before .file-bytes .ensures in
+    let p = c .before .before .before .before .before .before .before .before .before .before .before .before .before .before .before .before .before .before .before .before .put-byte .ensures .place in
+    let q = c .before .before .before .before .before .before .before .before .before .before .before .before .before .before .before .before .before .before .before .before .before .before .before .put-count .ensures in
+    search needs
+
+returns-3 : tie.Need-returns-3
+returns-3 c = search needs
+
+pub run-case-spec : {M : Type 1} → statement M
+run-case-spec =
+    tie.close
+    (tie.spec
+    slice-aggregate-put-count
+    put-count-requires
+    slice-aggregate-put-byte
+    put-byte-requires
+    slice-aggregate-put-bytes
+    slice-aggregate-put-bytes-2
+    put-bytes-requires
+    slice-aggregate-first-bytes
+    first-bytes-requires
+    is-missing-requires
+    returns
+    file-bytes-requires
+    slice-aggregate-read-file
+    slice-aggregate-read-file-2
+    read-file-requires
+    enum-known-size
+    enum-told
+    print-unread-requires
+    returns-2
+    first-bytes-requires-2
+    slice-aggregate-first-bytes-2
+    first-bytes-requires-3
+    run-lines-requires
+    returns-3)

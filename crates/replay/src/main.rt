@@ -1,0 +1,73 @@
+// Runs cases of calls: each folder 0, 1, 2 .. holds a file `calls` with one call a line and what must come of it. Every call goes through the public entries,
+// over a store, rows and errors of local arrays. A failing call is printed, and at the end how many cases, calls and failures there were.
+mod buffers;
+mod change;
+mod compare;
+mod draw;
+mod filing;
+mod lines;
+mod lookups;
+mod report;
+mod step;
+
+use listed::files::File;
+use listed::files::is_missing;
+use listed::files::read_file;
+use listed::put::put_byte;
+use listed::put::put_bytes;
+use report::Tally;
+use report::put_count;
+ghost use Rattle.replay.specs.Counted.{FewRan};
+
+// No folder is reached whose number is this.
+const LAST: usize = 1099511627776;
+
+// What a folder held.
+enum Case {
+    Ran(Tally),
+    // It has no file `calls`: there are no more cases.
+    Missing,
+}
+
+fn main() {
+    let mut total = Tally {
+        calls: 0,
+        failures: 0,
+    };
+    let mut cases = 0;
+    while cases < LAST {
+        let Case::Ran(tally) = run_case(cases) else {
+            break;
+        };
+        total = Tally {
+            calls: total.calls + tally.calls,
+            failures: total.failures + tally.failures,
+        };
+        cases += 1;
+    }
+    report::print_total(cases, total);
+}
+
+// Runs the case of a number, in the folder of that name.
+fn run_case(case: usize) -> Case
+    ensures { λ r. ⌜ FewRan r ⌝ }
+{
+    let mut name = [0u8; 32];
+    let at = put_count(case, &mut name, 0);
+    let at = put_byte(b'/', &mut name, at);
+    let end = put_bytes(b"calls", &mut name, at);
+    let path = compare::first_bytes(&name, end);
+    if is_missing(path) {
+        return Case::Missing;
+    }
+    let mut calls = buffers::file_bytes();
+    let File::Whole(size) = read_file(path, b" is larger than 262144 bytes", &mut calls) else {
+        report::print_unread(case);
+        return Case::Ran(Tally {
+            calls: 0,
+            failures: 1,
+        });
+    };
+    let folder = compare::first_bytes(path, at);
+    Case::Ran(lines::run_lines(case, folder, compare::first_bytes(&calls, size)))
+}
