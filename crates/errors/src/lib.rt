@@ -1,9 +1,9 @@
 // from_ast.rs: the errors of a drawing, in the order in which the Rust pushes them. The finished rows tell which card stands for a name.
 use crate::drawing::drawing_errors;
-use crate::placing::place_rows;
-use crate::reading::reading_errors;
+use clashes::placing::place_rows;
 use definition::Tallies;
 use index::Counts;
+use reading_errors::reading::reading_errors;
 ghost use mathlib.Core.List.{[], _++_};
 ghost use lib.ListN.{getD};
 ghost use Rattle.stored.specs.Stored.{storedHeadings};
@@ -14,13 +14,6 @@ ghost use Rattle.errors_laws.specs.Views.{viewOf, Searching, Held, HeldHeadings
 ghost use Rattle.errors.specs.Drawn.{ErrorsPushed, ErrorsAsked, ErrorsDrawn};
 
 mod drawing;
-mod merging;
-mod placing;
-mod pushing;
-mod reading;
-
-// The word that stands for no card.
-const ABSENT: u32 = 4294967295;
 
 // How many errors arose while reading documents and while drawing, and the tallies of all.
 pub struct ErrorCounts {

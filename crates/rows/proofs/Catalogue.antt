@@ -15,13 +15,13 @@ use Rattle.definition.specs.Store.{cardsUsed}
 use Rattle.stored.specs.Stored.{storedHeadings}
 use Rattle.stored.proofs.Words.{headings-at}
 use Rattle.index.specs.Index.{Indexed, headingNumber}
-use Rattle.rows.specs.Pushed.{Filled, filled, pushed}
-use Rattle.rows.specs.Drawn.{typeRowsAt, directiveRowsAt, schemaRowsAt}
+use Rattle.component.specs.Pushed.{Filled, filled, pushed}
+use Rattle.component.specs.Drawn.{typeRowsAt, directiveRowsAt, schemaRowsAt}
 use Rattle.rows.specs.Arrays.{Arrays}
-use Rattle.rows.proofs.Pushing.{Rest, rest-begin}
-use Rattle.rows.proofs.Blocks.{types-rows, orphans-rows}
-use Rattle.rows.proofs.Directives.{directives-rows}
-use Rattle.rows.proofs.SchemaLists.{schema-rows}
+use Rattle.component.proofs.Pushing.{Rest, rest-begin}
+use Rattle.component.proofs.Blocks.{types-rows, orphans-rows}
+use Rattle.component.proofs.Directives.{directives-rows}
+use Rattle.component.proofs.SchemaLists.{schema-rows}
 
 -- ---- The arrays of the index serve.
 

@@ -1,11 +1,2 @@
-pub mod Pushing
-pub mod Sticky
-pub mod Listed
-pub mod Blocks
-pub mod Directives
-pub mod Turns
-pub mod Matching
 pub mod Parts
-pub mod SchemaLists
-pub mod SchemaTurns
 pub mod Catalogue

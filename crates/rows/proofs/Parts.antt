@@ -12,10 +12,10 @@ use Rattle.definition.specs.Catalogue.{Row, underType}
 use Rattle.definition.specs.Store.{cardsUsed}
 use Rattle.index.specs.Index.{sameCards, Indexed, Spanned, part, ownExtensions}
 use Rattle.index.proofs.Spans.{kept-spanned}
-use Rattle.rows.specs.Pushed.{Filled, pushed}
-use Rattle.rows.specs.Drawn.{Stored, extensionKind, isMatching, matching, listAt, typeRowAt, typeRowsAt}
+use Rattle.component.specs.Pushed.{Filled, pushed}
+use Rattle.component.specs.Drawn.{Stored, extensionKind, isMatching, matching, listAt, typeRowAt, typeRowsAt}
 use Rattle.rows.specs.Arrays.{Parted}
-use Rattle.rows.proofs.Matching.{matching-unlike}
+use Rattle.component.proofs.Matching.{matching-unlike}
 
 -- ---- What is in a part is in the list.
 

@@ -8,7 +8,7 @@ use Rattle.definition.specs.Headings.{types, orphans, sameNamed, isTypeExtensio
 use Rattle.definition.specs.Store.{cardsUsed}
 use Rattle.stored.specs.Stored.{storedHeadings}
 use Rattle.index.specs.Index.{Printed, headingNumber, ownExtensions}
-use Rattle.rows.specs.Drawn.{Stored, typeRowsAt}
+use Rattle.component.specs.Drawn.{Stored, typeRowsAt}
 
 pub record Arrays (text words headings prints typeCards orphanCards extensionCards : List ℕ) (m t o e : ℕ) : Type 0 where
   pub printed : Printed text words prints

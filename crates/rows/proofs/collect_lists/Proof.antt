@@ -3,9 +3,9 @@ use mathlib.Core.List.{[], _∷_}
 use native.Mathlib.Omega.{arith}
 use Rattle.definition.specs.Lists.{flatMap}
 use Rattle.definition.specs.Catalogue.{underType}
-use Rattle.rows.specs.Pushed.{filled, pushed}
-use Rattle.rows.specs.Drawn.{listAt}
-use Rattle.rows.proofs.Pushing.{Left, left-begin, left-room, left-next, left-end}
+use Rattle.component.specs.Pushed.{filled, pushed}
+use Rattle.component.specs.Drawn.{listAt}
+use Rattle.component.proofs.Pushing.{Left, left-begin, left-room, left-next, left-end}
 use Rattle.rows.proofs.collect_lists.Statement.{statement}
 use Rattle.rows.proofs.collect_lists.Tie as tie
 use Rattle.rows.proofs.collect_lists.Reads as reads

@@ -1,16 +1,16 @@
 use mathlib.Core.Path.{ap, _∙_}
 use native.Mathlib.Omega.{arith}
 use lib.ListN.{length}
-use Rattle.rows.specs.Pushed.{Filled, filled}
-use Rattle.rows.specs.Drawn.{sameStored}
-use Rattle.rows.proofs.Sticky.{walk-room, walk-next, walk-start}
-use Rattle.rows.proofs.Turns.{list-defined, list-fresh, list-orphan}
+use Rattle.component.specs.Pushed.{Filled, filled}
+use Rattle.component.specs.Drawn.{sameStored}
+use Rattle.component.proofs.Sticky.{walk-room, walk-next, walk-start}
+use Rattle.component.proofs.Turns.{list-defined, list-fresh, list-orphan}
 use Rattle.rows.proofs.collect_sticky.Statement.{statement}
 use Rattle.rows.proofs.collect_sticky.Tie as tie
 use borrow.Author.Needs.{needs}
 use Rattle.rows.proofs.collect_sticky.Reads as reads
 use Rattle.rows.proofs.collect_sticky.Lts as lts
-use Rattle.rows.proofs.extend_ast.Reads as extend-ast-reads
+use Rattle.component.proofs.extend_ast.Reads as extend-ast-reads
 use Rattle.rows.proofs.type_extensions.Reads as type-extensions-reads
 use Rattle.stored.proofs.card_kind.Reads as card-kind-reads
 

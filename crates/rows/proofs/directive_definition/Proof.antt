@@ -3,15 +3,15 @@ use mathlib.Core.List.{List}
 use native.Mathlib.Omega.{arith}
 use lib.ListN.{take}
 use Rattle.definition.specs.Catalogue.{Row}
-use Rattle.rows.specs.Pushed.{filled, extended}
-use Rattle.rows.specs.Drawn.{sameStored}
-use Rattle.rows.proofs.Turns.{no-directive, directive-row, extended-nothing}
+use Rattle.component.specs.Pushed.{filled, extended}
+use Rattle.component.specs.Drawn.{sameStored}
+use Rattle.component.proofs.Turns.{no-directive, directive-row, extended-nothing}
 use Rattle.rows.proofs.directive_definition.Statement.{statement}
 use Rattle.rows.proofs.directive_definition.Tie as tie
 use borrow.Author.Needs.{needs}
 use Rattle.rows.proofs.directive_definition.Reads as reads
 use Rattle.rows.proofs.directive_definition.Lts as lts
-use Rattle.rows.proofs.extend_sticky.Reads as extend-sticky-reads
+use Rattle.component.proofs.extend_sticky.Reads as extend-sticky-reads
 use Rattle.rows.proofs.standing_directive.Reads as standing-directive-reads
 use Rattle.stored.proofs.card_kind.Reads as card-kind-reads
 

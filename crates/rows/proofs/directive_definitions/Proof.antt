@@ -2,10 +2,10 @@ use mathlib.Core.Path.{_≡_, refl, _∙_}
 use Prim.Native.Nat.{_-_}
 use native.Mathlib.Omega.{arith}
 use lib.ListN.{length, take, drop}
-use Rattle.rows.specs.Pushed.{filled, pushed}
-use Rattle.rows.specs.Drawn.{sameStored, directiveRowsOf, directiveRowsAt}
-use Rattle.rows.proofs.Sticky.{Extending, extending, extending-room, extending-next, extending-end}
-use Rattle.rows.proofs.Turns.{taken-next, taken-end, directives-fresh}
+use Rattle.component.specs.Pushed.{filled, pushed}
+use Rattle.component.specs.Drawn.{sameStored, directiveRowsOf, directiveRowsAt}
+use Rattle.component.proofs.Sticky.{Extending, extending, extending-room, extending-next, extending-end}
+use Rattle.component.proofs.Turns.{taken-next, taken-end, directives-fresh}
 use Rattle.rows.proofs.directive_definitions.Statement.{statement}
 use Rattle.rows.proofs.directive_definitions.Tie as tie
 use borrow.Author.Needs.{needs}

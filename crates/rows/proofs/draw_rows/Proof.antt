@@ -1,7 +1,7 @@
 use mathlib.Core.Path.{refl}
 use mathlib.Core.List.{[]}
 use native.Mathlib.Omega.{arith}
-use Rattle.rows.proofs.Pushing.{rest-room, rest-next, rest-end}
+use Rattle.component.proofs.Pushing.{rest-room, rest-next, rest-end}
 use Rattle.rows.proofs.Catalogue.{drawn-rest, pushed-first, choose-left, choose-right}
 use Rattle.rows.proofs.draw_rows.Statement.{statement}
 use Rattle.rows.proofs.draw_rows.Tie as tie
@@ -9,7 +9,7 @@ use borrow.Author.Needs.{needs}
 use Rattle.rows.proofs.draw_rows.Reads as reads
 use Rattle.rows.proofs.draw_rows.Lts as lts
 use Rattle.rows.proofs.directive_definitions.Reads as directive-definitions-reads
-use Rattle.rows.proofs.push_schema.Reads as push-schema-reads
+use Rattle.root_operations.proofs.push_schema.Reads as push-schema-reads
 use Rattle.rows.proofs.push_defined_types.Reads as push-defined-types-reads
 use Rattle.rows.proofs.push_types.Reads as push-types-reads
 

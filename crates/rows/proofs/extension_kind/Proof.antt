@@ -1,7 +1,7 @@
 use mathlib.Core.Path.{sym, ap, _∙_}
 use Prim.Native.Nat.{ℕ, _+_}
 use native.Mathlib.Omega.{arith}
-use Rattle.rows.proofs.Matching.{extension-adopted, extension-defined}
+use Rattle.component.proofs.Matching.{extension-adopted, extension-defined}
 use Rattle.rows.proofs.extension_kind.Statement.{statement}
 use Rattle.rows.proofs.extension_kind.Tie as tie
 use borrow.Author.Needs.{needs}

@@ -6,8 +6,8 @@ use borrow.Author.Tests.{not-true, not-false}
 use lib.ListN.{length, take, drop, getD, length-set}
 use Rattle.definition.specs.Lists.{keep}
 use Rattle.index.proofs.Search.{cards-differ}
-use Rattle.rows.specs.Drawn.{isMatching, matching}
-use Rattle.rows.proofs.Matching.{matching-other, matching-unlike, matching-is, kept-miss, kept-hit, kept-end}
+use Rattle.component.specs.Drawn.{isMatching, matching}
+use Rattle.component.proofs.Matching.{matching-other, matching-unlike, matching-is, kept-miss, kept-hit, kept-end}
 use Rattle.rows.proofs.matching_extensions.Statement.{statement}
 use Rattle.rows.proofs.matching_extensions.Tie as tie
 use borrow.Author.Needs.{needs}

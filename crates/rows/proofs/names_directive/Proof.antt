@@ -1,5 +1,5 @@
 use mathlib.Core.Path.{sym, _∙_}
-use Rattle.rows.proofs.Turns.{directive-other, directive-is}
+use Rattle.component.proofs.Turns.{directive-other, directive-is}
 use Rattle.rows.proofs.names_directive.Statement.{statement}
 use Rattle.rows.proofs.names_directive.Tie as tie
 use borrow.Author.Needs.{needs}

@@ -5,10 +5,10 @@ use Prim.Native.Nat.{ℕ, _+_, _*_, _-_, _≤_, _<_}
 use native.Mathlib.Omega.{arith}
 use lib.ListN.{length, take, drop, getD}
 use Rattle.definition.specs.Lists.{flatMap}
-use Rattle.rows.specs.Pushed.{Filled, filled, pushed}
-use Rattle.rows.specs.Drawn.{typeRowsAt}
-use Rattle.rows.proofs.Pushing.{Left, left-begin, left-room, left-next, left-end}
-use Rattle.rows.proofs.Turns.{taken-next, taken-end}
+use Rattle.component.specs.Pushed.{Filled, filled, pushed}
+use Rattle.component.specs.Drawn.{typeRowsAt}
+use Rattle.component.proofs.Pushing.{Left, left-begin, left-room, left-next, left-end}
+use Rattle.component.proofs.Turns.{taken-next, taken-end}
 use Rattle.rows.proofs.Parts.{own-room, own-pushed, own-most, own-stored}
 use Rattle.rows.proofs.push_defined_types.Statement.{statement}
 use Rattle.rows.proofs.push_defined_types.Tie as tie

@@ -1,9 +1,9 @@
 use mathlib.Core.Path.{refl, _∙_}
 use lib.ListN.{length}
-use Rattle.rows.specs.Pushed.{filled}
-use Rattle.rows.proofs.Pushing.{push-room, push-next, rest-begin, rest-next, rest-fits}
-use Rattle.rows.proofs.Turns.{one-room}
-use Rattle.rows.proofs.Matching.{matching-stored, type-cut}
+use Rattle.component.specs.Pushed.{filled}
+use Rattle.component.proofs.Pushing.{push-room, push-next, rest-begin, rest-next, rest-fits}
+use Rattle.component.proofs.Turns.{one-room}
+use Rattle.component.proofs.Matching.{matching-stored, type-cut}
 use Rattle.rows.proofs.push_type.Statement.{statement}
 use Rattle.rows.proofs.push_type.Tie as tie
 use borrow.Author.Needs.{needs}

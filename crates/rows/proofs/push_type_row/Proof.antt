@@ -1,12 +1,12 @@
 use mathlib.Core.Path.{_∙_}
-use Rattle.rows.specs.Pushed.{filled}
-use Rattle.rows.proofs.Turns.{row-adopted, row-defined}
+use Rattle.component.specs.Pushed.{filled}
+use Rattle.component.proofs.Turns.{row-adopted, row-defined}
 use Rattle.rows.proofs.push_type_row.Statement.{statement}
 use Rattle.rows.proofs.push_type_row.Tie as tie
 use borrow.Author.Needs.{needs}
 use Rattle.rows.proofs.push_type_row.Reads as reads
 use Rattle.rows.proofs.push_type_row.Lts as lts
-use Rattle.rows.proofs.push_row.Reads as push-row-reads
+use Rattle.component.proofs.push_row.Reads as push-row-reads
 use Rattle.stored.proofs.card_kind.Reads as card-kind-reads
 
 card-kind-requires : tie.Need-card-kind-requires

@@ -3,10 +3,10 @@ use Prim.Native.Nat.{_-_}
 use native.Mathlib.Omega.{arith}
 use lib.ListN.{length, take, drop}
 use Rattle.definition.specs.Lists.{flatMap}
-use Rattle.rows.specs.Pushed.{filled, pushed}
-use Rattle.rows.specs.Drawn.{typeRowsAt}
-use Rattle.rows.proofs.Pushing.{Left, left-begin, left-room, left-next, left-end}
-use Rattle.rows.proofs.Turns.{taken-next, taken-end}
+use Rattle.component.specs.Pushed.{filled, pushed}
+use Rattle.component.specs.Drawn.{typeRowsAt}
+use Rattle.component.proofs.Pushing.{Left, left-begin, left-room, left-next, left-end}
+use Rattle.component.proofs.Turns.{taken-next, taken-end}
 use Rattle.rows.proofs.push_types.Statement.{statement}
 use Rattle.rows.proofs.push_types.Tie as tie
 use borrow.Author.Needs.{needs}

@@ -6,8 +6,8 @@ use lib.ListN.{take, drop}
 use Rattle.definition.specs.Lists.{keep}
 use Rattle.definition.specs.Answers.{absent}
 use Rattle.stored.specs.Stored.{builtInAt}
-use Rattle.rows.specs.Drawn.{standingCard, namesDirective, standingAt}
-use Rattle.rows.proofs.Turns.{standing-other, standing-found, standing-next, standing-end}
+use Rattle.component.specs.Drawn.{standingCard, namesDirective, standingAt}
+use Rattle.component.proofs.Turns.{standing-other, standing-found, standing-next, standing-end}
 use Rattle.rows.proofs.standing_directive.Statement.{statement}
 use Rattle.rows.proofs.standing_directive.Tie as tie
 use borrow.Author.Needs.{needs}

@@ -2,16 +2,16 @@ use mathlib.Core.Path.{_≡_, refl, _∙_}
 use Prim.Native.Nat.{_-_, _≤_}
 use native.Mathlib.Omega.{arith}
 use lib.ListN.{length, drop}
-use Rattle.rows.specs.Pushed.{filled, extended}
-use Rattle.rows.specs.Drawn.{sameStored, extensionRows}
-use Rattle.rows.proofs.Sticky.{walk-room, walk-next, walk-start, walk-end}
-use Rattle.rows.proofs.Turns.{extensions-next, extensions-end}
+use Rattle.component.specs.Pushed.{filled, extended}
+use Rattle.component.specs.Drawn.{sameStored, extensionRows}
+use Rattle.component.proofs.Sticky.{walk-room, walk-next, walk-start, walk-end}
+use Rattle.component.proofs.Turns.{extensions-next, extensions-end}
 use Rattle.rows.proofs.type_extensions.Statement.{statement}
 use Rattle.rows.proofs.type_extensions.Tie as tie
 use borrow.Author.Needs.{needs}
 use Rattle.rows.proofs.type_extensions.Reads as reads
 use Rattle.rows.proofs.type_extensions.Lts as lts
-use Rattle.rows.proofs.extend_ast.Reads as extend-ast-reads
+use Rattle.component.proofs.extend_ast.Reads as extend-ast-reads
 
 abbrev Inv-loop : tie.InvT-loop
 Inv-loop text words prints mine kind rows₀ start used t₀ i₀ rows t i =

@@ -1,0 +1,98 @@
+use Prim.Native.Nat.{_-_}
+use mathlib.Core.Path.{_≡_, refl, sym, _∙_}
+use mathlib.Core.Logic.{⊎-elim}
+use Rattle.definition.specs.Lists.{any}
+use Rattle.definition.specs.Catalogue.{row}
+use Rattle.component.specs.Pushed.{alikeRows, usedFrom, rowsFrom}
+use Rattle.component.specs.Drawn.{sameStored}
+use Rattle.component.proofs.Turns.{listed-use, listed-root, listed-hit, listed-miss, listed-other, listed-end}
+use Rattle.component.proofs.is_listed.Statement.{statement}
+use Rattle.component.proofs.is_listed.Tie as tie
+use borrow.Author.Needs.{needs}
+use Rattle.component.proofs.is_listed.Reads as reads
+use Rattle.component.proofs.is_listed.Lts as lts
+use Rattle.component.proofs.same_stored.Reads as same-stored-reads
+
+abbrev Inv-loop : tie.InvT-loop
+Inv-loop text words prints rows start used kind card i₀ i = any (alikeRows (sameStored text words) (row kind card 0)) (rowsFrom rows start (used - start)) ≡ any (alikeRows (sameStored text words) (row kind card 0)) (rowsFrom rows i (used - i))
+
+abbrev μ-loop : tie.MeasureT-loop
+μ-loop text words prints rows start used kind card i₀ i = used - i
+
+returns : tie.Need-returns Inv-loop μ-loop
+returns c = sym (listed-use _ _ _ _ (c .if1 .taken))
+
+loop-holds : tie.Need-loop-holds Inv-loop μ-loop
+loop-holds c = refl
+
+mul-if2 : tie.Need-mul-if2 Inv-loop μ-loop
+mul-if2 c = search needs
+
+mul-if2-2 : tie.Need-mul-if2-2 Inv-loop μ-loop
+mul-if2-2 c = search needs
+
+shared-slice-read-if2 : tie.Need-shared-slice-read-if2 Inv-loop μ-loop
+shared-slice-read-if2 c = search needs
+
+returns-2 : tie.Need-returns-2 Inv-loop μ-loop
+unfolding usedFrom
+returns-2 c = sym (c .before .before .before .before .loop .inv ∙ listed-root _ _ _ _ _ _ (c .before .before .before .loop-test .taken) (c .before .if2 .taken) (c .if3 .taken) (c .before .before .before .before .before .before .before .before .before .before .pre .2))
+
+mul-same-stored : tie.Need-mul-same-stored Inv-loop μ-loop
+mul-same-stored c = search needs
+
+add-same-stored : tie.Need-add-same-stored Inv-loop μ-loop
+add-same-stored c = search needs
+
+mul-same-stored-2 : tie.Need-mul-same-stored-2 Inv-loop μ-loop
+mul-same-stored-2 c = search needs
+
+shared-slice-read-same-stored : tie.Need-shared-slice-read-same-stored Inv-loop μ-loop
+shared-slice-read-same-stored c = search needs
+
+same-stored-requires : tie.Need-same-stored-requires Inv-loop μ-loop
+same-stored-requires c κs = search needs
+
+returns-3 : tie.Need-returns-3 Inv-loop μ-loop
+unfolding usedFrom
+returns-3 c = sym (c .before .before .before .before .before .before .before .loop .inv ∙ listed-hit _ _ _ _ _ _ (c .before .before .before .before .before .before .loop-test .taken) (c .before .before .before .before .if2 .taken) (c .before .before .before .if3 .left) (c .before .before .before .before .before .before .before .before .if1 .left) (sym (c .before .same-stored .ensures) ∙ c .if4 .taken))
+
+add-i : tie.Need-add-i Inv-loop μ-loop
+add-i c = search needs
+
+loop-less : tie.Need-loop-less Inv-loop μ-loop
+loop-less c = search needs
+
+loop-again : tie.Need-loop-again Inv-loop μ-loop
+loop-again c =
+    c .before .before .before .loop .inv ∙ ⊎-elim
+    (λ w. listed-miss _ _ _ _ _ _ (c .before .before .loop-test .taken) (w .0 .taken) (w .1 .left) (c .before .before .before .before .if1 .left) (sym (w .3 .ensures) ∙ w .4 .left))
+    (λ w. listed-other _ _ _ _ _ _ (c .before .before .loop-test .taken) (w .left))
+    (c .if2 .came)
+
+returns-4 : tie.Need-returns-4 Inv-loop μ-loop
+unfolding usedFrom
+returns-4 c = sym (c .before .loop .inv ∙ listed-end _ _ _ _ _ _ (c .loop-test .left))
+
+pub is-listed-spec : {M : Type 1} → statement M
+is-listed-spec =
+    tie.close
+    (tie.spec
+    Inv-loop
+    μ-loop
+    returns
+    loop-holds
+    mul-if2
+    mul-if2-2
+    shared-slice-read-if2
+    returns-2
+    mul-same-stored
+    add-same-stored
+    mul-same-stored-2
+    shared-slice-read-same-stored
+    same-stored-requires
+    returns-3
+    add-i
+    loop-less
+    loop-again
+    returns-4)
