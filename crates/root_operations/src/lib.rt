@@ -1,6 +1,6 @@
 // The rows of the schema definition: its directive uses and its root operations, set or default, of schema/from_ast.rs.
 ghost use mathlib.Core.Path.{_≡_};
-ghost use Prim.Native.Nat.{_+_, _*_, _≤_, _<_};
+ghost use Prim.Native.Nat.{_*_, _≤_, _<_};
 ghost use lib.ListN.{length, take};
 ghost use Rattle.definition.specs.Lists.{any, flatMap};
 ghost use Rattle.definition.specs.Answers.{absent};
