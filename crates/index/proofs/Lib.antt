@@ -1,6 +1,7 @@
 pub mod Lists
 pub mod Prints
 pub mod Search
+pub mod Hints
 pub mod Turns
 pub mod Heads
 pub mod Owners

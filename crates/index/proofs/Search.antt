@@ -5,10 +5,9 @@ use mathlib.Core.Bool.{true, false}
 use mathlib.Core.Option.{Option, none, some}
 use Prim.Native.Nat.{ℕ, zero, suc, _+_, _-_, _≤_, _<_}
 use native.Mathlib.Numerals.{add-one}
-use native.Mathlib.Nat.{sub-zero}
 use native.Mathlib.Omega.{arith}
 use lib.ListN.{length, take, drop, getD, getElem?, set, length-map, drop-of-length-le}
-use lib.Seq.{drop-cons, getD-take, take-suc, take-suc-set, take-all}
+use lib.Seq.{drop-cons, drop-at, getD-take, length-take-le, take-add, take-suc, take-suc-set, take-all}
 use Rattle.definition.specs.Lists.{firstWhere, All}
 use Rattle.definition.specs.Headings.{Part}
 use Rattle.definition.specs.Refusals.{cardRoom}
@@ -52,6 +51,11 @@ getD-print text words [] i h = absurd (omega arith)
 getD-print text words (x ∷ xs) zero h = refl
 getD-print text words (x ∷ xs) (suc i) h = getD-print text words xs i (omega arith)
 
+drop-print : (text words : List ℕ) (n : ℕ) (cards : List ℕ) → drop n (map (cardPrint text words) cards) ≡ map (cardPrint text words) (drop n cards)
+drop-print text words zero cards = refl
+drop-print text words (suc n) [] = refl
+drop-print text words (suc n) (x ∷ xs) = drop-print text words n xs
+
 module _ (text words cards prints : List ℕ) (card print : ℕ) (s : Searched text words cards prints card print) where
   pub search-length : length prints ≡ length cards
   search-length = ap length (s .prints-are) ∙ length-map cards (cardPrint text words)
@@ -61,6 +65,21 @@ module _ (text words cards prints : List ℕ) (card print : ℕ) (s : Searched t
   search-differ i h d =
       prints-differ _ _
       (λ e. d (ap (λ (l : List ℕ). getD l i 0) (s .prints-are) ∙ getD-print text words cards i h ∙ sym e ∙ sym (s .print-is)))
+
+  -- A search that begins later finds the same where none before has the fingerprint.
+  pub search-from : (from : ℕ) → from ≤ length cards → ((j : ℕ) → j < from → getD prints j 0 ≡ print → ⊥) →
+      entryOf (firstWhere (sameCards text words card) cards) ≡ entryOf (firstWhere (sameCards text words card) (drop from cards))
+  search-from zero h d = refl
+  search-from (suc n) h d =
+      search-from n (omega arith) (λ j l. d j (omega arith))
+      ∙ search-miss text words cards card n h (search-differ n h (d n (omega arith)))
+      ∙ ap (λ (k : ℕ). entryOf (firstWhere (sameCards text words card) (drop k cards))) (add-one n)
+
+  pub searched-from : (from : ℕ) → Searched text words (drop from cards) (drop from prints) card print
+  searched-from from = record {
+    prints-are = ap (drop from) (s .prints-are) ∙ drop-print text words from cards;
+    print-is = s .print-is;
+  }
 
 -- ---- Fingerprints of all cards.
 
@@ -97,13 +116,37 @@ pub vacant : (o : Option ℕ) → entryOf o ≡ Vacant → o ≡ none
 vacant (some x) e = absurd (let z : _≡_ {A = ℕ} 0 1 = cc in omega arith)
 vacant none e = refl
 
-module _ (text words cards prints : List ℕ) (count card print : ℕ) (s : Entering text words cards prints count card print) where
-  -- The search goes over the part from 0 to `count`.
-  pub entered-old : (f : Entry) (d : ℕ) → f ≡ entryOf (firstWhere (sameCards text words card) (take (count - 0) cards)) → f ≡ Occupied d →
+part-taken : (from count : ℕ) (xs : List ℕ) → from ≤ count → from ≤ length xs → drop from (take count xs) ≡ take (count - from) (drop from xs)
+part-taken from count xs h l =
+    let e : from + (count - from) ≡ count = omega arith in
+    ap (λ (n : ℕ). drop from (take n xs)) (sym e)
+    ∙ ap (drop from) (take-add from (count - from) xs)
+    ∙ drop-at (take from xs) (take (count - from) (drop from xs)) from (length-take-le from xs l)
+
+module _ (text words cards prints : List ℕ) (from count card print : ℕ) (s : Entering text words cards prints from count card print) where
+  cards-part : drop from (take count cards) ≡ take (count - from) (drop from cards)
+  cards-part = part-taken from count cards (s .from-most) (omega (arith, s .from-most, s .cards-room))
+
+  prints-part : drop from (take count prints) ≡ take (count - from) (drop from prints)
+  prints-part = part-taken from count prints (s .from-most) (omega (arith, s .from-most, s .prints-room))
+
+  -- The search goes over the part from `from` to `count`.
+  pub entering-searched : Searched text words (take (count - from) (drop from cards)) (take (count - from) (drop from prints)) card print
+  entering-searched =
+      rw (sym cards-part, sym prints-part)
+      (searched-from text words (take count cards) (take count prints) card print (s .searched) from)
+
+  searched-all : entryOf (firstWhere (sameCards text words card) (take count cards)) ≡ entryOf (firstWhere (sameCards text words card) (take (count - from) (drop from cards)))
+  searched-all =
+      let l : length (take count cards) ≡ count = length-take-le count cards (omega (arith, s .cards-room)) in
+      search-from text words (take count cards) (take count prints) card print (s .searched) from (omega (arith, s .from-most)) (s .passed)
+      ∙ ap (λ (xs : List ℕ). entryOf (firstWhere (sameCards text words card) xs)) cards-part
+
+  pub entered-old : (f : Entry) (d : ℕ) → f ≡ entryOf (firstWhere (sameCards text words card) (take (count - from) (drop from cards))) → f ≡ Occupied d →
       Entered text words card count (record { card = d; count = count }) cards cards prints
   unfolding firstEntered enteredIn
   entered-old f d r e =
-      let q = occupied (firstWhere (sameCards text words card) (take count cards)) d (rw sub-zero at (sym r ∙ e)) in
+      let q = occupied (firstWhere (sameCards text words card) (take count cards)) d (searched-all ∙ sym r ∙ e) in
       record {
         first-is = rw q;
         cards-are = rw q;
@@ -111,12 +154,12 @@ module _ (text words cards prints : List ℕ) (count card print : ℕ) (s : Ente
         count-most = omega arith;
       }
 
-  pub entered-new : (f : Entry) → f ≡ entryOf (firstWhere (sameCards text words card) (take (count - 0) cards)) → f ≡ Vacant →
+  pub entered-new : (f : Entry) → f ≡ entryOf (firstWhere (sameCards text words card) (take (count - from) (drop from cards))) → f ≡ Vacant →
       Entered text words card count (record { card = card; count = count + 1 }) cards (set cards count card)
       (set prints count print)
   unfolding firstEntered enteredIn
   entered-new f r e =
-      let q = vacant (firstWhere (sameCards text words card) (take count cards)) (rw sub-zero at (sym r ∙ e)) in
+      let q = vacant (firstWhere (sameCards text words card) (take count cards)) (searched-all ∙ sym r ∙ e) in
       let taken : take (count + 1) (set cards count card) ≡ take count cards ++ (card ∷ []) = rw add-one (take-suc-set cards count card (s .cards-room)) in
       let printed : take (count + 1) (set prints count print) ≡ take count prints ++ (print ∷ []) = rw add-one (take-suc-set prints count print (s .prints-room)) in
       record {

@@ -1,15 +1,15 @@
 -- What one card does to the arrays, and what a run of cards has done then.
 use mathlib.Core.Path.{_≡_, refl, sym, _∙_, ap}
-use mathlib.Core.List.{List, [], _∷_, _++_, append-nil}
+use mathlib.Core.List.{List, [], _∷_, _++_, map, append-nil}
 use mathlib.Core.Bool.{Bool, true, false}
 use mathlib.Core.Option.{Option, none, some}
 use mathlib.Core.Logic.{_≢_}
-use Prim.Native.Nat.{ℕ, suc, _+_, _≤_, _<_}
+use Prim.Native.Nat.{ℕ, suc, _+_, _-_, _%_, _≤_, _<_}
 use native.Mathlib.Numerals.{add-one}
 use native.Mathlib.Omega.{arith}
 use lib.Dec.{leb, ltb}
-use lib.ListN.{length, take, drop, getD, set}
-use lib.Seq.{take-suc, take-suc-set, split-at, getD-set-same, getD-set-other}
+use lib.ListN.{length, take, drop, getD, set, length-drop}
+use lib.Seq.{length-take-le, take-all, take-suc, take-suc-set, split-at, getD-set-same, getD-set-other}
 use borrow.Author.Tests.{le-leb, lt-leb, eq-eqb, ne-eqb, ltb-true, ltb-false}
 use Rattle.definition.specs.Lists.{choose, found, keep, firstWhere, firsts, orElse}
 use Rattle.definition.specs.Answers.{absent}
@@ -21,9 +21,10 @@ use Rattle.name.proofs.Laws.{same-equal, same-self}
 use Rattle.index.specs.declared.Entry.the-variants.{Occupied, Vacant}
 use Rattle.index.specs.declared.First.{First}
 use Rattle.index.specs.Index.{sameCards}
-use Rattle.index.specs.Turns.{extendsType, isTypeCard, isExtensionCard, isUnowned, entryOf, firstCard, enteredIn, firstEntered, Searched, Entering, Entered, Cards, TypeAsked, TypeTurn, TypesAre, ExtensionAsked, ExtensionTurn, ExtensionsAre, OrphanAsked, OrphanTurn, OrphansAre}
-use Rattle.index.proofs.Lists.{never, keep-yes, keep-append, first-yes, first-append, firsts-again, firsts-more, first-of-firsts}
-use Rattle.index.proofs.Search.{occupied, vacant, print-at}
+use Rattle.index.specs.Turns.{extendsType, isTypeCard, isExtensionCard, isUnowned, entryOf, firstCard, enteredIn, firstEntered, cardPrint, Searched, Hinted, Entering, Entered, Cards, TypeAsked, TypeTurn, TypesAre, ExtensionAsked, ExtensionTurn, ExtensionsAre, OrphanAsked, OrphanTurn, OrphansAre}
+use Rattle.index.proofs.Lists.{never, keep-yes, keep-append, first-yes, first-append, firsts-again, firsts-more, first-of-firsts, map-append}
+use Rattle.index.proofs.Search.{occupied, vacant, print-at, search-length, search-from, searched-from}
+use Rattle.index.proofs.Hints.{hint-passed, hint-kept, hint-more}
 
 -- ---- Kinds.
 
@@ -125,9 +126,14 @@ module _ (text words prints owners types typePrints : List ℕ) (card count : �
       let n : isType (cardKind words card) ≡ false = sym (ap isType k) ∙ sym q ∙ e in
       record { owners-are = rw n; types-are = rw n; prints-are = a .prints-are; count-most = omega arith }
 
-  pub type-asks : Entering text words types typePrints count card (getD prints card 0)
-  type-asks = record {
+  pub type-asks : (firsts : List ℕ) → Hinted (take count typePrints) firsts → (from : ℕ) → from ≤ count →
+      from ≤ getD firsts (getD prints card 0 % length firsts) 0 → Entering text words types typePrints from count card (getD prints card 0)
+  type-asks firsts h from m l = record {
     searched = record { prints-are = a .prints-are; print-is = print-at text words prints (a .printed) card (a .stored) };
+    from-most = m;
+    passed = λ j k.
+        let room : j < length (take count typePrints) = omega (arith, length-take-le count typePrints (omega (arith, a .prints-room))) in
+        hint-passed (take count typePrints) firsts h (getD prints card 0) from l j k room;
     cards-room = a .types-room;
     prints-room = a .prints-room;
   }
@@ -144,6 +150,32 @@ module _ (text words prints owners types typePrints : List ℕ) (card count : �
         prints-are = w .prints-are;
         count-most = w .count-most;
       }
+
+  -- The types' fingerprints then are those before, or one more.
+  pub type-hinted : (firsts : List ℕ) → Hinted (take count typePrints) firsts → (from : ℕ) → from ≤ count →
+      from ≤ getD firsts (getD prints card 0 % length firsts) 0 →
+      (r : First) (types′ typePrints′ : List ℕ) → Entered text words card count r types types′ typePrints′ →
+      Hinted (take (r .count) typePrints′) (set firsts (getD prints card 0 % length firsts) from)
+  unfolding enteredIn
+  type-hinted firsts h from m l r types′ typePrints′ w = go (firstWhere (sameCards text words card) (take count types)) refl
+    where
+      own : getD prints card 0 ≡ cardPrint text words card
+      own = print-at text words prints (a .printed) card (a .stored)
+
+      go : (o : Option ℕ) → firstWhere (sameCards text words card) (take count types) ≡ o →
+          Hinted (take (r .count) typePrints′) (set firsts (getD prints card 0 % length firsts) from)
+      go (some d) e =
+          let same : take (r .count) typePrints′ ≡ take count typePrints = w .prints-are ∙ ap (map (cardPrint text words)) (rw e at (w .cards-are)) ∙ sym (a .prints-are) in
+          rw same (hint-kept (take count typePrints) firsts h (getD prints card 0) from l)
+      go none e =
+          let more : take (r .count) typePrints′ ≡ take count typePrints ++ (getD prints card 0 ∷ []) =
+          w .prints-are
+          ∙ ap (map (cardPrint text words)) (rw e at (w .cards-are))
+          ∙ map-append (cardPrint text words) (take count types) (card ∷ [])
+          ∙ ap (λ (l : List ℕ). l ++ (cardPrint text words card ∷ [])) (sym (a .prints-are))
+          ∙ ap (λ (p : ℕ). take count typePrints ++ (p ∷ [])) (sym own) in
+          let room : from ≤ length (take count typePrints) = omega (arith, length-take-le count typePrints (omega (arith, a .prints-room))) in
+          rw more (hint-more (take count typePrints) firsts h (getD prints card 0) from l room)
 
 pub types-none : (text words heads owners types typePrints : List ℕ) → TypesAre text words heads owners types typePrints 0 0
 unfolding keep firsts
@@ -210,10 +242,32 @@ module _ (text words prints heads : List ℕ) (cs : Cards text words prints head
 
 -- ---- A heading and the extensions.
 
+rest-is : (n : ℕ) (xs : List ℕ) → take (length xs - n) (drop n xs) ≡ drop n xs
+rest-is n xs = take-all (length xs - n) (drop n xs) (omega (arith, length-drop n xs))
+
 module _ (text words prints types typePrints owners extensions : List ℕ) (card count : ℕ)
     (a : ExtensionAsked text words prints types typePrints owners extensions card count) where
-  pub extension-asks : Searched text words types typePrints card (getD prints card 0)
-  extension-asks = record { prints-are = a .prints-are; print-is = print-at text words prints (a .printed) card (a .stored) }
+  extension-searched : Searched text words types typePrints card (getD prints card 0)
+  extension-searched = record { prints-are = a .prints-are; print-is = print-at text words prints (a .printed) card (a .stored) }
+
+  pub extension-asks : (from : ℕ) →
+      Searched text words (take (length types - from) (drop from types)) (take (length typePrints - from) (drop from typePrints)) card (getD prints card 0)
+  extension-asks from =
+      rw (rest-is from types, rest-is from typePrints)
+      (searched-from text words types typePrints card (getD prints card 0) extension-searched from)
+
+  pub same-lengths : length typePrints ≡ length types
+  same-lengths = search-length text words types typePrints card (getD prints card 0) extension-searched
+
+  pub extension-found : (firsts : List ℕ) → Hinted typePrints firsts → (from : ℕ) → from ≤ length typePrints →
+      from ≤ getD firsts (getD prints card 0 % length firsts) 0 →
+      entryOf (firstWhere (sameCards text words card) types) ≡ entryOf (firstWhere (sameCards text words card) (take (length types - from) (drop from types)))
+  extension-found firsts h from m l = rw (rest-is from types) found-from
+    where
+      found-from : entryOf (firstWhere (sameCards text words card) types) ≡ entryOf (firstWhere (sameCards text words card) (drop from types))
+      found-from =
+          search-from text words types typePrints card (getD prints card 0) extension-searched from (omega (arith, same-lengths))
+          (λ j k. hint-passed typePrints firsts h (getD prints card 0) from l j k (omega arith))
 
   module _ (kind : ℕ) (b : Bool) (k : kind ≡ cardKind words card) (q : b ≡ extendsType kind) where
     pub extension-skipped : b ≡ false → ExtensionTurn text words types card count count owners owners extensions extensions
@@ -320,9 +374,11 @@ module _ (text words prints owners orphans orphanPrints : List ℕ) (card count 
     count-most = omega arith;
   }
 
-  pub orphan-asks : Entering text words orphans orphanPrints count card (getD prints card 0)
+  pub orphan-asks : Entering text words orphans orphanPrints 0 count card (getD prints card 0)
   orphan-asks = record {
     searched = record { prints-are = a .prints-are; print-is = print-at text words prints (a .printed) card (a .stored) };
+    from-most = omega arith;
+    passed = λ j k. absurd (omega arith);
     cards-room = a .orphans-room;
     prints-room = a .prints-room;
   }

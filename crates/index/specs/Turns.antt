@@ -3,7 +3,7 @@ use mathlib.Core.Path.{_≡_}
 use mathlib.Core.List.{List, [], _∷_, _++_, map}
 use mathlib.Core.Bool.{Bool, true, false, _&&_}
 use mathlib.Core.Option.{Option, none, some}
-use Prim.Native.Nat.{ℕ, _+_, _≤_, _<_}
+use Prim.Native.Nat.{ℕ, _+_, _%_, _≤_, _<_}
 use lib.Dec.{eqb, leb}
 use lib.ListN.{length, take, getD, set}
 use Rattle.definition.specs.Lists.{choose, found, keep, firstWhere, firsts}
@@ -60,11 +60,18 @@ pub record Searched (text words cards prints : List ℕ) (card print : ℕ) : Ty
   pub prints-are : prints ≡ map (cardPrint text words) cards
   pub print-is : print ≡ cardPrint text words card
 
--- The same of the first `count` ones, with room for one more.
-pub record Entering (text words cards prints : List ℕ) (count card print : ℕ) : Type 0 where
+-- The same of the first `count` ones, with room for one more; none before `from` has the fingerprint.
+pub record Entering (text words cards prints : List ℕ) (from count card print : ℕ) : Type 0 where
   pub searched : Searched text words (take count cards) (take count prints) card print
+  pub from-most : from ≤ count
+  pub passed : (j : ℕ) → j < from → getD (take count prints) j 0 ≡ print → ⊥
   pub cards-room : count < length cards
   pub prints-room : count < length prints
+
+-- Where the search for a fingerprint may begin: at or before the first place that has it.
+pub record Hinted (prints firsts : List ℕ) : Type 0 where
+  pub slots : 0 < length firsts
+  pub hinted : (j : ℕ) → j < length prints → getD firsts (getD prints j 0 % length firsts) 0 ≤ j
 
 -- A card that came to the first `count` of the cards.
 pub record Entered (text words : List ℕ) (card count : ℕ) (r : First) (cards₀ cards prints : List ℕ) : Type 0 where
@@ -101,6 +108,7 @@ pub record TypeAsked (text words prints owners types typePrints : List ℕ) (car
   pub owners-room : cardsUsed words ≤ length owners
   pub types-room : count < length types
   pub prints-room : count < length typePrints
+  pub few : count ≤ cardRoom
   pub prints-are : take count typePrints ≡ map (cardPrint text words) (take count types)
 
 -- What one heading does to them.

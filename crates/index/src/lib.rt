@@ -1,7 +1,7 @@
 // The arrays that a drawing's walks read: filled once, from the stored cards.
 ghost use mathlib.Core.Path.{_≡_};
-ghost use Prim.Native.Nat.{_≤_, _<_};
-ghost use lib.ListN.{length, take, set};
+ghost use Prim.Native.Nat.{_%_, _≤_, _<_};
+ghost use lib.ListN.{length, take, getD, set};
 ghost use Rattle.definition.specs.Lists.{firstWhere};
 ghost use Rattle.definition.specs.Refusals.{cardRoom};
 ghost use Rattle.definition.specs.Cards.{isType};
@@ -21,6 +21,7 @@ ghost use Rattle.index.specs.Turns.{
   extendsType,
   entryOf,
   Searched,
+  Hinted,
   Entering,
   Entered,
   HeadsAsked,
@@ -117,7 +118,7 @@ fn find(text: &[u8], words: &[u32], cards: &[u32], prints: &[u32], card: u32, pr
     Entry::Vacant
 }
 
-// Adds the card to the first `count` cards where none of them has its name.
+// Adds the card to the first `count` cards where none of them has its name. None before `from` has its fingerprint.
 fn enter(
     text: &[u8],
     words: &[u32],
@@ -125,16 +126,17 @@ fn enter(
     print: u32,
     cards: &mut [u32],
     prints: &mut [u32],
+    from: usize,
     count: usize,
 ) -> First
-    requires { ⌜ Entering (now text) (now words) (now cards) (now prints) count card print ⌝ }
+    requires { ⌜ Entering (now text) (now words) (now cards) (now prints) from count card print ⌝ }
     ensures { λ r. ⌜ Entered (now (text .entry)) (now (words .entry)) card count r (now (cards .entry)) (now (cards .exit)) (now (prints .exit)) ⌝ }
 {
     let Entry::Occupied(first) = find(
         text,
         words,
-        &cards[0..count],
-        &prints[0..count],
+        &cards[from..count],
+        &prints[from..count],
         card,
         print,
     ) else {
@@ -198,6 +200,19 @@ pub fn is_type_extension(kind: u32) -> bool
     kind <= 17
 }
 
+// Where the search for a fingerprint among the first `count` types begins: none before has it. A word of `firsts` is the place of the first
+// type whose fingerprint falls on it; where none does, any word will do, and a large one spares the search.
+fn hint(firsts: &[u32], print: u32, count: usize) -> usize
+    requires { ⌜ 0 < length (now firsts) ⌝ }
+    ensures { λ r. ⌜ (r ≤ count) × (r ≤ getD (now (firsts .entry)) (print % length (now (firsts .entry))) 0) ⌝ }
+{
+    let first = firsts[print as usize % firsts.len()] as usize;
+    if count < first {
+        return count;
+    }
+    first
+}
+
 // One heading: a definition is the first of its name, or its name's first one owns it.
 fn index_type(
     text: &[u8],
@@ -207,16 +222,21 @@ fn index_type(
     owners: &mut [u32],
     types: &mut [u32],
     type_prints: &mut [u32],
+    firsts: &mut [u32],
     count: usize,
 ) -> usize
-    requires { ⌜ TypeAsked (now text) (now words) (now prints) (now owners) (now types) (now «type_prints») card count ⌝ }
-    ensures { λ r. ⌜ TypeTurn (now (text .entry)) (now (words .entry)) card count r (now (owners .entry)) (now (owners .exit)) (now (types .entry)) (now (types .exit)) (now («type_prints» .exit)) ⌝ }
+    requires { ⌜ TypeAsked (now text) (now words) (now prints) (now owners) (now types) (now «type_prints») card count × Hinted (take count (now «type_prints»)) (now firsts) ⌝ }
+    ensures { λ r. ⌜ TypeTurn (now (text .entry)) (now (words .entry)) card count r (now (owners .entry)) (now (owners .exit)) (now (types .entry)) (now (types .exit)) (now («type_prints» .exit)) × Hinted (take r (now («type_prints» .exit))) (now (firsts .exit)) ⌝ }
 {
     let at = card as usize;
     if !is_type(stored::card_kind(words, at)) {
         return count;
     }
-    let first = enter(text, words, card, prints[at], types, type_prints, count);
+    let print = prints[at];
+    let from = hint(firsts, print, count);
+    let slot = print as usize % firsts.len();
+    firsts[slot] = from as u32;
+    let first = enter(text, words, card, print, types, type_prints, from, count);
     owners[at] = first.card;
     first.count
 }
@@ -230,9 +250,10 @@ pub fn index_types(
     owners: &mut [u32],
     types: &mut [u32],
     type_prints: &mut [u32],
+    firsts: &mut [u32],
 ) -> usize
-    requires { ⌜ TypesAsked (now text) (now words) (now prints) (now heads) (now owners) (now types) (now «type_prints») ⌝ }
-    ensures { λ r. ⌜ TypesAre (now (text .entry)) (now (words .entry)) (now (heads .entry)) (now (owners .exit)) (now (types .exit)) (now («type_prints» .exit)) (length (now (heads .entry))) r ⌝ }
+    requires { ⌜ TypesAsked (now text) (now words) (now prints) (now heads) (now owners) (now types) (now «type_prints») × (0 < length (now firsts)) ⌝ }
+    ensures { λ r. ⌜ TypesAre (now (text .entry)) (now (words .entry)) (now (heads .entry)) (now (owners .exit)) (now (types .exit)) (now («type_prints» .exit)) (length (now (heads .entry))) r × Hinted (take r (now («type_prints» .exit))) (now (firsts .exit)) ⌝ }
 {
     let mut count = 0;
     let mut k = 0;
@@ -245,6 +266,7 @@ pub fn index_types(
             owners,
             types,
             type_prints,
+            firsts,
             count,
         );
         k += 1;
@@ -259,12 +281,13 @@ fn index_extension(
     prints: &[u32],
     types: &[u32],
     type_prints: &[u32],
+    firsts: &[u32],
     card: u32,
     owners: &mut [u32],
     extensions: &mut [u32],
     count: usize,
 ) -> usize
-    requires { ⌜ ExtensionAsked (now text) (now words) (now prints) (now types) (now «type_prints») (now owners) (now extensions) card count ⌝ }
+    requires { ⌜ ExtensionAsked (now text) (now words) (now prints) (now types) (now «type_prints») (now owners) (now extensions) card count × Hinted (now «type_prints») (now firsts) ⌝ }
     ensures { λ r. ⌜ ExtensionTurn (now (text .entry)) (now (words .entry)) (now (types .entry)) card count r (now (owners .entry)) (now (owners .exit)) (now (extensions .entry)) (now (extensions .exit)) ⌝ }
 {
     let at = card as usize;
@@ -272,7 +295,16 @@ fn index_extension(
         return count;
     }
     extensions[count] = card;
-    let Entry::Occupied(first) = find(text, words, types, type_prints, card, prints[at]) else {
+    let print = prints[at];
+    let from = hint(firsts, print, type_prints.len());
+    let Entry::Occupied(first) = find(
+        text,
+        words,
+        &types[from..],
+        &type_prints[from..],
+        card,
+        print,
+    ) else {
         owners[at] = ABSENT;
         return count + 1;
     };
@@ -288,10 +320,11 @@ pub fn index_extensions(
     heads: &[u32],
     types: &[u32],
     type_prints: &[u32],
+    firsts: &[u32],
     owners: &mut [u32],
     extensions: &mut [u32],
 ) -> usize
-    requires { ⌜ ExtensionsAsked (now text) (now words) (now prints) (now heads) (now types) (now «type_prints») (now owners) (now extensions) ⌝ }
+    requires { ⌜ ExtensionsAsked (now text) (now words) (now prints) (now heads) (now types) (now «type_prints») (now owners) (now extensions) × Hinted (now «type_prints») (now firsts) ⌝ }
     ensures { λ r. ⌜ ExtensionsAre (now (text .entry)) (now (words .entry)) (now (heads .entry)) (now (types .entry)) (now (owners .entry)) (now (owners .exit)) (now (extensions .exit)) (length (now (heads .entry))) r ⌝ }
 {
     let mut count = 0;
@@ -303,6 +336,7 @@ pub fn index_extensions(
             prints,
             types,
             type_prints,
+            firsts,
             heads[k],
             owners,
             extensions,
@@ -331,7 +365,16 @@ fn index_orphan(
     if owners[at] != ABSENT {
         return count;
     }
-    let first = enter(text, words, card, prints[at], orphans, orphan_prints, count);
+    let first = enter(
+        text,
+        words,
+        card,
+        prints[at],
+        orphans,
+        orphan_prints,
+        0,
+        count,
+    );
     first.count
 }
 
@@ -376,12 +419,13 @@ fn index_owners(
     types: &mut [u32],
     orphans: &mut [u32],
     extensions: &mut [u32],
+    firsts: &mut [u32],
     scratch: &mut [u32],
 ) -> Counts
-    requires { ⌜ OwnersAsked (now text) (now words) (now prints) (now heads) (now owners) (now types) (now orphans) (now extensions) (now scratch) ⌝ }
+    requires { ⌜ OwnersAsked (now text) (now words) (now prints) (now heads) (now owners) (now types) (now orphans) (now extensions) (now scratch) × (0 < length (now firsts)) ⌝ }
     ensures { λ r. ⌜ OwnersAre (now (text .entry)) (now (words .entry)) (now (heads .entry)) (now (owners .exit)) (now (types .exit)) (now (orphans .exit)) (now (extensions .exit)) r ⌝ }
 {
-    let t = index_types(text, words, prints, heads, owners, types, scratch);
+    let t = index_types(text, words, prints, heads, owners, types, scratch, firsts);
     let e = index_extensions(
         text,
         words,
@@ -389,6 +433,7 @@ fn index_owners(
         heads,
         &types[0..t],
         &scratch[0..t],
+        firsts,
         owners,
         extensions,
     );
@@ -419,9 +464,10 @@ fn index_cards(
     types: &mut [u32],
     orphans: &mut [u32],
     extensions: &mut [u32],
+    firsts: &mut [u32],
     scratch: &mut [u32],
 ) -> Counts
-    requires { ⌜ IndexAsked (now text) (now words) (now heads) (now prints) (now owners) (now types) (now orphans) (now extensions) (now scratch) ⌝ }
+    requires { ⌜ IndexAsked (now text) (now words) (now heads) (now prints) (now owners) (now types) (now orphans) (now extensions) (now scratch) × (0 < length (now firsts)) ⌝ }
     ensures { λ r. ⌜ Indexed (now (text .entry)) (now (words .entry)) (now (heads .exit)) (now (prints .exit)) (now (owners .exit)) (now (types .exit)) (now (orphans .exit)) (now (extensions .exit)) (r .headings) (r .types) (r .orphans) (r .extensions) ⌝ }
 {
     let count = index_headings(words, heads);
@@ -435,6 +481,7 @@ fn index_cards(
         types,
         orphans,
         extensions,
+        firsts,
         scratch,
     )
 }
@@ -498,7 +545,7 @@ pub fn own_extensions<'a>(
     &extensions[start..end]
 }
 
-// Fills all arrays; what the scratch holds then means nothing.
+// Fills all arrays; what `firsts` and the scratch hold then means nothing. Large words in `firsts` make it fast.
 pub fn index(
     text: &[u8],
     words: &[u32],
@@ -510,9 +557,10 @@ pub fn index(
     extensions: &mut [u32],
     starts: &mut [u32],
     ends: &mut [u32],
+    firsts: &mut [u32],
     scratch: &mut [u32],
 ) -> Counts
-    requires { ⌜ IndexAsked (now text) (now words) (now heads) (now prints) (now owners) (now types) (now orphans) (now extensions) (now scratch) × (cardsUsed (now words) ≤ length (now starts)) × (cardsUsed (now words) ≤ length (now ends)) ⌝ }
+    requires { ⌜ IndexAsked (now text) (now words) (now heads) (now prints) (now owners) (now types) (now orphans) (now extensions) (now scratch) × (cardsUsed (now words) ≤ length (now starts)) × (cardsUsed (now words) ≤ length (now ends)) × (0 < length (now firsts)) ⌝ }
     ensures { λ r. ⌜ Indexed (now (text .entry)) (now (words .entry)) (now (heads .exit)) (now (prints .exit)) (now (owners .exit)) (now (types .exit)) (now (orphans .exit)) (now (extensions .exit)) (r .headings) (r .types) (r .orphans) (r .extensions) × Spanned (now (words .entry)) (now (owners .exit)) (take (r .extensions) (now (extensions .exit))) (now (starts .exit)) (now (ends .exit)) ⌝ }
 {
     let counts = index_cards(
@@ -524,6 +572,7 @@ pub fn index(
         types,
         orphans,
         extensions,
+        firsts,
         scratch,
     );
     let e = counts.extensions;

@@ -2,7 +2,7 @@
 use definition::Drawing;
 use index::Counts;
 ghost use mathlib.Core.Path.{_≡_};
-ghost use Prim.Native.Nat.{_≤_};
+ghost use Prim.Native.Nat.{_≤_, _<_};
 ghost use lib.ListN.{length, take};
 ghost use Rattle.definition.specs.Merge.{draw};
 ghost use Rattle.definition.specs.Store.{accountIn, cardsUsed};
@@ -73,7 +73,8 @@ fn draw_indexed(
     }
 }
 
-// Draws a sound store over arrays that have a word for each of its cards; one more heading marks the end.
+// Draws a sound store over arrays that have a word for each of its cards; one more heading marks the end. `firsts` has any length; with
+// more words than types, each larger than any place, a type's name is seldom sought among others.
 fn draw_store(
     text: &[u8],
     words: &[u32],
@@ -85,11 +86,12 @@ fn draw_store(
     extensions: &mut [u32],
     starts: &mut [u32],
     ends: &mut [u32],
+    firsts: &mut [u32],
     scratch: &mut [u32],
     rows: &mut [u32],
     errors: &mut [u32],
 ) -> Drawing
-    requires { ⌜ DrawAsked (now text) (now words) (now rows) (now errors) × IndexAsked (now text) (now words) (now heads) (now prints) (now owners) (now types) (now orphans) (now extensions) (now scratch) × (cardsUsed (now words) ≤ length (now starts)) × (cardsUsed (now words) ≤ length (now ends)) ⌝ }
+    requires { ⌜ DrawAsked (now text) (now words) (now rows) (now errors) × IndexAsked (now text) (now words) (now heads) (now prints) (now owners) (now types) (now orphans) (now extensions) (now scratch) × (cardsUsed (now words) ≤ length (now starts)) × (cardsUsed (now words) ≤ length (now ends)) × (0 < length (now firsts)) ⌝ }
     ensures { λ r. ⌜ Drawn (now (text .entry)) (now (words .entry)) (now (rows .entry)) (now (errors .entry)) r (now (rows .exit)) (now (errors .exit)) ⌝ }
 {
     let counts = index::index(
@@ -103,6 +105,7 @@ fn draw_store(
         extensions,
         starts,
         ends,
+        firsts,
         scratch,
     );
     draw_indexed(
@@ -136,6 +139,7 @@ fn build_small(text: &[u8], words: &[u32], rows: &mut [u32], errors: &mut [u32])
     let mut extensions = [0u32; 64];
     let mut starts = [0u32; 64];
     let mut ends = [0u32; 64];
+    let mut firsts = [4294967295u32; 128];
     let mut scratch = [0u32; 64];
     draw_store(
         text,
@@ -148,6 +152,7 @@ fn build_small(text: &[u8], words: &[u32], rows: &mut [u32], errors: &mut [u32])
         &mut extensions,
         &mut starts,
         &mut ends,
+        &mut firsts,
         &mut scratch,
         rows,
         errors,
@@ -167,6 +172,7 @@ fn build_medium(text: &[u8], words: &[u32], rows: &mut [u32], errors: &mut [u32]
     let mut extensions = [0u32; 512];
     let mut starts = [0u32; 512];
     let mut ends = [0u32; 512];
+    let mut firsts = [4294967295u32; 1024];
     let mut scratch = [0u32; 512];
     draw_store(
         text,
@@ -179,6 +185,7 @@ fn build_medium(text: &[u8], words: &[u32], rows: &mut [u32], errors: &mut [u32]
         &mut extensions,
         &mut starts,
         &mut ends,
+        &mut firsts,
         &mut scratch,
         rows,
         errors,
@@ -198,6 +205,7 @@ fn build_large(text: &[u8], words: &[u32], rows: &mut [u32], errors: &mut [u32])
     let mut extensions = [0u32; 2300];
     let mut starts = [0u32; 2300];
     let mut ends = [0u32; 2300];
+    let mut firsts = [4294967295u32; 8192];
     let mut scratch = [0u32; 2300];
     draw_store(
         text,
@@ -210,6 +218,7 @@ fn build_large(text: &[u8], words: &[u32], rows: &mut [u32], errors: &mut [u32])
         &mut extensions,
         &mut starts,
         &mut ends,
+        &mut firsts,
         &mut scratch,
         rows,
         errors,

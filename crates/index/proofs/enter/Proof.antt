@@ -1,9 +1,11 @@
 -- Both answers of the search, as the card comes to the first ones.
-use native.Mathlib.Nat.{sub-zero}
-use Rattle.index.proofs.Search.{entered-old, entered-new}
+use Rattle.index.proofs.Search.{entering-searched, entered-old, entered-new}
+use borrow.Author.Needs.{needs}
 use Rattle.index.proofs.enter.Statement.{statement}
 use Rattle.index.proofs.enter.Tie as tie
-use borrow.Author.Needs.{needs}
+
+mul-find : tie.Need-mul-find
+mul-find c = search needs
 
 sub-find : tie.Need-sub-find
 sub-find c = search needs
@@ -13,6 +15,9 @@ part-find-start c = search needs
 
 part-find-end : tie.Need-part-find-end
 part-find-end c = search needs
+
+mul-find-2 : tie.Need-mul-find-2
+mul-find-2 c = search needs
 
 sub-find-2 : tie.Need-sub-find-2
 sub-find-2 c = search needs
@@ -24,7 +29,7 @@ part-find-end-2 : tie.Need-part-find-end-2
 part-find-end-2 c = search needs
 
 find-requires : tie.Need-find-requires
-find-requires c κs = rw sub-zero (c .before .before .before .before .before .before .before .before .pre .searched)
+find-requires c κs = entering-searched _ _ _ _ _ _ _ _ (c .before .before .before .before .before .before .before .before .pre)
 
 enum-known-first : tie.Need-enum-known-first
 enum-known-first c = search needs
@@ -44,8 +49,8 @@ mul-prints c = search needs
 slice-write-prints : tie.Need-slice-write-prints
 slice-write-prints c = search needs
 
-add-t18 : tie.Need-add-t18
-add-t18 c = search needs
+add-t21 : tie.Need-add-t21
+add-t21 c = search needs
 
 same-length : tie.Need-same-length
 same-length c = search needs
@@ -56,7 +61,7 @@ same-length-2 c = search needs
 returns : tie.Need-returns
 returns c =
     let s = c .before .before .before .before .before .before .before .before .before .before .before in
-    entered-new (s .args .text .now) (s .args .words .now) (s .args .cards .now) (s .args .prints .now) (s .args .count) (s .args .card) (s .args .print) (s .pre)
+    entered-new (s .args .text .now) (s .args .words .now) (s .args .cards .now) (s .args .prints .now) (s .args .from) (s .args .count) (s .args .card) (s .args .print) (s .pre)
     (c .before .before .find .result) (c .before .before .find .ensures) (c .enum-told .given .1)
 
 same-length-3 : tie.Need-same-length-3
@@ -68,16 +73,18 @@ same-length-4 c = search needs
 returns-2 : tie.Need-returns-2
 returns-2 c =
     let s = c .before .before .before .before .before .before .before .before .before .before .before .before in
-    entered-old (s .args .text .now) (s .args .words .now) (s .args .cards .now) (s .args .prints .now) (s .args .count) (s .args .card) (s .args .print) (s .pre)
+    entered-old (s .args .text .now) (s .args .words .now) (s .args .cards .now) (s .args .prints .now) (s .args .from) (s .args .count) (s .args .card) (s .args .print) (s .pre)
     (c .before .before .before .find .result) (c .before .first .given .0 .0) (c .before .before .before .find .ensures) (c .before .first .given .1)
 
 pub enter-spec : {M : Type 1} → statement M
 enter-spec =
     tie.close
     (tie.spec
+    mul-find
     sub-find
     part-find-start
     part-find-end
+    mul-find-2
     sub-find-2
     part-find-start-2
     part-find-end-2
@@ -88,7 +95,7 @@ enter-spec =
     slice-write-cards
     mul-prints
     slice-write-prints
-    add-t18
+    add-t21
     same-length
     same-length-2
     returns

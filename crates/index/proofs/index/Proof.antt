@@ -7,7 +7,7 @@ use Rattle.index.proofs.index.Statement.{statement}
 use Rattle.index.proofs.index.Tie as tie
 
 index-cards-requires : tie.Need-index-cards-requires
-index-cards-requires c κs = search needs
+index-cards-requires c κs = (c .before .before .before .before .before .before .before .before .before .before .before .before .before .before .before .before .before .before .before .before .pre .0, c .before .before .before .before .before .before .before .before .before .before .before .before .before .before .before .before .before .before .before .before .pre .3)
 
 sub-index-starts : tie.Need-sub-index-starts
 sub-index-starts c = search needs
@@ -19,7 +19,7 @@ part-index-starts-end : tie.Need-part-index-starts-end
 part-index-starts-end c = search needs
 
 index-starts-requires : tie.Need-index-starts-requires
-index-starts-requires c κs = rw sub-zero (spans-ready _ _ _ _ _ _ _ _ _ _ _ _ (c .before .before .before .before .before .before .before .before .before .before .before .before .before .before .before .before .before .before .index-cards .ensures))
+index-starts-requires c κs = rw sub-zero (spans-ready _ _ _ _ _ _ _ _ _ _ _ _ (c .before .before .before .before .before .before .before .before .before .before .before .before .before .before .before .before .before .before .before .before .index-cards .ensures))
 
 sub-index-ends : tie.Need-sub-index-ends
 sub-index-ends c = search needs
@@ -31,7 +31,7 @@ part-index-ends-end : tie.Need-part-index-ends-end
 part-index-ends-end c = search needs
 
 index-ends-requires : tie.Need-index-ends-requires
-index-ends-requires c κs = rw sub-zero (spans-ready _ _ _ _ _ _ _ _ _ _ _ _ (c .before .before .before .before .before .before .before .before .before .before .before .before .before .before .before .before .before .before .before .before .before .before .before .before .before .index-cards .ensures))
+index-ends-requires c κs = rw sub-zero (spans-ready _ _ _ _ _ _ _ _ _ _ _ _ (c .before .before .before .before .before .before .before .before .before .before .before .before .before .before .before .before .before .before .before .before .before .before .before .before .before .before .before .index-cards .ensures))
 
 same-length : tie.Need-same-length
 same-length c = search needs
@@ -60,12 +60,15 @@ same-length-8 c = search needs
 same-length-9 : tie.Need-same-length-9
 same-length-9 c = search needs
 
+same-length-10 : tie.Need-same-length-10
+same-length-10 c = search needs
+
 returns : tie.Need-returns
 returns c =
-    let a = c .before .before .before .before .before .before .before .before .before .before .before .before .before .before .before .before .before .before .before .before .before .before .before .before .before .before .before .before .before .before .before .before .before .before .before .before .before .before .before .before .before .before .before .before .before .before .before .pre in
+    let a = c .before .before .before .before .before .before .before .before .before .before .before .before .before .before .before .before .before .before .before .before .before .before .before .before .before .before .before .before .before .before .before .before .before .before .before .before .before .before .before .before .before .before .before .before .before .before .before .before .before .before .before .pre in
     let s = c .before .before .before .before .before .before .before .before .before .index-starts in
     let e = c .before .before .index-ends in (
-      c .before .before .before .before .before .before .before .before .before .before .before .before .before .before .before .before .before .before .before .before .before .before .before .before .before .before .before .before .index-cards .ensures,
+      c .before .before .before .before .before .before .before .before .before .before .before .before .before .before .before .before .before .before .before .before .before .before .before .before .before .before .before .before .before .before .index-cards .ensures,
       record {
         starts-are = rw sub-zero at (s .ensures);
         ends-are = rw sub-zero at (e .ensures);
@@ -96,4 +99,5 @@ index-spec =
     same-length-7
     same-length-8
     same-length-9
+    same-length-10
     returns)

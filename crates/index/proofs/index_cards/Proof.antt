@@ -3,16 +3,16 @@ use native.Mathlib.Omega.{arith}
 use native.Mathlib.Nat.{sub-zero}
 use Rattle.stored.proofs.Laws.{cards-fit}
 use Rattle.index.proofs.Told.{heads-ready, cards-ready, indexed}
+use borrow.Author.Needs.{needs}
 use Rattle.index.proofs.index_cards.Statement.{statement}
 use Rattle.index.proofs.index_cards.Tie as tie
-use borrow.Author.Needs.{needs}
 
 index-headings-requires : tie.Need-index-headings-requires
-index-headings-requires c κs = heads-ready _ _ _ _ _ _ _ _ _ (c .before .before .before .before .before .before .before .before .before .before .pre)
+index-headings-requires c κs = heads-ready _ _ _ _ _ _ _ _ _ (c .before .before .before .before .before .before .before .before .before .before .before .pre .0)
 
 fingerprints-requires : tie.Need-fingerprints-requires
 fingerprints-requires c κs =
-    let a = c .before .before .before .before .before .before .before .before .before .before .before .before .before .before .pre in
+    let a = c .before .before .before .before .before .before .before .before .before .before .before .before .before .before .before .pre .0 in
     (a .words-length, cards-fit _ _ (a .store-sound), a .prints-length)
 
 sub-index-owners : tie.Need-sub-index-owners
@@ -26,17 +26,20 @@ part-index-owners-end c = search needs
 
 index-owners-requires : tie.Need-index-owners-requires
 index-owners-requires c κs =
-    let a = c .before .before .before .before .before .before .before .before .before .before .before .before .before .before .before .before .before .before .before .before .before .before .before .before .before .pre in
-    let h = c .before .before .before .before .before .before .before .before .before .before .before .before .before .before .index-headings in
-    let p = c .before .before .before .before .before .before .before .before .before .before .fingerprints in
-    rw sub-zero (record {
-      all-cards = cards-ready _ _ _ _ (omega (arith, a .heads-length, h .kept .1 .0)) (cards-fit _ _ (a .store-sound)) (h .ensures) _ (p .ensures);
-      owners-room = a .owners-length;
-      types-room = a .types-length;
-      orphans-room = a .orphans-length;
-      extensions-room = a .extensions-length;
-      scratch-room = a .scratch-length;
-    })
+    let a = c .before .before .before .before .before .before .before .before .before .before .before .before .before .before .before .before .before .before .before .before .before .before .before .before .before .before .before .pre .0 in
+    let h = c .before .before .before .before .before .before .before .before .before .before .before .before .before .before .before .index-headings in
+    let p = c .before .before .before .before .before .before .before .before .before .before .before .fingerprints in
+    rw sub-zero (
+      record {
+        all-cards = cards-ready _ _ _ _ (omega (arith, a .heads-length, h .kept .1 .0)) (cards-fit _ _ (a .store-sound)) (h .ensures) _ (p .ensures);
+        owners-room = a .owners-length;
+        types-room = a .types-length;
+        orphans-room = a .orphans-length;
+        extensions-room = a .extensions-length;
+        scratch-room = a .scratch-length;
+      },
+      c .before .before .before .before .before .before .before .before .before .before .before .before .before .before .before .before .before .before .before .before .before .before .before .before .before .before .before .pre .1,
+    )
 
 same-length : tie.Need-same-length
 same-length c = search needs
@@ -59,12 +62,15 @@ same-length-6 c = search needs
 same-length-7 : tie.Need-same-length-7
 same-length-7 c = search needs
 
+same-length-8 : tie.Need-same-length-8
+same-length-8 c = search needs
+
 returns : tie.Need-returns
 returns c =
-    let a = c .before .before .before .before .before .before .before .before .before .before .before .before .before .before .before .before .before .before .before .before .before .before .before .before .before .before .before .before .before .before .before .before .before .before .before .before .pre in
-    let h = c .before .before .before .before .before .before .before .before .before .before .before .before .before .before .before .before .before .before .before .before .before .before .before .before .before .index-headings in
-    let p = c .before .before .before .before .before .before .before .before .before .before .before .before .before .before .before .before .before .before .before .before .before .fingerprints in
-    let o = c .before .before .before .before .before .before .before .before .before .before .index-owners in
+    let a = c .before .before .before .before .before .before .before .before .before .before .before .before .before .before .before .before .before .before .before .before .before .before .before .before .before .before .before .before .before .before .before .before .before .before .before .before .before .before .before .before .pre .0 in
+    let h = c .before .before .before .before .before .before .before .before .before .before .before .before .before .before .before .before .before .before .before .before .before .before .before .before .before .before .before .before .index-headings in
+    let p = c .before .before .before .before .before .before .before .before .before .before .before .before .before .before .before .before .before .before .before .before .before .before .before .before .fingerprints in
+    let o = c .before .before .before .before .before .before .before .before .before .before .before .before .index-owners in
     indexed _ _ _ _ (omega (arith, a .heads-length, h .kept .1 .0)) (cards-fit _ _ (a .store-sound)) (h .ensures) _ _ _ _ _ (p .ensures) _ (rw sub-zero at (o .ensures))
     (omega (arith, a .owners-length, o .kept .1 .1 .1 .1 .0)) (omega (arith, a .types-length, o .kept .1 .1 .1 .1 .1 .0))
     (omega (arith, a .orphans-length, o .kept .1 .1 .1 .1 .1 .1 .0)) (omega (arith, a .extensions-length, o .kept .1 .1 .1 .1 .1 .1 .1 .0))
@@ -86,4 +92,5 @@ index-cards-spec =
     same-length-5
     same-length-6
     same-length-7
+    same-length-8
     returns)

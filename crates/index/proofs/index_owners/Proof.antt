@@ -3,9 +3,9 @@ use native.Mathlib.Nat.{sub-zero}
 use native.Mathlib.Omega.{arith}
 use Prim.Native.Nat.{_-_}
 use Rattle.index.proofs.Owners.{extensions-ready, orphans-ready, owners-done}
+use borrow.Author.Needs.{needs}
 use Rattle.index.proofs.index_owners.Statement.{statement}
 use Rattle.index.proofs.index_owners.Tie as tie
-use borrow.Author.Needs.{needs}
 
 index-types-requires : tie.Need-index-types-requires
 index-types-requires c κs = search needs
@@ -30,8 +30,8 @@ part-index-extensions-end-2 c = search needs
 
 index-extensions-requires : tie.Need-index-extensions-requires
 index-extensions-requires c κs =
-    let r = c .before .before .before .before .before .before .before .before .before .before .before .before .index-types in
-    rw sub-zero (extensions-ready _ _ _ _ _ _ _ _ _ (c .before .before .before .before .before .before .before .before .before .before .before .before .before .before .before .before .before .before .before .before .before .before .before .before .before .pre) _ _ _ _ (r .ensures) (r .kept .1 .1 .1 .1 .0))
+    let r = c .before .before .before .before .before .before .before .before .before .before .before .before .before .before .before .index-types in
+    rw sub-zero (extensions-ready _ _ _ _ _ _ _ _ _ (c .before .before .before .before .before .before .before .before .before .before .before .before .before .before .before .before .before .before .before .before .before .before .before .before .before .before .before .before .before .before .pre .0) _ _ _ _ (r .ensures .0) (r .kept .1 .1 .1 .1 .0), r .ensures .1)
 
 sub-index-orphans : tie.Need-sub-index-orphans
 sub-index-orphans c = search needs
@@ -40,13 +40,13 @@ part-index-orphans-start : tie.Need-part-index-orphans-start
 part-index-orphans-start c = search needs
 
 part-index-orphans-end : tie.Need-part-index-orphans-end
-part-index-orphans-end c = omega (arith, c .before .before .before .before .before .before .before .before .before .before .before .before .before .before .before .before .before .before .before .before .before .before .before .before .before .before .before .before .before .before .before .before .pre .all-cards .few, c .before .before .before .before .before .before .before .before .before .before .before .before .before .before .before .before .before .before .before .before .before .before .before .before .before .before .before .before .before .before .before .before .pre .extensions-room, c .before .before .before .before .before .before .index-extensions .ensures .extensions-most, c .before .before .before .before .before .before .index-extensions .kept .1 .1 .1 .1 .1 .1 .1 .0)
+part-index-orphans-end c = omega (arith, c .before .before .before .before .before .before .before .before .before .before .before .before .before .before .before .before .before .before .before .before .before .before .before .before .before .before .before .before .before .before .before .before .before .before .before .before .before .pre .0 .all-cards .few, c .before .before .before .before .before .before .before .before .before .before .before .before .before .before .before .before .before .before .before .before .before .before .before .before .before .before .before .before .before .before .before .before .before .before .before .before .before .pre .0 .extensions-room, c .before .before .before .before .before .before .index-extensions .ensures .extensions-most, c .before .before .before .before .before .before .index-extensions .kept .1 .1 .1 .1 .1 .1 .1 .1 .0)
 
 index-orphans-requires : tie.Need-index-orphans-requires
 index-orphans-requires c κs =
-    let r = c .before .before .before .before .before .before .before .before .before .before .before .before .before .before .before .before .before .before .before .before .before .before .index-types in
+    let r = c .before .before .before .before .before .before .before .before .before .before .before .before .before .before .before .before .before .before .before .before .before .before .before .before .before .index-types in
     let q = c .before .before .before .before .before .before .before .before .before .index-extensions in
-    rw sub-zero (orphans-ready _ _ _ _ _ _ _ _ _ (c .before .before .before .before .before .before .before .before .before .before .before .before .before .before .before .before .before .before .before .before .before .before .before .before .before .before .before .before .before .before .before .before .before .before .before .pre) _ _ _ _ (r .ensures) (r .kept .1 .1 .1 .1 .0) (r .result - 0) _ _ _ (q .ensures) (q .kept .1 .1 .1 .1 .1 .1 .0) (r .kept .1 .1 .1 .1 .1 .1 .0))
+    rw sub-zero (orphans-ready _ _ _ _ _ _ _ _ _ (c .before .before .before .before .before .before .before .before .before .before .before .before .before .before .before .before .before .before .before .before .before .before .before .before .before .before .before .before .before .before .before .before .before .before .before .before .before .before .before .before .pre .0) _ _ _ _ (r .ensures .0) (r .kept .1 .1 .1 .1 .0) (r .result - 0) _ _ _ (q .ensures) (q .kept .1 .1 .1 .1 .1 .1 .1 .0) (r .kept .1 .1 .1 .1 .1 .1 .0))
 
 same-length : tie.Need-same-length
 same-length c = search needs
@@ -63,12 +63,15 @@ same-length-4 c = search needs
 same-length-5 : tie.Need-same-length-5
 same-length-5 c = search needs
 
+same-length-6 : tie.Need-same-length-6
+same-length-6 c = search needs
+
 returns : tie.Need-returns
 returns c =
-    let r = c .before .before .before .before .before .before .before .before .before .before .before .before .before .before .before .before .before .before .before .before .before .before .before .before .before .before .before .index-types in
+    let r = c .before .before .before .before .before .before .before .before .before .before .before .before .before .before .before .before .before .before .before .before .before .before .before .before .before .before .before .before .before .before .index-types in
     let q = c .before .before .before .before .before .before .before .before .before .before .before .before .before .before .index-extensions in
     let s = c .before .before .before .before .index-orphans in
-    owners-done _ _ _ _ _ _ _ _ _ (c .before .before .before .before .before .before .before .before .before .before .before .before .before .before .before .before .before .before .before .before .before .before .before .before .before .before .before .before .before .before .before .before .before .before .before .before .before .before .before .before .pre) _ _ _ _ (r .ensures) (r .kept .1 .1 .1 .1 .0) (r .result - 0) _ _ _ (q .ensures)
+    owners-done _ _ _ _ _ _ _ _ _ (c .before .before .before .before .before .before .before .before .before .before .before .before .before .before .before .before .before .before .before .before .before .before .before .before .before .before .before .before .before .before .before .before .before .before .before .before .before .before .before .before .before .before .before .before .before .pre .0) _ _ _ _ (r .ensures .0) (r .kept .1 .1 .1 .1 .0) (r .result - 0) _ _ _ (q .ensures)
     (sub-zero (r .result)) (q .result - 0) _ _ _ (sub-zero (q .result)) (s .ensures)
 
 pub index-owners-spec : {M : Type 1} → statement M
@@ -92,4 +95,5 @@ index-owners-spec =
     same-length-3
     same-length-4
     same-length-5
+    same-length-6
     returns)

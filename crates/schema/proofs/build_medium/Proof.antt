@@ -31,9 +31,12 @@ slice-aggregate-draw-store-8 c = search needs
 slice-aggregate-draw-store-9 : tie.Need-slice-aggregate-draw-store-9
 slice-aggregate-draw-store-9 c = search needs
 
+slice-aggregate-draw-store-10 : tie.Need-slice-aggregate-draw-store-10
+slice-aggregate-draw-store-10 c = search needs
+
 draw-store-requires : tie.Need-draw-store-requires
 draw-store-requires c κs =
-    let a = c .before .before .before .before .before .before .before .before .before .before .before .before .before .before .before .pre in
+    let a = c .before .before .before .before .before .before .before .before .before .before .before .before .before .before .before .before .pre in
     let few = a .1 in (
       a .0,
       record {
@@ -47,6 +50,7 @@ draw-store-requires c κs =
         extensions-length = omega arith;
         scratch-length = omega arith;
       },
+      omega arith,
       omega arith,
       omega arith,
     )
@@ -73,6 +77,7 @@ build-medium-spec =
     slice-aggregate-draw-store-7
     slice-aggregate-draw-store-8
     slice-aggregate-draw-store-9
+    slice-aggregate-draw-store-10
     draw-store-requires
     same-length
     same-length-2
