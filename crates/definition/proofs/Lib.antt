@@ -39,4 +39,3 @@ pub mod RowsStay
 pub mod RunPlaces
 pub mod StoreGrowth
 pub mod Demand3
-pub mod Examples
