@@ -19,9 +19,9 @@ use Rattle.store_check.proofs.Sound.{documents-held, text-held, cards-held}
 use Rattle.definition.proofs.CleanCards.{clean-part, clean-heading}
 use Rattle.store.proofs.Clean.{item-in-text, name-in-text}
 use Rattle.store_check.proofs.Checked.{SoundStore}
-use Rattle.store.specs.Filing.{Within, Fits, Opens}
+use Rattle.filing.specs.Filing.{Within, Fits, Opens}
 use Rattle.store.specs.Room.{roomFor}
-use Rattle.store.proofs.Filed.{count-cards}
+use Rattle.filing.proofs.Filed.{count-cards}
 
 -- ---- A document that passes 1 to 5.
 

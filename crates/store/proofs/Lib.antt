@@ -1,6 +1,3 @@
-pub mod Copied
-pub mod Moved
-pub mod Filed
-pub mod Clean
-pub mod Allowed
-pub mod Entries
+mod Clean
+mod Allowed
+mod Entries

@@ -12,8 +12,6 @@ ghost use Rattle.definition.specs.Answers.{answer};
 ghost use Rattle.definition.specs.Outcomes.{open-store, add-ast, turned, adopt-orphan-extensions, ignore-builtin-redefinitions};
 ghost use Rattle.store.specs.Room.{roomOption, roomFor};
 
-pub mod filing;
-
 // How many documents a store holds.
 const DOCUMENT_ROOM: u32 = 64;
 

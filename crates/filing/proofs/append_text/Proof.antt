@@ -1,7 +1,7 @@
 use native.Mathlib.Omega.{arith}
-use Rattle.store.proofs.Copied.{tail-written}
-use Rattle.store.proofs.filing.append_text.Statement.{statement}
-use Rattle.store.proofs.filing.append_text.Tie as tie
+use Rattle.filing.proofs.Copied.{tail-written}
+use Rattle.filing.proofs.append_text.Statement.{statement}
+use Rattle.filing.proofs.append_text.Tie as tie
 use borrow.Author.Needs.{needs}
 
 sub-copy-text : tie.Need-sub-copy-text

@@ -10,8 +10,8 @@ use lib.Seq.{drop-drop, getD-drop}
 use Rattle.definition.specs.Lists.{All, written, flatMap, chunks}
 use Rattle.definition.specs.Cards.{cardFrom, cardsFrom, cardsOf, wordsOfCard, isUnnamed}
 use Rattle.definition.specs.Store.{moved, movedWords}
-use Rattle.store.specs.Filing.{Within, movedName}
-use Rattle.store.proofs.Copied.{front-written, take-sets, drop-sets, drop-more}
+use Rattle.filing.specs.Filing.{Within, movedName}
+use Rattle.filing.proofs.Copied.{front-written, take-sets, drop-sets, drop-more}
 
 -- ---- The cards from the word i on.
 
@@ -52,7 +52,7 @@ module _ (s : List ℕ) (i n : ℕ) (h : i + 5 ≤ length s) (a : All (Within n)
   pub within-next : All (Within n) (cardsOf (drop (i + 5) s))
   within-next = here .1
 
--- ---- A turn: l is what was written before, with the next card put at i; v is its name's offset as it was moved.
+-- ---- A turn: l is what was written before; the next card is put at i, its kind and item first, then its name.
 
 module _ (l : List ℕ) (n a b c d e : ℕ) (h : n + 5 ≤ length l) where
   take-put : take (n + 5) (set (set (set (set (set l n a) (n + 1) b) (n + 2) c) (n + 3) d) (n + 4) e) ≡ take n l ++ (a ∷ b ∷ c ∷ d ∷ e ∷ [])
@@ -61,15 +61,16 @@ module _ (l : List ℕ) (n a b c d e : ℕ) (h : n + 5 ≤ length l) where
   drop-put : drop (n + 5) (set (set (set (set (set l n a) (n + 1) b) (n + 2) c) (n + 3) d) (n + 4) e) ≡ drop (n + 5) l
   drop-put = let g = drop-sets (a ∷ b ∷ c ∷ d ∷ e ∷ []) l n (n + 5) refl h in simp towards-suc (simp towards-suc at g)
 
-module _ (base : ℕ) (s l l₀ : List ℕ) (i v : ℕ) (h : i + 5 ≤ length s) (k : i + 5 ≤ length l) (is : v ≡ movedName base (getD s (i + 3) 0) (getD s (i + 4) 0)) where
+module _ (base : ℕ) (s l l₁ l₂ l₀ : List ℕ) (i : ℕ) (h : i + 5 ≤ length s) (k : i + 5 ≤ length l)
+    (item : l₁ ≡ set (set (set l i (getD s i 0)) (i + 1) (getD s (i + 1) 0 + base)) (i + 2) (getD s (i + 2) 0))
+    (name : l₂ ≡ set (set l₁ (i + 3) (movedName base (getD s (i + 3) 0) (getD s (i + 4) 0))) (i + 4) (getD s (i + 4) 0)) where
   pub moved-turn : take i l ++ movedWords base (cardsOf (drop i s)) ≡ movedWords base (cardsOf s)
-      → take (i + 5) (set (set (set (set (set l i (getD s i 0)) (i + 1) (getD s (i + 1) 0 + base)) (i + 2) (getD s (i + 2) 0)) (i + 3) v) (i + 4) (getD s (i + 4) 0)) ++ movedWords base (cardsOf (drop (i + 5) s)) ≡ movedWords base (cardsOf s)
+      → take (i + 5) l₂ ++ movedWords base (cardsOf (drop (i + 5) s)) ≡ movedWords base (cardsOf s)
   moved-turn e =
-      rw (take-put l i _ _ _ _ _ k, is) (append-assoc (take i l) _ _ ∙ ap (λ (x : List ℕ). take i l ++ x) (sym (moved-next base s i h)) ∙ e)
+      rw (name, item, take-put l i _ _ _ _ _ k) (append-assoc (take i l) _ _ ∙ ap (λ (x : List ℕ). take i l ++ x) (sym (moved-next base s i h)) ∙ e)
 
-  pub moved-kept : drop i l ≡ drop i l₀
-      → drop (i + 5) (set (set (set (set (set l i (getD s i 0)) (i + 1) (getD s (i + 1) 0 + base)) (i + 2) (getD s (i + 2) 0)) (i + 3) v) (i + 4) (getD s (i + 4) 0)) ≡ drop (i + 5) l₀
-  moved-kept e = drop-put l i _ _ _ _ _ k ∙ drop-more 5 i l l₀ e
+  pub moved-kept : drop i l ≡ drop i l₀ → drop (i + 5) l₂ ≡ drop (i + 5) l₀
+  moved-kept e = rw (name, item) (drop-put l i _ _ _ _ _ k ∙ drop-more 5 i l l₀ e)
 
 pub moved-all : (base : ℕ) (s l l₀ : List ℕ) (i : ℕ) → length s ≤ i → i ≤ length l → take i l ++ movedWords base (cardsOf (drop i s)) ≡ movedWords base (cardsOf s) →
     drop i l ≡ drop i l₀ → l ≡ written l₀ 0 (movedWords base (cardsOf s))

@@ -1,7 +1,7 @@
 use native.Mathlib.Omega.{arith}
-use Rattle.store.proofs.Filed.{text-opened, words-opened}
-use Rattle.store.proofs.filing.file_built_in.Statement.{statement}
-use Rattle.store.proofs.filing.file_built_in.Tie as tie
+use Rattle.filing.proofs.Filed.{text-opened, words-opened}
+use Rattle.filing.proofs.file_built_in.Statement.{statement}
+use Rattle.filing.proofs.file_built_in.Tie as tie
 use borrow.Author.Needs.{needs}
 
 cast-text-len : tie.Need-cast-text-len

@@ -1,8 +1,8 @@
 use native.Mathlib.Omega.{arith}
 use Rattle.definition.specs.Store.{documentCount, ignoreWord, textUsed, cardsUsed}
-use Rattle.store.proofs.Filed.{text-filed, words-filed}
-use Rattle.store.proofs.filing.file.Statement.{statement}
-use Rattle.store.proofs.filing.file.Tie as tie
+use Rattle.filing.proofs.Filed.{text-filed, words-filed}
+use Rattle.filing.proofs.file.Statement.{statement}
+use Rattle.filing.proofs.file.Tie as tie
 use borrow.Author.Needs.{needs}
 
 slice-read-documents : tie.Need-slice-read-documents

@@ -1,8 +1,8 @@
 use native.Mathlib.Numerals.{towards-suc}
 use native.Mathlib.Omega.{arith}
 use lib.ListN.{length-set}
-use Rattle.store.proofs.filing.write_row.Statement.{statement}
-use Rattle.store.proofs.filing.write_row.Tie as tie
+use Rattle.filing.proofs.write_row.Statement.{statement}
+use Rattle.filing.proofs.write_row.Tie as tie
 use borrow.Author.Needs.{needs}
 
 mul-words : tie.Need-mul-words

@@ -1,7 +1,7 @@
 use native.Mathlib.Omega.{arith}
 use lib.ListN.{length-set}
-use Rattle.store.proofs.filing.write_counts.Statement.{statement}
-use Rattle.store.proofs.filing.write_counts.Tie as tie
+use Rattle.filing.proofs.write_counts.Statement.{statement}
+use Rattle.filing.proofs.write_counts.Tie as tie
 use borrow.Author.Needs.{needs}
 
 slice-write-words : tie.Need-slice-write-words

@@ -5,7 +5,7 @@ use store_check::ROW_WORDS;
 use store_check::ROWS_AT;
 ghost use mathlib.Core.Path.{_≡_};
 ghost use Prim.Native.Nat.{_+_, _*_, _≤_, _<_, _^_, _%_, _/_};
-ghost use lib.ListN.{length, set};
+ghost use lib.ListN.{length, getD, set};
 ghost use lib.Seq.{sets};
 ghost use mathlib.Core.List.{[], _∷_};
 ghost use mathlib.Core.Bool.{false};
@@ -13,7 +13,7 @@ ghost use Rattle.definition.specs.Lists.{All, written};
 ghost use Rattle.definition.specs.Cards.{cardWords, cardsOf};
 ghost use Rattle.definition.specs.Refusals.{document};
 ghost use Rattle.definition.specs.Store.{movedWords, filedText, filedWords, openedText, openedWords};
-ghost use Rattle.store.specs.Filing.{Within, movedName, Fits, Opens};
+ghost use Rattle.filing.specs.Filing.{Within, movedName, Fits, Opens};
 
 // Copies a text to the front of the part that it is lent.
 pub fn copy_text(unused: &mut [u8], text: &[u8])
@@ -41,6 +41,27 @@ fn moved_name(base: u32, at: u32, len: u32) -> u32
     at + base
 }
 
+// Copies the kind and the item of the card at i, the item moved by base.
+fn copy_item(unused: &mut [u32], cards: &[u32], i: usize, base: u32)
+    requires { ⌜ (i + 5 ≤ length (now cards)) × (i + 5 ≤ length (now unused)) × (getD (now cards) (i + 1) 0 + base < 2 ^ 32) ⌝ }
+    ensures { λ _. ⌜ now (unused .exit) ≡ set (set (set (now (unused .entry)) i (getD (now (cards .entry)) i 0)) (i + 1) (getD (now (cards .entry)) (i + 1) 0 + base)) (i + 2) (getD (now (cards .entry)) (i + 2) 0) ⌝ }
+{
+    unused[i] = cards[i];
+    unused[i + 1] = cards[i + 1] + base;
+    unused[i + 2] = cards[i + 2];
+}
+
+// Copies its name, moved by base.
+fn copy_name(unused: &mut [u32], cards: &[u32], i: usize, base: u32)
+    requires { ⌜ (i + 5 ≤ length (now cards)) × (i + 5 ≤ length (now unused)) × (getD (now cards) (i + 3) 0 + base < 2 ^ 32) ⌝ }
+    ensures { λ _. ⌜ now (unused .exit) ≡ set (set (now (unused .entry)) (i + 3) (movedName base (getD (now (cards .entry)) (i + 3) 0) (getD (now (cards .entry)) (i + 4) 0))) (i + 4) (getD (now (cards .entry)) (i + 4) 0) ⌝ }
+{
+    let at = cards[i + 3];
+    let len = cards[i + 4];
+    unused[i + 3] = moved_name(base, at, len);
+    unused[i + 4] = len;
+}
+
 // Copies cards to the front of the part that it is lent, their spans moved by base.
 fn copy_cards(unused: &mut [u32], cards: &[u32], base: u32)
     requires { ⌜ (length (now cards) ≤ length (now unused)) × (length (now cards) % cardWords ≡ 0) × (base ≤ 65536) × All (Within 65536) (cardsOf (now cards)) ⌝ }
@@ -48,13 +69,8 @@ fn copy_cards(unused: &mut [u32], cards: &[u32], base: u32)
 {
     let mut i = 0;
     while i < cards.len() {
-        let at = cards[i + 3];
-        let len = cards[i + 4];
-        unused[i] = cards[i];
-        unused[i + 1] = cards[i + 1] + base;
-        unused[i + 2] = cards[i + 2];
-        unused[i + 3] = moved_name(base, at, len);
-        unused[i + 4] = len;
+        copy_item(unused, cards, i, base);
+        copy_name(unused, cards, i, base);
         i += CARD_WORDS;
     }
 }

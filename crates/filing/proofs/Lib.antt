@@ -1,0 +1,3 @@
+mod Copied
+mod Moved
+pub mod Filed
