@@ -1,3 +1,2 @@
-pub mod Places
-pub mod CardFaults
+mod Places
 pub mod Walk

@@ -1,7 +1,7 @@
 // SchemaBuilder::built_in: what the Rust asserts of its own built-in document is here the refusal 6 of a lent document 0, of any length.
 use ast::Card;
-use ast::CardCheck;
 use ast::kinds;
+use card_check::CardCheck;
 use definition::Answer;
 ghost use mathlib.Core.Path.{_≡_};
 ghost use mathlib.Core.List.{[]};
@@ -14,7 +14,8 @@ ghost use Rattle.definition.specs.Names.{sameName};
 ghost use Rattle.definition.specs.Cards.{cardWords, cardsFrom, cardsOf};
 ghost use Rattle.definition.specs.Headings.{nameOf};
 ghost use Rattle.definition.specs.Refusals.{isBarred, barredFrom, document, zeroFault};
-ghost use Rattle.ast.specs.Checks.{cardOf, checkOption};
+ghost use Rattle.ast.specs.Cards.{cardOf};
+ghost use Rattle.card_check.specs.Checks.{checkOption};
 ghost use Rattle.built_in.specs.Alone.{typeNamed, alikeCards, headingFails, cardFails, failsFrom, sixAt, foundAt, seenOf, underAfter};
 
 // What a search over cards finds: a card's number.

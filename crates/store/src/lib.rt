@@ -1,6 +1,6 @@
 // Opening a store, filing documents into it and turning its switches on: SchemaBuilder's `new`, `add_ast` and its two switches.
 use ast::CARD_WORDS;
-use ast::CardCheck;
+use card_check::CardCheck;
 use definition::Answer;
 use store_check::StoreCheck;
 use store_check::TEXT_ROOM;
@@ -66,7 +66,7 @@ pub fn open(text: &mut [u8], words: &mut [u32], lent: &[u8], cards: &[u32]) -> A
             card: 0,
         };
     }
-    if let CardCheck::Faulty(answer) = ast::check_document(lent, cards) {
+    if let CardCheck::Faulty(answer) = card_check::check_document(lent, cards) {
         return answer;
     }
     if let CardCheck::Faulty(answer) = built_in::check_built_in(lent, cards) {
@@ -86,7 +86,7 @@ pub fn add_ast(text: &mut [u8], words: &mut [u32], lent: &[u8], cards: &[u32]) -
     if let StoreCheck::Refused(number) = store_check::check_store(text, words) {
         return Answer { number, card: 0 };
     }
-    if let CardCheck::Faulty(answer) = ast::check_document(lent, cards) {
+    if let CardCheck::Faulty(answer) = card_check::check_document(lent, cards) {
         return answer;
     }
     if words[0] >= DOCUMENT_ROOM {

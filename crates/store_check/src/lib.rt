@@ -1,6 +1,6 @@
 // Whether a store is one that filing can leave: the refusals 21 and 22.
 use ast::CARD_WORDS;
-use ast::CardCheck;
+use card_check::CardCheck;
 ghost use mathlib.Core.Path.{_≡_};
 ghost use mathlib.Core.Bool.{true};
 ghost use Prim.Native.Nat.{_≤_, _<_};
@@ -103,7 +103,8 @@ fn cards_sound(text: &[u8], words: &[u32]) -> bool
         let count = words[i + 2] as usize;
         let start = CARDS_AT + CARD_WORDS * cards;
         let end = start + CARD_WORDS * count;
-        let CardCheck::Sound = ast::check_cards(text, text_at, text_len, &words[start..end]) else {
+        let CardCheck::Sound = card_check::check_cards(text, text_at, text_len, &words[start..end])
+        else {
             return false;
         };
         cards += count;

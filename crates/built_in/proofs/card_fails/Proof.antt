@@ -1,6 +1,6 @@
 use mathlib.Core.Path.{sym, ap, _∙_}
 use borrow.Author.Tests.{not-true, not-false}
-use Rattle.ast.specs.Checks.{cardOf}
+use Rattle.ast.specs.Cards.{cardOf}
 use Rattle.built_in.specs.declared.Under.{Under}
 use Rattle.built_in.specs.Alone.{seenOf}
 use Rattle.built_in.proofs.Searches.{fails-heading, fails-other, fails-part}

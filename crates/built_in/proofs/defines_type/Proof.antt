@@ -1,6 +1,6 @@
 use mathlib.Core.Path.{sym, _∙_}
 use borrow.Author.Tests.{not-true, not-false}
-use Rattle.ast.specs.Checks.{cardOf}
+use Rattle.ast.specs.Cards.{cardOf}
 use Rattle.built_in.proofs.Searches.{type-other, type-same}
 use Rattle.built_in.proofs.defines_type.Statement.{statement}
 use Rattle.built_in.proofs.defines_type.Tie as tie

@@ -1,5 +1,5 @@
 use mathlib.Core.Path.{sym}
-use Rattle.ast.specs.Checks.{cardOf}
+use Rattle.ast.specs.Cards.{cardOf}
 use Rattle.built_in.proofs.Searches.{fails-executable, fails-directive, fails-type}
 use Rattle.built_in.proofs.heading_fails.Statement.{statement}
 use Rattle.built_in.proofs.heading_fails.Tie as tie

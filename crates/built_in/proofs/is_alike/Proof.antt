@@ -1,5 +1,5 @@
 use mathlib.Core.Path.{sym, _∙_}
-use Rattle.ast.specs.Checks.{cardOf}
+use Rattle.ast.specs.Cards.{cardOf}
 use Rattle.built_in.proofs.Searches.{alike-kinds, alike-roots, alike-directives, alike-names}
 use Rattle.built_in.proofs.is_alike.Statement.{statement}
 use Rattle.built_in.proofs.is_alike.Tie as tie

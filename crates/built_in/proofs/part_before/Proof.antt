@@ -3,7 +3,7 @@ use Prim.Native.Nat.{_-_, _*_}
 use lib.ListN.{drop}
 use Rattle.definition.specs.Lists.{any}
 use Rattle.definition.specs.Cards.{cardWords, cardsFrom}
-use Rattle.ast.specs.Checks.{cardOf}
+use Rattle.ast.specs.Cards.{cardOf}
 use Rattle.built_in.specs.Alone.{alikeCards}
 use Rattle.built_in.proofs.Searches.{any-hit, any-next, any-end}
 use Rattle.built_in.proofs.part_before.Statement.{statement}

@@ -1,7 +1,7 @@
 use mathlib.Core.Path.{_≡_, sym, ap, _∙_}
 use native.Mathlib.Omega.{arith}
 use Rattle.definition.specs.Store.{documentCount, textUsed, cardsUsed}
-use Rattle.ast.specs.Checks.{checkOption}
+use Rattle.card_check.specs.Checks.{checkOption}
 use Rattle.store_check.proofs.Checked.{sound-store, refused-number, refused-store}
 use Rattle.store.specs.Room.{roomOption}
 use Rattle.store.proofs.Allowed.{filing-faulty, filing-full, filing-room, fits}
