@@ -1,10 +1,5 @@
 pub mod Lists
 pub mod Prints
 pub mod Search
-pub mod Hints
-pub mod Turns
-pub mod Heads
-pub mod Owners
-pub mod Told
 pub mod Laws
 pub mod Spans

@@ -1,78 +1,21 @@
--- Where the extensions of a type stand among all: the two walks, and that a search for the type's own extensions may keep to their part.
+-- A search for a type's own extensions may keep to their part of all.
 use mathlib.Core.Path.{_≡_, refl, sym, _∙_, ap}
 use mathlib.Core.List.{List, [], _∷_, _++_, append-nil}
-use mathlib.Core.Bool.{Bool, true, false, _||_}
-use mathlib.Core.Option.{Option, some}
+use mathlib.Core.Bool.{Bool, true, false, _||_, _&&_}
+use mathlib.Core.Option.{some}
 use Prim.Native.Nat.{ℕ, zero, suc, _+_, _-_, _≤_, _<_}
 use native.Mathlib.Omega.{arith}
-use lib.Dec.{eqb}
-use lib.ListN.{length, take, drop, getD, getElem?, set, length-set, length-drop, take-append-drop, drop-of-length-le}
-use lib.Seq.{getD-set-same, getD-set-other, getD-take, getD-drop, drop-drop, take-all, take-nil, length-take-le}
-use borrow.Author.Tests.{eqb-true, eqb-false}
+use lib.ListN.{length, take, drop, getD, getElem?, length-drop, take-append-drop, drop-of-length-le}
+use lib.Seq.{getD-take, getD-drop, drop-drop, take-all, take-nil, length-take-le}
 use Rattle.definition.specs.Lists.{choose, keep, any, firstWhere, firsts, All}
 use Rattle.definition.specs.Names.{sameName}
 use Rattle.definition.specs.Headings.{Heading, isTypeDefinition, isTypeExtension, isNamed, sameNamed, definesType, types, definition, numberOf}
-use Rattle.definition.specs.Store.{cardsUsed}
 use Rattle.name.proofs.Laws.{same-equal, same-self}
 use Rattle.stored.specs.Stored.{cardName, storedHeadings, headingAt}
 use Rattle.stored.proofs.Lists.{all-get}
-use Rattle.index.specs.Index.{sameCards, isTyped, Indexed, ownerAt, StartsAre, EndsAre, Spanned, part, ownExtensions}
-use Rattle.index.specs.Turns.{SpansAsked}
-use Rattle.index.proofs.Lists.{never, none-some, keep-append, first-yes, first-no, first-of-firsts, first-keep, get-all, all-keep, taken-most}
-use Rattle.index.proofs.Told.{all-named}
 use Rattle.index.proofs.Laws.{type-here, extension-here}
-
--- ---- The walks; the extension i has the owner f i.
-
-module _ (f : ℕ → ℕ) (xs : List ℕ) (k : ℕ) where
-  later-ends : ((i : ℕ) → i < k → f i < length xs → i < getD xs (f i) 0) → (i : ℕ) → i < k + 1 → f i < length (set xs (f k) (k + 1)) →
-      i < getD (set xs (f k) (k + 1)) (f i) 0
-  later-ends told i h l = go (eqb (f i) (f k)) refl
-    where
-      n : length (set xs (f k) (k + 1)) ≡ length xs
-      n = length-set xs (f k) (k + 1)
-
-      go : (b : Bool) → eqb (f i) (f k) ≡ b → i < getD (set xs (f k) (k + 1)) (f i) 0
-      go true e =
-          let q = eqb-true (f i) (f k) e in
-          let inside : f k < length xs = omega (arith, n) in
-          rw (q, getD-set-same xs (f k) (k + 1) 0 inside) h
-      go false e =
-          let d = eqb-false (f i) (f k) e in
-          let apart : i ≡ k → ⊥ = λ q. d (ap f q) in
-          let inside : f i < length xs = omega (arith, n) in
-          rw (getD-set-other xs (f k) (f i) (k + 1) 0 d) (told i (omega (arith, apart)) inside)
-
-  earlier-starts : (m : ℕ) → ((i : ℕ) → k + 1 ≤ i → i < m → f i < length xs → getD xs (f i) 0 ≤ i) → (i : ℕ) → k ≤ i → i < m → f i < length (set xs (f k) k) →
-      getD (set xs (f k) k) (f i) 0 ≤ i
-  earlier-starts m told i h u l = go (eqb (f i) (f k)) refl
-    where
-      n : length (set xs (f k) k) ≡ length xs
-      n = length-set xs (f k) k
-
-      go : (b : Bool) → eqb (f i) (f k) ≡ b → getD (set xs (f k) k) (f i) 0 ≤ i
-      go true e =
-          let q = eqb-true (f i) (f k) e in
-          let inside : f k < length xs = omega (arith, n) in
-          rw (q, getD-set-same xs (f k) k 0 inside) h
-      go false e =
-          let d = eqb-false (f i) (f k) e in
-          let apart : i ≡ k → ⊥ = λ q. d (ap f q) in
-          let inside : f i < length xs = omega (arith, n) in
-          rw (getD-set-other xs (f k) (f i) k 0 d) (told i (omega (arith, apart)) u inside)
-
-module _ (owners extensions : List ℕ) where
-  pub ends-none : (ends : List ℕ) → EndsAre owners extensions ends 0
-  ends-none ends = record { before-end = λ i h l. absurd (omega arith) }
-
-  pub ends-turn : (ends : List ℕ) (k : ℕ) → EndsAre owners extensions ends k → EndsAre owners extensions (set ends (ownerAt owners extensions k) (k + 1)) (k + 1)
-  ends-turn ends k s = record { before-end = later-ends (ownerAt owners extensions) ends k (s .before-end) }
-
-  pub starts-none : (starts : List ℕ) → StartsAre owners extensions starts (length extensions)
-  starts-none starts = record { at-or-after = λ i h u l. absurd (omega arith) }
-
-  pub starts-turn : (starts : List ℕ) (k : ℕ) → StartsAre owners extensions starts (k + 1) → StartsAre owners extensions (set starts (ownerAt owners extensions k) k) k
-  starts-turn starts k s = record { at-or-after = earlier-starts (ownerAt owners extensions) starts k (length extensions) (s .at-or-after) }
+use Rattle.index.specs.Index.{Spanned, part, ownExtensions, sameCards, Indexed, ownerAt, isTyped}
+use Rattle.index.proofs.Lists.{never, none-some, keep-append, first-yes, first-no, first-keep, first-of-firsts, get-all, all-keep, taken-most}
 
 -- ---- The part of a list.
 
@@ -195,25 +138,29 @@ named-fair : (h x y : Heading) → sameNamed x y ≡ true → sameNamed h x ≡ 
 unfolding sameNamed isNamed
 named-fair h x y e = ap (sameName (h .name)) (same-equal (x .name) (y .name) e)
 
+-- A heading defines a name where it defines a type and has the name.
+named-defines : (n : List ℕ) (h : Heading) → choose (isTypeDefinition h) (isNamed n h) false ≡ definesType n h
+unfolding definesType
+named-defines n h = go (isTypeDefinition h) (isNamed n h)
+  where
+    go : (a b : Bool) → choose a b false ≡ (a && b)
+    go true b = refl
+    go false b = refl
+
+pub all-named : (n : List ℕ) (hs : List Heading) → All (λ h. choose (isTypeDefinition h) (isNamed n h) false ≡ definesType n h) hs
+all-named n [] = tt
+all-named n (h ∷ hs) = (named-defines n h, all-named n hs)
+
 -- A type is the definition of its name.
 type-defines : (hs : List Heading) (k : ℕ) (h : Heading) → getElem? (types hs) k ≡ some h → definition (h .name) hs ≡ some h
 unfolding types definition sameNamed
 type-defines hs k h e =
-    sym (first-keep (isNamed (h .name)) isTypeDefinition (definesType (h .name)) hs (all-named [] [] (h .name) hs))
+    sym (first-keep (isNamed (h .name)) isTypeDefinition (definesType (h .name)) hs (all-named (h .name) hs))
     ∙ sym (first-of-firsts sameNamed (sameNamed h) (named-fair h) (keep isTypeDefinition hs))
     ∙ first-itself sameNamed named-self [] (keep isTypeDefinition hs) k h e .1
 
 module _ (text words heads prints owners typeCards orphanCards extensionCards : List ℕ) (m t o e : ℕ)
     (x : Indexed text words heads prints owners typeCards orphanCards extensionCards m t o e) where
-  pub spans-ready : SpansAsked owners (take e extensionCards)
-  spans-ready = record {
-    stored = λ j h. in-owners j (omega (arith, h, taken-most e extensionCards));
-    few = omega (arith, taken-most e extensionCards, x .extensions-most, x .headings-most, x .printed .cards-most);
-  }
-    where
-      in-owners : (j : ℕ) → j < e → getD (take e extensionCards) j 0 < length owners
-      in-owners j h = omega (arith, getD-take e extensionCards j 0 h, x .extensions-stored j h, x .owners-length)
-
   extends-typed : (h : Heading) → isTypeExtension h ≡ true → isTyped h ≡ true
   unfolding isTyped
   extends-typed h y = rw y (or-true (isTypeDefinition h))

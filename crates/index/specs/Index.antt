@@ -39,6 +39,10 @@ headingNumber h = h .number
 unfoldable pub isTyped : Heading → Bool
 isTyped h = isTypeDefinition h || isTypeExtension h
 
+-- The fingerprint of a stored card's name.
+unfoldable pub cardPrint : List ℕ → List ℕ → ℕ → ℕ
+cardPrint text words c = fingerprint (cardName text words c)
+
 -- ---- What the arrays hold.
 
 -- For each card the fingerprint of its name.
@@ -47,6 +51,13 @@ pub record Printed (text words prints : List ℕ) : Type 0 where
   pub prints-length : cardsUsed words ≤ length prints
   pub cards-most : cardsUsed words ≤ cardRoom
   pub words-length : wordsRoom ≤ length words
+
+-- Cards in rising order, whose fingerprints are at hand.
+pub record Cards (text words prints cards : List ℕ) : Type 0 where
+  pub printed : Printed text words prints
+  pub stored : (j : ℕ) → j < length cards → getD cards j 0 < cardsUsed words
+  pub rising : (i j : ℕ) → i < j → j < length cards → getD cards i 0 < getD cards j 0
+  pub few : length cards ≤ cardsUsed words
 
 -- What filling the arrays asks: a store that decodes, and room for its cards; one more heading marks the end.
 pub record IndexAsked (text words heads prints owners typeCards orphanCards extensionCards scratch : List ℕ) : Type 0 where

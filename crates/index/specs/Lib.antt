@@ -1,3 +1,2 @@
 -- What the arrays of a drawing hold.
 pub mod Index
-pub mod Turns

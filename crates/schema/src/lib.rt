@@ -94,7 +94,7 @@ fn draw_store(
     requires { ⌜ DrawAsked (now text) (now words) (now rows) (now errors) × IndexAsked (now text) (now words) (now heads) (now prints) (now owners) (now types) (now orphans) (now extensions) (now scratch) × (cardsUsed (now words) ≤ length (now starts)) × (cardsUsed (now words) ≤ length (now ends)) × (0 < length (now firsts)) ⌝ }
     ensures { λ r. ⌜ Drawn (now (text .entry)) (now (words .entry)) (now (rows .entry)) (now (errors .entry)) r (now (rows .exit)) (now (errors .exit)) ⌝ }
 {
-    let counts = index::index(
+    let counts = indexing::index(
         text,
         words,
         heads,

@@ -1,0 +1,4 @@
+pub mod Prints
+pub mod Heads
+pub mod Owners
+pub mod Told
