@@ -1,12 +1,10 @@
--- The lookups that fill a slice: 7 after 21, 22 and 26, and the outcome by the one number that is refused.
+-- The lookups that fill a slice: the outcome by the one number that is refused.
 use mathlib.Core.Path.{_≡_, refl, _∙_}
 use mathlib.Core.List.{List}
 use mathlib.Core.Bool.{Bool, true, false}
-use Prim.Native.Nat.{ℕ, _<_, _≤_}
-use native.Mathlib.Omega.{arith}
+use Prim.Native.Nat.{ℕ}
 use lib.Dec.{eqb, ltb}
 use lib.ListN.{length}
-use borrow.Author.Tests.{ne-eqb, lt-ltb, le-ltb, ltb-false}
 use Rattle.definition.specs.declared.Answer.{Answer}
 use Rattle.definition.specs.Lists.{choose, flatMap, written}
 use Rattle.definition.specs.Answers.{answer}
@@ -15,40 +13,8 @@ use Rattle.definition.specs.Store.{accountIn}
 use Rattle.definition.specs.LentRows.{held, lentRows}
 use Rattle.definition.specs.Lookups.{originList, extensionList, groups, groupWords}
 use Rattle.definition.specs.Outcomes.{ListOutcome, unlisted, listedIn, isShort, iter-origins, extensions, implementers-map}
-use Rattle.collection.specs.Refused.{lookupRefusal, listRefusal}
-use Rattle.collection.proofs.Refused.{Unrefused, both, unrefused, one-number, iter-origins-by, extensions-by, implementers-map-by, outcome-refused, outcome-done}
-
--- ---- The number, return by return. r is the number of the refusals before 7.
-
-module _ (text words rows : List ℕ) (room len r : ℕ) (e : r ≡ lookupRefusal text words rows) where
-  pub before-room : (r ≡ 0 → ⊥) → r ≡ listRefusal text words rows room len
-  unfolding listRefusal
-  before-room z = rw (← e, ne-eqb r 0 z)
-
-  pub no-room : r ≡ 0 → len < room → 7 ≡ listRefusal text words rows room len
-  unfolding listRefusal
-  no-room z h = rw (← e, z, lt-ltb len room h)
-
-  pub enough-room : r ≡ 0 → room ≤ len → 0 ≡ listRefusal text words rows room len
-  unfolding listRefusal
-  enough-room z h = rw (← e, z, le-ltb len room h)
-
--- ---- Nothing is refused.
-
-module _ (text words rows : List ℕ) (room len : ℕ) (z : listRefusal text words rows room len ≡ 0) where
-  parts : (lookupRefusal text words rows ≡ 0) × (choose {A = ℕ} (ltb len room) 7 0 ≡ 0)
-  unfolding listRefusal
-  parts = both (lookupRefusal text words rows) (choose (ltb len room) 7 0) z
-
-  pub list-unrefused : Unrefused text words rows
-  list-unrefused = unrefused text words rows (parts .0)
-
-  pub list-room : room ≤ len
-  list-room = go (ltb len room) refl (parts .1)
-    where
-      go : (b : Bool) → ltb len room ≡ b → _≡_ {A = ℕ} (choose b 7 0) 0 → room ≤ len
-      go true s e = absurd (omega arith)
-      go false s e = ltb-false len room s
+use Rattle.refusals.specs.Refused.{lookupRefusal, listRefusal}
+use Rattle.collection.proofs.Refused.{one-number, iter-origins-by, extensions-by, implementers-map-by, outcome-refused, outcome-done}
 
 -- ---- The outcome.
 

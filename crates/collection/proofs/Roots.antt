@@ -8,7 +8,7 @@ use Rattle.definition.specs.Store.{accountIn}
 use Rattle.definition.specs.LentRows.{held, lentRows}
 use Rattle.definition.specs.Lookups.{rootSpan}
 use Rattle.definition.specs.Outcomes.{noRoot, partOf, root-operation}
-use Rattle.collection.specs.Refused.{lookupRefusal}
+use Rattle.refusals.specs.Refused.{lookupRefusal}
 use Rattle.collection.proofs.Refused.{root-operation-by}
 
 module _ (text words rows : List ℕ) (op : OperationType) (n : ℕ) (e : n ≡ lookupRefusal text words rows) where

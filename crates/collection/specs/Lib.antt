@@ -1,7 +1,3 @@
--- What every lookup refuses first.
-pub mod Refused
--- What a drawing refuses after 21 and 22.
-pub mod Room
 -- What each entry promises, and that it is what demand 3 speaks of.
 pub mod Promised
 pub mod Statements

@@ -5,21 +5,7 @@ use definition::Drawing;
 use definition::FieldLookup;
 use definition::OperationType;
 use definition::SubtypeLookup;
-use definition::Tallies;
-use store_check::StoreCheck;
-ghost use mathlib.Core.Path.{_≡_};
-ghost use mathlib.Core.List.{[]};
-ghost use Rattle.definition.specs.Store.{storeRefusal};
-ghost use Rattle.definition.specs.Outcomes.{undrawn};
-ghost use Rattle.collection.specs.Refused.{lookupRefusal, listRefusal};
-ghost use Rattle.collection.specs.Room.{roomRefusal};
 ghost use Rattle.collection.specs.Promised.{Opens, Files, Adopts, Ignores, Builds, ChecksRows, NamesRoot, FindsField, TellsSubtype, ListsOrigins, ListsExtensions, MapsImplementers};
-
-// The words that 7 asks of a slice for rows.
-const ROWS_ROOM: usize = 6912;
-
-// The words that 7 asks of a slice for errors.
-const ERRORS_ROOM: usize = 6900;
 
 // The words that 7 asks of a slice for groups.
 const GROUPS_ROOM: usize = 9200;
@@ -55,87 +41,15 @@ pub fn ignore_builtin_redefinitions(text: &[u8], words: &mut [u32]) -> Answer
     store::ignore_builtin_redefinitions(text, words)
 }
 
-// The answer of a drawing that is refused: all counts and tallies are 0.
-fn refused_drawing(number: u32) -> Drawing
-    ensures { λ r. ⌜ r ≡ undrawn [] [] number .drawing ⌝ }
-{
-    let tallies = Tallies {
-        counts: [0u32; 16],
-        total: 0,
-    };
-    Drawing {
-        number,
-        rows: 0,
-        reading_errors: 0,
-        drawing_errors: 0,
-        tallies,
-    }
-}
-
-// 21 and 22, which every call but opening asks first. 0 where neither holds.
-fn store_refusal(text: &[u8], words: &[u32]) -> u32
-    ensures { λ r. ⌜ r ≡ storeRefusal (now (text .entry)) (now (words .entry)) ⌝ }
-{
-    let StoreCheck::Refused(number) = store_check::check_store(text, words) else {
-        return 0;
-    };
-    number
-}
-
-// 7 where a slice to be drawn into is too short, else 0.
-fn room_refusal(rows: usize, errors: usize) -> u32
-    ensures { λ r. ⌜ r ≡ roomRefusal rows errors ⌝ }
-{
-    if rows < ROWS_ROOM {
-        return 7;
-    }
-    if errors < ERRORS_ROOM {
-        return 7;
-    }
-    0
-}
-
 // Draws the store's documents: rows and errors, with their counts and tallies.
 pub fn build(text: &[u8], words: &[u32], rows: &mut [u32], errors: &mut [u32]) -> Drawing
     ensures { λ r. ⌜ Builds (now (text .entry)) (now (words .entry)) (now (rows .entry)) (now (errors .entry)) r (now (rows .exit)) (now (errors .exit)) ⌝ }
 {
-    let unsound = store_refusal(text, words);
-    let short = room_refusal(rows.len(), errors.len());
-    if unsound != 0 {
-        return refused_drawing(unsound);
-    }
-    if short != 0 {
-        return refused_drawing(short);
+    let number = refusals::draw_refusal(text, words, rows.len(), errors.len());
+    if number != 0 {
+        return refusals::refused_drawing(number);
     }
     schema::build_inner(text, words, rows, errors)
-}
-
-// 21, 22 and 26: what every lookup asks first. 0 where none holds.
-fn refusal(text: &[u8], words: &[u32], rows: &[u32]) -> u32
-    ensures { λ r. ⌜ r ≡ lookupRefusal (now (text .entry)) (now (words .entry)) (now (rows .entry)) ⌝ }
-{
-    let number = store_refusal(text, words);
-    if number != 0 {
-        return number;
-    }
-    if !rows_check::check_lent_rows(text, words, rows) {
-        return 26;
-    }
-    0
-}
-
-// What a lookup that fills a slice asks first: the same, and then 7, that the slice has the room.
-fn list_refusal(text: &[u8], words: &[u32], rows: &[u32], room: usize, len: usize) -> u32
-    ensures { λ r. ⌜ r ≡ listRefusal (now (text .entry)) (now (words .entry)) (now (rows .entry)) room len ⌝ }
-{
-    let earlier = refusal(text, words, rows);
-    if earlier != 0 {
-        return earlier;
-    }
-    if len < room {
-        return 7;
-    }
-    0
 }
 
 // What a lookup over this store and these rows is refused with, which tells a refused `root_operation` from one that found no root.
@@ -143,7 +57,7 @@ pub fn check_rows(text: &[u8], words: &[u32], rows: &[u32]) -> Answer
     ensures { λ r. ⌜ ChecksRows (now (text .entry)) (now (words .entry)) (now (rows .entry)) r ⌝ }
 {
     Answer {
-        number: refusal(text, words, rows),
+        number: refusals::refusal(text, words, rows),
         card: 0,
     }
 }
@@ -157,7 +71,7 @@ pub fn root_operation<'a>(
 ) -> &'a [u8]
     ensures { λ r. ⌜ NamesRoot (now (text .entry)) (now (words .entry)) (now (rows .entry)) op (now r) ⌝ }
 {
-    if refusal(text, words, rows) != 0 {
+    if refusals::refusal(text, words, rows) != 0 {
         return &text[0..0];
     }
     lookup::root_operation(text, words, rows, op)
@@ -173,7 +87,7 @@ pub fn type_field(
 ) -> FieldLookup
     ensures { λ r. ⌜ FindsField (now (text .entry)) (now (words .entry)) (now (rows .entry)) (now («type_name» .entry)) (now (field .entry)) r ⌝ }
 {
-    let number = refusal(text, words, rows);
+    let number = refusals::refusal(text, words, rows);
     if number != 0 {
         return FieldLookup::Refused(number);
     }
@@ -190,7 +104,7 @@ pub fn is_subtype(
 ) -> SubtypeLookup
     ensures { λ r. ⌜ TellsSubtype (now (text .entry)) (now (words .entry)) (now (rows .entry)) (now (general .entry)) (now (other .entry)) r ⌝ }
 {
-    let number = refusal(text, words, rows);
+    let number = refusals::refusal(text, words, rows);
     if number != 0 {
         return SubtypeLookup::Refused(number);
     }
@@ -201,7 +115,7 @@ pub fn is_subtype(
 pub fn iter_origins(text: &[u8], words: &[u32], rows: &[u32], list: &mut [u32]) -> Answer
     ensures { λ r. ⌜ ListsOrigins (now (text .entry)) (now (words .entry)) (now (rows .entry)) (now (list .entry)) r (now (list .exit)) ⌝ }
 {
-    let number = list_refusal(text, words, rows, ORIGINS_ROOM, list.len());
+    let number = refusals::list_refusal(text, words, rows, ORIGINS_ROOM, list.len());
     if number != 0 {
         return Answer { number, card: 0 };
     }
@@ -216,7 +130,7 @@ pub fn iter_origins(text: &[u8], words: &[u32], rows: &[u32], list: &mut [u32]) 
 pub fn extensions(text: &[u8], words: &[u32], rows: &[u32], list: &mut [u32]) -> Answer
     ensures { λ r. ⌜ ListsExtensions (now (text .entry)) (now (words .entry)) (now (rows .entry)) (now (list .entry)) r (now (list .exit)) ⌝ }
 {
-    let number = list_refusal(text, words, rows, ORIGINS_ROOM, list.len());
+    let number = refusals::list_refusal(text, words, rows, ORIGINS_ROOM, list.len());
     if number != 0 {
         return Answer { number, card: 0 };
     }
@@ -231,7 +145,7 @@ pub fn extensions(text: &[u8], words: &[u32], rows: &[u32], list: &mut [u32]) ->
 pub fn implementers_map(text: &[u8], words: &[u32], rows: &[u32], list: &mut [u32]) -> Answer
     ensures { λ r. ⌜ MapsImplementers (now (text .entry)) (now (words .entry)) (now (rows .entry)) (now (list .entry)) r (now (list .exit)) ⌝ }
 {
-    let number = list_refusal(text, words, rows, GROUPS_ROOM, list.len());
+    let number = refusals::list_refusal(text, words, rows, GROUPS_ROOM, list.len());
     if number != 0 {
         return Answer { number, card: 0 };
     }

@@ -1,7 +1,8 @@
 use mathlib.Core.Path.{sym, _∙_}
 use native.Mathlib.Omega.{arith}
 use Rattle.lookup.proofs.Room.{extensions-fit}
-use Rattle.collection.proofs.Listed.{list-unrefused, list-room, extensions-listed, list-refused, list-done}
+use Rattle.refusals.proofs.Listed.{list-unrefused, list-room}
+use Rattle.collection.proofs.Listed.{extensions-listed, list-refused, list-done}
 use Rattle.collection.proofs.extensions.Statement.{statement}
 use Rattle.collection.proofs.extensions.Tie as tie
 use borrow.Author.Needs.{needs}

@@ -1,5 +1,6 @@
 use mathlib.Core.Path.{sym, _∙_}
-use Rattle.collection.proofs.Listed.{list-unrefused, list-room, implementers-map-listed, list-refused, list-done}
+use Rattle.refusals.proofs.Listed.{list-unrefused, list-room}
+use Rattle.collection.proofs.Listed.{implementers-map-listed, list-refused, list-done}
 use Rattle.collection.proofs.implementers_map.Statement.{statement}
 use Rattle.collection.proofs.implementers_map.Tie as tie
 use borrow.Author.Needs.{needs}

@@ -1,6 +1,7 @@
 use mathlib.Core.Path.{sym, _∙_}
 use Rattle.definition.specs.declared.SubtypeLookup.the-variants.{Refused}
-use Rattle.collection.proofs.Refused.{unrefused, is-subtype-by, outcome-refused, outcome-done}
+use Rattle.refusals.proofs.Refused.{unrefused}
+use Rattle.collection.proofs.Refused.{is-subtype-by, outcome-refused, outcome-done}
 use Rattle.collection.proofs.is_subtype.Statement.{statement}
 use Rattle.collection.proofs.is_subtype.Tie as tie
 use borrow.Author.Needs.{needs}

@@ -1,7 +1,8 @@
 use mathlib.Core.Path.{sym, _∙_}
 use native.Mathlib.Omega.{arith}
 use Rattle.lookup.proofs.Room.{origins-fit}
-use Rattle.collection.proofs.Listed.{list-unrefused, list-room, iter-origins-listed, list-refused, list-done}
+use Rattle.refusals.proofs.Listed.{list-unrefused, list-room}
+use Rattle.collection.proofs.Listed.{iter-origins-listed, list-refused, list-done}
 use Rattle.collection.proofs.iter_origins.Statement.{statement}
 use Rattle.collection.proofs.iter_origins.Tie as tie
 use borrow.Author.Needs.{needs}

@@ -1,5 +1,5 @@
 use mathlib.Core.Path.{sym, _∙_}
-use Rattle.collection.proofs.Refused.{unrefused}
+use Rattle.refusals.proofs.Refused.{unrefused}
 use Rattle.collection.proofs.Roots.{root-refused, root-done}
 use borrow.Author.Needs.{needs}
 use Rattle.collection.proofs.root_operation.Statement.{statement}

@@ -1,6 +1,7 @@
 use mathlib.Core.Path.{sym, _∙_}
 use Rattle.definition.specs.declared.FieldLookup.the-variants.{Refused}
-use Rattle.collection.proofs.Refused.{unrefused, type-field-by, outcome-refused, outcome-done}
+use Rattle.refusals.proofs.Refused.{unrefused}
+use Rattle.collection.proofs.Refused.{type-field-by, outcome-refused, outcome-done}
 use Rattle.collection.proofs.type_field.Statement.{statement}
 use Rattle.collection.proofs.type_field.Tie as tie
 use borrow.Author.Needs.{needs}

@@ -1,6 +1,6 @@
-use Rattle.collection.proofs.Listed.{before-room, no-room, enough-room}
-use Rattle.collection.proofs.list_refusal.Statement.{statement}
-use Rattle.collection.proofs.list_refusal.Tie as tie
+use Rattle.refusals.proofs.Listed.{before-room, no-room, enough-room}
+use Rattle.refusals.proofs.list_refusal.Statement.{statement}
+use Rattle.refusals.proofs.list_refusal.Tie as tie
 use borrow.Author.Needs.{needs}
 
 refusal-requires : tie.Need-refusal-requires

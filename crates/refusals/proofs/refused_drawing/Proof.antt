@@ -1,7 +1,7 @@
 use borrow.Author.Needs.{needs}
 use Rattle.definition.specs.Outcomes.{undrawn}
-use Rattle.collection.proofs.refused_drawing.Statement.{statement}
-use Rattle.collection.proofs.refused_drawing.Tie as tie
+use Rattle.refusals.proofs.refused_drawing.Statement.{statement}
+use Rattle.refusals.proofs.refused_drawing.Tie as tie
 
 returns : tie.Need-returns
 unfolding undrawn

@@ -2,9 +2,9 @@ use mathlib.Core.Path.{sym, _∙_}
 use borrow.Author.Needs.{needs}
 use borrow.Author.Tests.{not-true, not-false}
 use Rattle.store_check.proofs.Sound.{accepted}
-use Rattle.collection.proofs.Refused.{store-refused, rows-refused, none-refused}
-use Rattle.collection.proofs.refusal.Statement.{statement}
-use Rattle.collection.proofs.refusal.Tie as tie
+use Rattle.refusals.proofs.Refused.{store-refused, rows-refused, none-refused}
+use Rattle.refusals.proofs.refusal.Statement.{statement}
+use Rattle.refusals.proofs.refusal.Tie as tie
 
 store-refusal-requires : tie.Need-store-refusal-requires
 store-refusal-requires c κs = search needs

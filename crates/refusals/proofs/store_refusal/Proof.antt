@@ -1,8 +1,8 @@
 use mathlib.Core.Path.{sym}
 use Rattle.store_check.proofs.Checked.{sound-store, refused-number}
 use borrow.Author.Needs.{needs}
-use Rattle.collection.proofs.store_refusal.Statement.{statement}
-use Rattle.collection.proofs.store_refusal.Tie as tie
+use Rattle.refusals.proofs.store_refusal.Statement.{statement}
+use Rattle.refusals.proofs.store_refusal.Tie as tie
 
 check-store-requires : tie.Need-check-store-requires
 check-store-requires c κs = search needs

@@ -1,0 +1,3 @@
+pub mod Listed
+pub mod Refused
+pub mod Room

@@ -1,0 +1,4 @@
+-- What every lookup refuses first.
+pub mod Refused
+-- What a drawing refuses.
+pub mod Room
