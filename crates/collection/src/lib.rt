@@ -74,7 +74,7 @@ pub fn root_operation<'a>(
     if refusals::refusal(text, words, rows) != 0 {
         return &text[0..0];
     }
-    lookup::root_operation(text, words, rows, op)
+    roots::root_operation(text, words, rows, op)
 }
 
 // The field of a type, by both names.
@@ -119,7 +119,7 @@ pub fn iter_origins(text: &[u8], words: &[u32], rows: &[u32], list: &mut [u32]) 
     if number != 0 {
         return Answer { number, card: 0 };
     }
-    let count = lookup::iter_origins(rows, list);
+    let count = origins::iter_origins(rows, list);
     Answer {
         number: 0,
         card: count,
@@ -134,7 +134,7 @@ pub fn extensions(text: &[u8], words: &[u32], rows: &[u32], list: &mut [u32]) ->
     if number != 0 {
         return Answer { number, card: 0 };
     }
-    let count = lookup::extensions(rows, list);
+    let count = origins::extensions(rows, list);
     Answer {
         number: 0,
         card: count,

@@ -22,11 +22,10 @@ use Rattle.definition.specs.Outcomes.{wordsOfRow}
 use Rattle.name.proofs.Laws.{same-sym}
 use Rattle.stored.specs.Stored.{storedParts}
 use Rattle.stored.proofs.Laws.{held-stored}
-use Rattle.rows_check.specs.Passing.{rowPasses}
-use Rattle.rows_check.specs.Rows.{rowAt}
-use Rattle.rows_check.proofs.Rows.{row-next, row-end}
-use Rattle.rows_check.proofs.Passing.{row-passed, contradiction}
-use Rattle.rows_check.proofs.Walk.{taken-next}
+use Rattle.rows_cards.specs.Passing.{rowPasses}
+use Rattle.rows_search.specs.Rows.{rowAt}
+use Rattle.rows_search.proofs.Rows.{row-next, row-end, contradiction, taken-next}
+use Rattle.rows_cards.proofs.Passing.{row-passed}
 use Rattle.rows_check.proofs.Room.{cardsOf, cards-without, cards-with, accepted, cards-room}
 use Rattle.implementers.specs.Gather.{news, named, gather, asRow, pairWords, implementersNamed, pairGroup, pairGroups}
 use Rattle.implementers.proofs.Gather.{any-snoc, news-nil, news-old, news-new, news-firsts, interfaces-same, gather-type, gather-outside, gather-other, gather-again, gather-new, gather-nil, gather-all}

@@ -17,13 +17,12 @@ use Rattle.definition.specs.Lookups.{isRowOf, isPartNamed}
 use Rattle.name.proofs.Laws.{same-self}
 use Rattle.stored.specs.Stored.{storedParts, cardName}
 use Rattle.stored.proofs.Words.{name-stored}
-use Rattle.rows_check.specs.Rows.{rowAt, foundFrom}
-use Rattle.rows_check.specs.declared.Found.the-variants.{Row as RowAt, Nothing}
-use Rattle.rows_check.proofs.Rows.{length-rows, row-next, never-row}
-use Rattle.rows_check.proofs.Passing.{contradiction}
-use Rattle.lookup.specs.declared.Located.{Located}
-use Rattle.lookup.specs.Search.{partFrom, locatedFrom}
-use Rattle.lookup.proofs.Search.{located}
+use Rattle.rows_search.specs.Rows.{rowAt, foundFrom}
+use Rattle.rows_search.specs.declared.Found.the-variants.{Row as RowAt, Nothing}
+use Rattle.rows_search.proofs.Rows.{length-rows, row-next, never-row, contradiction}
+use Rattle.rows_search.specs.declared.Located.{Located}
+use Rattle.rows_search.specs.Search.{partFrom, locatedFrom}
+use Rattle.rows_search.proofs.Search.{located}
 use Rattle.implementers.specs.Gather.{named, firstType, OwnerAt}
 
 -- ---- Lists.

@@ -10,7 +10,7 @@ use Rattle.definition.specs.Catalogue.{Row}
 use Rattle.definition.specs.LentRows.{isRowNamed, isTypeRow, isTypeRowNamed}
 use Rattle.definition.specs.Lookups.{Block, blocks, types, isBlockNamed, sameBlock, isRowOf, isPartNamed, Implementing, sameInterface, implementing, implementingOf, allImplementing}
 use Rattle.name.proofs.Laws.{same-equal}
-use Rattle.lookup.proofs.Search.{blocks-type, blocks-under, blocks-nil}
+use Rattle.rows_search.proofs.Search.{blocks-type, blocks-under, blocks-nil}
 use Rattle.implementers.specs.Gather.{news, named, gather}
 
 -- ---- Lists.

@@ -16,10 +16,10 @@ use Rattle.definition.specs.Lookups.{isRowOf, isPartNamed, originOf, sameInterf
 use Rattle.name.proofs.Laws.{same-self}
 use Rattle.stored.specs.Stored.{storedParts, cardName}
 use Rattle.stored.proofs.Words.{name-stored}
-use Rattle.rows_check.specs.Rows.{rowAt, foundFrom}
-use Rattle.rows_check.specs.declared.Found.the-variants.{Row as RowAt, Nothing}
-use Rattle.rows_check.proofs.Rows.{row-next, row-end}
-use Rattle.lookup.proofs.Listing.{Listing, listing-length, listing-same, drop-more}
+use Rattle.rows_search.specs.Rows.{rowAt, foundFrom}
+use Rattle.rows_search.specs.declared.Found.the-variants.{Row as RowAt, Nothing}
+use Rattle.rows_search.proofs.Rows.{row-next, row-end}
+use Rattle.rows_search.proofs.Listing.{Listing, listing-length, listing-same, drop-more}
 use Rattle.implementers.specs.Gather.{named, implementersNamed, pairGroup}
 use Rattle.implementers.proofs.Three.{three-room, three-pushed}
 use Rattle.implementers.proofs.Gather.{keep-yes, keep-no, keep-nil}

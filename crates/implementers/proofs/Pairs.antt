@@ -15,11 +15,10 @@ use Rattle.definition.specs.Catalogue.{Row}
 use Rattle.definition.specs.LentRows.{lentRows, isTypeRow, isTypeRowNamed}
 use Rattle.definition.specs.Lookups.{isRowOf, isPartNamed, Implementing, implementing, allImplementing}
 use Rattle.definition.specs.Outcomes.{wordsOfRow}
-use Rattle.rows_check.specs.Rows.{rowAt}
-use Rattle.rows_check.specs.declared.Found.{Found}
-use Rattle.rows_check.specs.declared.Found.the-variants.{Row as RowAt, Nothing}
-use Rattle.rows_check.proofs.Rows.{length-rows, row-next, row-end}
-use Rattle.rows_check.proofs.Walk.{taken-next}
+use Rattle.rows_search.specs.Rows.{rowAt}
+use Rattle.rows_search.specs.declared.Found.{Found}
+use Rattle.rows_search.specs.declared.Found.the-variants.{Row as RowAt, Nothing}
+use Rattle.rows_search.proofs.Rows.{length-rows, row-next, row-end, taken-next}
 use Rattle.implementers.specs.Gather.{named, firstType, gather, ownerRow, underOwner, OwnerAt, OwnerIs, asRow, pairWords, pairsLeft}
 use Rattle.implementers.proofs.Gather.{any-nil, any-snoc, gather-type, gather-outside, gather-other, gather-again, gather-new, gather-nil, gather-all}
 use Rattle.implementers.proofs.Firsts.{taken-length}

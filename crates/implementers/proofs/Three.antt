@@ -4,7 +4,7 @@ use mathlib.Core.List.{List, _∷_}
 use Prim.Native.Nat.{ℕ, _+_, _≤_}
 use native.Mathlib.Omega.{arith}
 use lib.ListN.{length, set, length-set}
-use Rattle.lookup.proofs.Listing.{Listing, listing-push, listing-length}
+use Rattle.rows_search.proofs.Listing.{Listing, listing-push, listing-length}
 
 module _ (list₀ list : List ℕ) (n a b c : ℕ) (rest whole : List ℕ) (l : Listing list₀ list n (a ∷ (b ∷ (c ∷ rest))) whole) (room : length whole ≤ length list₀) where
   pub three-room : n + 3 ≤ length list

@@ -12,9 +12,9 @@ use Rattle.definition.specs.Catalogue.{Row, row}
 use Rattle.definition.specs.LentRows.{nameNumbered, lentRows, isRowNamed, isTypeRow, isTypeRowNamed}
 use Rattle.definition.specs.Lookups.{isRowOf, isPartNamed, originOf, sameInterface, Implementing, implementing}
 use Rattle.definition.specs.Outcomes.{wordsOfRow}
-use Rattle.rows_check.specs.Rows.{rowAt}
-use Rattle.rows_check.specs.declared.Found.{Found}
-use Rattle.rows_check.specs.declared.Found.the-variants.{Row as RowAt, Nothing}
+use Rattle.rows_search.specs.Rows.{rowAt}
+use Rattle.rows_search.specs.declared.Found.{Found}
+use Rattle.rows_search.specs.declared.Found.the-variants.{Row as RowAt, Nothing}
 
 -- The elements that are like none before them, where the elements of `pre` stand before the list: unlike in `firsts`, all of them do, kept or not.
 unfoldable pub news : {A : Type 0} → (A → A → Bool) → List A → List A → List A

@@ -1,5 +1,5 @@
 // implementers_map of schema/mod.rs: which objects and interfaces list an interface.
-use rows_check::Found;
+use rows_search::Found;
 ghost use mathlib.Core.Path.{_≡_};
 ghost use mathlib.Core.Bool.{true, not};
 ghost use mathlib.Core.List.{[]};
@@ -12,7 +12,7 @@ ghost use Rattle.definition.specs.Store.{accountIn, sound};
 ghost use Rattle.definition.specs.LentRows.{lentRows, nameNumbered, isRowNamed, held, rowsRefusal};
 ghost use Rattle.definition.specs.Lookups.{isRowOf, isPartNamed, sameInterface, allImplementing, groups, groupWords};
 ghost use Rattle.stored.specs.Stored.{storedParts};
-ghost use Rattle.rows_check.specs.Rows.{rowAt, foundFrom};
+ghost use Rattle.rows_search.specs.Rows.{rowAt, foundFrom};
 ghost use Rattle.implementers.specs.Gather.{firstType, OwnerAt, pairWords, news, implementersNamed, pairGroup, pairGroups};
 
 // The type row, if it is the first of its name.
@@ -21,7 +21,7 @@ fn first_type(text: &[u8], words: &[u32], rows: &[u32], i: usize) -> Found
     ensures { λ r. ⌜ r ≡ firstType (storedParts (now (text .entry)) (now (words .entry))) (lentRows (now (rows .entry))) (rowAt (now (rows .entry)) i) i ⌝ }
 {
     let name = stored::card_name(text, words, rows[3 * i + 1] as usize);
-    let Found::Row(first) = rows_check::find_type(text, words, rows, name) else {
+    let Found::Row(first) = rows_search::find_type(text, words, rows, name) else {
         return Found::Nothing;
     };
     if first == i {
@@ -37,7 +37,7 @@ fn is_first_interface(text: &[u8], words: &[u32], rows: &[u32], t: usize, i: usi
 {
     let owner = stored::card_name(text, words, rows[3 * t + 1] as usize);
     let name = stored::card_name(text, words, rows[3 * i + 1] as usize);
-    let located = lookup::find_part(text, words, rows, owner, 21, name);
+    let located = rows_search::find_part(text, words, rows, owner, 21, name);
     let part = located.part;
     let Found::Row(listed) = part else {
         return false;
@@ -67,7 +67,7 @@ fn collect(text: &[u8], words: &[u32], rows: &[u32], pairs: &mut [u32]) -> usize
     let mut i = 0;
     while i < count {
         let what = rows[3 * i];
-        if rows_check::is_type(what) {
+        if rows_search::is_type(what) {
             owner = first_type(text, words, rows, i);
             i += 1;
             continue;
@@ -97,7 +97,7 @@ fn find_interface(text: &[u8], words: &[u32], pairs: &[u32], name: &[u8]) -> Fou
     let count = pairs.len() / 3;
     let mut i = 0;
     while i < count {
-        if rows_check::is_named(text, words, pairs[3 * i + 1], name) {
+        if rows_search::is_named(text, words, pairs[3 * i + 1], name) {
             return Found::Row(i);
         }
         i += 1;
@@ -126,7 +126,7 @@ fn count_kind(text: &[u8], words: &[u32], pairs: &[u32], name: &[u8], kind: u32)
     let mut n: u32 = 0;
     let mut i = 0;
     while i < count {
-        if !lookup::is_part_named(text, words, pairs[3 * i], pairs[3 * i + 1], kind, name) {
+        if !rows_search::is_part_named(text, words, pairs[3 * i], pairs[3 * i + 1], kind, name) {
             i += 1;
             continue;
         }
@@ -152,7 +152,7 @@ fn push_implementers(
     let mut n = start;
     let mut i = 0;
     while i < count {
-        if !rows_check::is_named(text, words, pairs[3 * i + 1], name) {
+        if !rows_search::is_named(text, words, pairs[3 * i + 1], name) {
             i += 1;
             continue;
         }

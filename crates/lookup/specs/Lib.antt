@@ -1,2 +1,1 @@
--- What the search over lent rows finds.
-pub mod Search
+pub mod Answers

@@ -16,8 +16,10 @@ use Rattle.definition.specs.LentRows.{lentRows, orderPasses, sameCard, rowsRefu
 use Rattle.stored.specs.Stored.{storedParts}
 use Rattle.stored.proofs.Lists.{chosen-true}
 use Rattle.stored.proofs.Laws.{cards-fit}
-use Rattle.rows_check.specs.Passing.{rowPasses, orderedFrom, onceFrom, restPasses, hasCard}
-use Rattle.rows_check.proofs.Passing.{card-is, card-stored, row-passed, contradiction}
+use Rattle.rows_cards.specs.Passing.{rowPasses}
+use Rattle.rows_check.specs.Walk.{orderedFrom, onceFrom, restPasses, hasCard}
+use Rattle.rows_cards.proofs.Passing.{card-is, card-stored, row-passed}
+use Rattle.rows_search.proofs.Rows.{contradiction}
 use Rattle.rows_check.proofs.Walk.{once-next, once-bad, any-snoc, present-same, whole, not-whole}
 
 -- ---- Numbers below a bound, each at most once.

@@ -3,12 +3,11 @@ use mathlib.Core.Path.{_≡_, refl, sym, _∙_, ap}
 use mathlib.Core.List.{List, [], _∷_, _++_}
 use mathlib.Core.Bool.{Bool, true, false, _&&_, _||_, not}
 use mathlib.Core.Option.{none, some}
-use Prim.Native.Nat.{ℕ, zero, suc, _+_, _*_, _/_, _%_, _≤_, _<_}
-use native.Mathlib.Numerals.{add-one}
+use Prim.Native.Nat.{ℕ, _+_, _*_, _/_, _%_, _≤_, _<_}
 use native.Mathlib.Omega.{arith}
 use borrow.Author.Tests.{eq-eqb, ne-eqb, eqb-true, eqb-false, le-leb, not-true, not-false}
 use lib.Dec.{eqb}
-use lib.ListN.{length, take, drop, getD, getElem?, set, replicate, length-replicate, getD-replicate, length-set}
+use lib.ListN.{length, take, drop, getD, set, replicate, length-replicate, getD-replicate, length-set}
 use lib.Seq.{getD-set-same, getD-set-other}
 use Rattle.definition.specs.Lists.{choose, found, any, all, isEmpty, firstWhere, repeats}
 use Rattle.definition.specs.Answers.{absent}
@@ -20,10 +19,12 @@ use Rattle.definition.specs.Store.{accountIn, sound}
 use Rattle.definition.specs.LentRows.{lentRows, isTypeRow, rowOrder, inOrder, orderPasses, sameCard, cardsOnce, cardPasses, cardsPass, originPasses, originsPass, defaultRootPasses, defaultRootsPass, rowClauses, passes, rowsRefusal}
 use Rattle.stored.specs.Stored.{storedParts}
 use Rattle.stored.proofs.Laws.{held-stored, cards-fit}
-use Rattle.rows_check.specs.Rows.{rowAt}
-use Rattle.rows_check.specs.Passing.{isStanding, inPlace, fits, kindAfter, placeAfter, rowPasses, isFree, marked, orderedFrom, onceFrom, restPasses, hasCard, Marked}
-use Rattle.rows_check.proofs.Rows.{row-get, row-next, row-end}
-use Rattle.rows_check.proofs.Passing.{type-most, card-is, card-stored, row-passed}
+use Rattle.rows_search.specs.Rows.{rowAt}
+use Rattle.rows_order.specs.Order.{isStanding, inPlace, fits, kindAfter, placeAfter}
+use Rattle.rows_cards.specs.Passing.{rowPasses, isFree, marked}
+use Rattle.rows_check.specs.Walk.{orderedFrom, onceFrom, restPasses, hasCard, Marked}
+use Rattle.rows_search.proofs.Rows.{row-next, row-end, taken-next}
+use Rattle.rows_cards.proofs.Passing.{type-most, card-is, card-stored, row-passed}
 
 -- ---- The order.
 
@@ -297,17 +298,6 @@ module _ (text words rows : List ℕ) (ok : sound text words ≡ true) where
   not-whole e = rw (ne-eqb (length rows % 3) 0 e)
 
 -- ---- The same at a row of a number.
-
-pub taken-next : (rows : List ℕ) (i : ℕ) → i < length rows / 3 → take (i + 1) (lentRows rows) ≡ take i (lentRows rows) ++ (rowAt rows i ∷ [])
-taken-next rows i h = take-get (lentRows rows) i (rowAt rows i) (row-get rows i h)
-  where
-    take-get : (xs : List Row) (i : ℕ) (x : Row) → getElem? xs i ≡ some x → take (i + 1) xs ≡ take i xs ++ (x ∷ [])
-    take-get xs i x e = rw add-one (go xs i e)
-      where
-        go : (xs : List Row) (i : ℕ) → getElem? xs i ≡ some x → take (suc i) xs ≡ take i xs ++ (x ∷ [])
-        go [] i e = absurd (let z : _≡_ {A = ℕ} 0 1 = cc in omega arith)
-        go (y ∷ xs) zero e = let q : y ≡ x = cc in ap (λ (y : Row). y ∷ []) q
-        go (y ∷ xs) (suc i) e = ap (λ (l : List Row). y ∷ l) (go xs i e)
 
 module _ (text words rows : List ℕ) (k p i : ℕ) (h : i < length rows / 3) where
   pub walk-order : fits k p (getD rows (3 * i) 0) ≡ false → restPasses (storedParts text words) (lentRows rows) k p (take i (lentRows rows)) (drop i (lentRows rows)) ≡ false

@@ -1,3 +1,1 @@
--- What the searches over lent rows find.
-pub mod Rows
-pub mod Passing
+pub mod Walk

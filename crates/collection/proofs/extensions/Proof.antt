@@ -1,6 +1,6 @@
 use mathlib.Core.Path.{sym, _∙_}
 use native.Mathlib.Omega.{arith}
-use Rattle.lookup.proofs.Room.{extensions-fit}
+use Rattle.origins.proofs.Room.{extensions-fit}
 use Rattle.refusals.proofs.Listed.{list-unrefused, list-room}
 use Rattle.collection.proofs.Listed.{extensions-listed, list-refused, list-done}
 use Rattle.collection.proofs.extensions.Statement.{statement}

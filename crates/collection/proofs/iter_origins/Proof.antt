@@ -1,6 +1,6 @@
 use mathlib.Core.Path.{sym, _∙_}
 use native.Mathlib.Omega.{arith}
-use Rattle.lookup.proofs.Room.{origins-fit}
+use Rattle.origins.proofs.Room.{origins-fit}
 use Rattle.refusals.proofs.Listed.{list-unrefused, list-room}
 use Rattle.collection.proofs.Listed.{iter-origins-listed, list-refused, list-done}
 use Rattle.collection.proofs.iter_origins.Statement.{statement}

@@ -8,8 +8,8 @@ use lib.ListN.{getD}
 use Rattle.definition.specs.LentRows.{lentRows}
 use Rattle.definition.specs.Lookups.{allImplementing}
 use Rattle.stored.specs.Stored.{storedParts}
-use Rattle.rows_check.specs.declared.Found.the-variants.{Row as RowAt}
-use Rattle.lookup.proofs.Listing.{Listing, listing-start, listing-same, listing-done}
+use Rattle.rows_search.specs.declared.Found.the-variants.{Row as RowAt}
+use Rattle.rows_search.proofs.Listing.{Listing, listing-start, listing-same, listing-done}
 use Rattle.implementers.specs.Gather.{OwnerAt, OwnerIs, pairWords, pairsLeft}
 use Rattle.implementers.proofs.Pairs.{pairs-start, pairs-end, type-left, type-owner, owner-kept, owner-next, owner-at, left-outside, left-other, left-again, left-new}
 use Rattle.implementers.proofs.Three.{three-room, three-pushed}

@@ -8,7 +8,7 @@ use Rattle.definition.specs.Lists.{keep}
 use Rattle.definition.specs.LentRows.{lentRows}
 use Rattle.definition.specs.Lookups.{isPartNamed}
 use Rattle.stored.specs.Stored.{storedParts}
-use Rattle.lookup.proofs.Search.{part-any}
+use Rattle.rows_search.proofs.Search.{part-any}
 use Rattle.implementers.proofs.Groups.{keep-here, keep-over, counted}
 use Rattle.implementers.proofs.count_kind.Statement.{statement}
 use Rattle.implementers.proofs.count_kind.Tie as tie

@@ -5,8 +5,8 @@ use native.Mathlib.Omega.{arith}
 use lib.ListN.{drop}
 use Rattle.definition.specs.LentRows.{lentRows, isRowNamed}
 use Rattle.stored.specs.Stored.{storedParts}
-use Rattle.rows_check.specs.Rows.{foundFrom}
-use Rattle.rows_check.proofs.Rows.{found-hit, found-miss, found-end, row-named}
+use Rattle.rows_search.specs.Rows.{foundFrom}
+use Rattle.rows_search.proofs.Rows.{found-hit, found-miss, found-end, row-named}
 use Rattle.implementers.proofs.find_interface.Statement.{statement}
 use Rattle.implementers.proofs.find_interface.Tie as tie
 use borrow.Author.Needs.{needs}

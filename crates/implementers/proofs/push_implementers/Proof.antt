@@ -7,8 +7,8 @@ use borrow.Author.Tests.{not-true, not-false}
 use lib.ListN.{take, drop}
 use Rattle.definition.specs.LentRows.{lentRows}
 use Rattle.stored.specs.Stored.{storedParts}
-use Rattle.rows_check.proofs.Rows.{row-named}
-use Rattle.lookup.proofs.Listing.{Listing, listing-push, listing-same, listing-room}
+use Rattle.rows_search.proofs.Rows.{row-named}
+use Rattle.rows_search.proofs.Listing.{Listing, listing-push, listing-same, listing-room}
 use Rattle.implementers.specs.Gather.{implementersNamed}
 use Rattle.implementers.proofs.Groups.{from-start, from-room, from-done, implementers-end, implementers-here, implementers-over}
 use Rattle.implementers.proofs.push_implementers.Statement.{statement}

@@ -8,8 +8,8 @@ use lib.ListN.{length}
 use Rattle.definition.specs.LentRows.{lentRows}
 use Rattle.definition.specs.Lookups.{sameInterface}
 use Rattle.stored.specs.Stored.{storedParts}
-use Rattle.rows_check.specs.Rows.{rowAt}
-use Rattle.lookup.proofs.Listing.{Listing, listing-start, listing-same, listing-done}
+use Rattle.rows_search.specs.Rows.{rowAt}
+use Rattle.rows_search.proofs.Listing.{Listing, listing-start, listing-same, listing-done}
 use Rattle.implementers.specs.Gather.{news, pairGroup, pairGroups}
 use Rattle.implementers.proofs.Groups.{part-room, part-written}
 use Rattle.implementers.proofs.All.{groupsLeft, countLeft, left-start, left-end, left-over, left-here}

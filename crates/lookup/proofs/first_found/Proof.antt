@@ -1,7 +1,7 @@
 -- By the first answer's case.
 use mathlib.Core.Path.{sym, ap}
 use Rattle.definition.specs.declared.FieldLookup.{FieldLookup}
-use Rattle.lookup.specs.Search.{firstFound}
+use Rattle.lookup.specs.Answers.{firstFound}
 use Rattle.lookup.proofs.first_found.Statement.{statement}
 use Rattle.lookup.proofs.first_found.Tie as tie
 use borrow.Author.Needs.{needs}

@@ -4,7 +4,7 @@ use Prim.Native.Nat.{_/_, _<_}
 use native.Mathlib.Omega.{arith}
 use lib.ListN.{length}
 use denote.Ref.{now}
-use Rattle.lookup.specs.Search.{firstFound}
+use Rattle.lookup.specs.Answers.{firstFound}
 use Rattle.lookup.proofs.Answers.{field-no-type, field-type-inside, part-inside, field-answer}
 use Rattle.lookup.proofs.type_field.Statement.{statement}
 use Rattle.lookup.proofs.type_field.Tie as tie

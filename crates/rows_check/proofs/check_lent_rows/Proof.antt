@@ -9,7 +9,8 @@ use lib.ListN.{take, drop}
 use Rattle.definition.specs.Store.{accountIn}
 use Rattle.definition.specs.LentRows.{lentRows, rowsRefusal}
 use Rattle.stored.specs.Stored.{storedParts}
-use Rattle.rows_check.specs.Passing.{isStanding, restPasses, Marked}
+use Rattle.rows_order.specs.Order.{isStanding}
+use Rattle.rows_check.specs.Walk.{restPasses, Marked}
 use Rattle.rows_check.proofs.Walk.{not-whole, whole, marked-start, marked-same, walk-order, walk-row, walk-card, mark-room, walk-marks, walk-next, walk-end, standing-next}
 use Rattle.rows_check.proofs.check_lent_rows.Statement.{statement}
 use Rattle.rows_check.proofs.check_lent_rows.Tie as tie
