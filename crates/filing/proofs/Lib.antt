@@ -1,3 +1,1 @@
-mod Copied
-mod Moved
 pub mod Filed

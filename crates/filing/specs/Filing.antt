@@ -1,22 +1,13 @@
--- What the copying functions ask and leave.
+-- What filing and opening ask.
 use mathlib.Core.Path.{_≡_}
 use mathlib.Core.List.{List}
-use mathlib.Core.Bool.{_&&_}
 use Prim.Native.Nat.{ℕ, _+_, _<_, _≤_, _/_, _%_}
-use lib.Dec.{eqb}
 use lib.ListN.{length}
-use Rattle.definition.specs.Lists.{All, choose}
-use Rattle.definition.specs.Cards.{Card, cardWords, cardsOf}
+use Rattle.definition.specs.Lists.{All}
+use Rattle.definition.specs.Cards.{cardWords, cardsOf}
 use Rattle.definition.specs.Refusals.{textRoom, documentRoom, cardRoom}
 use Rattle.definition.specs.Store.{wordsRoom, documentCount, textUsed, cardsUsed}
-
--- A card whose offsets are at most n, so that they can be moved.
-abbrev pub Within : ℕ → Card → Type 0
-Within n c = (c .itemAt ≤ n) × (c .nameAt ≤ n)
-
--- Where a name is stored that stands at `at` in a text stored at `base`.
-unfoldable pub movedName : ℕ → ℕ → ℕ → ℕ
-movedName base at len = choose (eqb len 0 && eqb at 0) at (at + base)
+use Rattle.copying.specs.Moving.{Within}
 
 -- A store of the stated size has room for the lent text and cards, which are whole cards with offsets within the text's room.
 pub record Fits (text words lent cards : List ℕ) : Type 0 where

@@ -78,7 +78,7 @@ fn copy_name(found: &[u8], name: &mut [u8]) -> usize
     if name.len() < found.len() {
         return found.len();
     }
-    filing::copy_text(name, found);
+    copying::copy_text(name, found);
     found.len()
 }
 

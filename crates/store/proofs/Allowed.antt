@@ -5,11 +5,10 @@ use mathlib.Core.Bool.{Bool, true, false}
 use mathlib.Core.Option.{Option, none, some}
 use Prim.Native.Nat.{ℕ, _+_, _/_, _%_, _<_, _≤_}
 use native.Mathlib.Omega.{arith}
-use lib.Dec.{ltb}
 use lib.ListN.{length}
-use borrow.Author.Tests.{eqb-true, ltb-false, lt-ltb, le-ltb, le-leb, lt-leb, not-false}
+use borrow.Author.Tests.{eqb-true, le-leb, lt-leb, not-false}
 use Rattle.definition.specs.declared.Answer.{Answer}
-use Rattle.definition.specs.Lists.{All, choose, orElse}
+use Rattle.definition.specs.Lists.{All, choose}
 use Rattle.definition.specs.Answers.{answer}
 use Rattle.definition.specs.Cards.{Card, cardsOf, isPart, faultFrom, cardFault, brokenCards, documentFault}
 use Rattle.definition.specs.Headings.{Document}
@@ -19,8 +18,10 @@ use Rattle.store_check.proofs.Sound.{documents-held, text-held, cards-held}
 use Rattle.definition.proofs.CleanCards.{clean-part, clean-heading}
 use Rattle.store.proofs.Clean.{item-in-text, name-in-text}
 use Rattle.store_check.proofs.Checked.{SoundStore}
-use Rattle.filing.specs.Filing.{Within, Fits, Opens}
-use Rattle.store.specs.Room.{roomFor}
+use Rattle.copying.specs.Moving.{Within}
+use Rattle.filing.specs.Filing.{Fits, Opens}
+use Rattle.room.specs.Room.{roomFor}
+use Rattle.room.proofs.Enough.{room-left}
 use Rattle.filing.proofs.Filed.{count-cards}
 
 -- ---- A document that passes 1 to 5.
@@ -58,28 +59,6 @@ module _ (lent cards : List ℕ) (e : documentFault lent cards ≡ none) where
   within-text n l = fine-within lent (length lent) n 0 none none (cardsOf cards) l (parts .1)
 
 -- ---- 24 and 25.
-
-module _ (t c l k : ℕ) where
-  pub text-full : 65536 < t + l → some (answer 24 0) ≡ roomFor t c l k
-  unfolding roomFor refuse
-  text-full h = rw (lt-ltb 65536 (t + l) h)
-
-  pub cards-full : t + l ≤ 65536 → 2300 < c + k → some (answer 25 0) ≡ roomFor t c l k
-  unfolding roomFor refuse
-  cards-full h q = rw (le-ltb 65536 (t + l) h, lt-ltb 2300 (c + k) q)
-
-  pub enough : t + l ≤ 65536 → c + k ≤ 2300 → none ≡ roomFor t c l k
-  unfolding roomFor refuse
-  enough h q = rw (le-ltb 65536 (t + l) h, le-ltb 2300 (c + k) q)
-
-  two-none : (a b : Bool) → orElse (choose a (some (answer 24 0)) none) (choose b (some (answer 25 0)) none) ≡ none → (a ≡ false) × (b ≡ false)
-  two-none true b e = absurd (let z : _≡_ {A = ℕ} 0 1 = cc in omega arith)
-  two-none false true e = absurd (let z : _≡_ {A = ℕ} 0 1 = cc in omega arith)
-  two-none false false e = (refl, refl)
-
-  room-left : roomFor t c l k ≡ none → (t + l ≤ 65536) × (c + k ≤ 2300)
-  unfolding roomFor refuse
-  room-left e = let q = two-none (ltb 65536 (t + l)) (ltb 2300 (c + k)) e in (ltb-false _ _ (q .0), ltb-false _ _ (q .1))
 
 room-for : (ds : List Document) (lent cards : List ℕ) → roomRefusal ds (document false lent cards) ≡ roomFor (textHeld ds) (cardsHeld ds) (length lent) (length cards / 5)
 unfolding roomRefusal roomFor document

@@ -1,47 +1,23 @@
 // Opening a store, filing documents into it and turning its switches on: SchemaBuilder's `new`, `add_ast` and its two switches.
-use ast::CARD_WORDS;
 use card_check::CardCheck;
 use definition::Answer;
+use room::Room;
 use store_check::StoreCheck;
 use store_check::TEXT_ROOM;
 use store_check::WORDS_ROOM;
 ghost use mathlib.Core.Path.{_≡_};
-ghost use Prim.Native.Nat.{_≤_, _/_};
-ghost use lib.ListN.{length, set};
+ghost use Prim.Native.Nat.{_≤_};
+ghost use lib.ListN.{set};
 ghost use Rattle.definition.specs.Answers.{answer};
 ghost use Rattle.definition.specs.Outcomes.{open-store, add-ast, turned, adopt-orphan-extensions, ignore-builtin-redefinitions};
-ghost use Rattle.store.specs.Room.{roomOption, roomFor};
 
 // How many documents a store holds.
 const DOCUMENT_ROOM: u32 = 64;
-
-// How many cards it holds.
-const CARD_ROOM: usize = 2300;
 
 // Where the two switches stand among the store's words.
 const ADOPT_AT: usize = 1;
 
 const IGNORE_AT: usize = 2;
-
-// There is room for a document, or it is refused with this number.
-enum Room {
-    Enough,
-    Refused(u32),
-}
-
-// 24 and 25. What is left is compared, since a lent document may be of any length.
-fn check_room(text_used: u32, cards_used: u32, lent: &[u8], cards: &[u32]) -> Room
-    requires { ⌜ («text_used» ≤ 65536) × («cards_used» ≤ 2300) ⌝ }
-    ensures { λ r. ⌜ roomOption r ≡ roomFor «text_used» «cards_used» (length (now (lent .entry))) (length (now (cards .entry)) / 5) ⌝ }
-{
-    if TEXT_ROOM - (text_used as usize) < lent.len() {
-        return Room::Refused(24);
-    }
-    if CARD_ROOM - (cards_used as usize) < cards.len() / CARD_WORDS {
-        return Room::Refused(25);
-    }
-    Room::Enough
-}
 
 // The answer of a call that is not refused.
 fn accepted() -> Answer
@@ -72,7 +48,7 @@ pub fn open(text: &mut [u8], words: &mut [u32], lent: &[u8], cards: &[u32]) -> A
     if let CardCheck::Faulty(answer) = built_in::check_built_in(lent, cards) {
         return answer;
     }
-    if let Room::Refused(number) = check_room(0, 0, lent, cards) {
+    if let Room::Refused(number) = room::check_room(0, 0, lent, cards) {
         return Answer { number, card: 0 };
     }
     filing::file_built_in(text, words, lent, cards);
@@ -95,7 +71,7 @@ pub fn add_ast(text: &mut [u8], words: &mut [u32], lent: &[u8], cards: &[u32]) -
             card: 0,
         };
     }
-    if let Room::Refused(number) = check_room(words[3], words[4], lent, cards) {
+    if let Room::Refused(number) = room::check_room(words[3], words[4], lent, cards) {
         return Answer { number, card: 0 };
     }
     filing::file(text, words, lent, cards);

@@ -3,7 +3,7 @@ use native.Mathlib.Omega.{arith}
 use Rattle.definition.specs.Store.{documentCount, textUsed, cardsUsed}
 use Rattle.card_check.specs.Checks.{checkOption}
 use Rattle.store_check.proofs.Checked.{sound-store, refused-number, refused-store}
-use Rattle.store.specs.Room.{roomOption}
+use Rattle.room.specs.Room.{roomOption}
 use Rattle.store.proofs.Allowed.{filing-faulty, filing-full, filing-room, fits}
 use Rattle.store.proofs.Entries.{add-unsound, add-refused, add-done}
 use Rattle.store.proofs.add_ast.Statement.{statement}

@@ -10,8 +10,8 @@ use lib.Seq.{drop-drop, getD-drop}
 use Rattle.definition.specs.Lists.{All, written, flatMap, chunks}
 use Rattle.definition.specs.Cards.{cardFrom, cardsFrom, cardsOf, wordsOfCard, isUnnamed}
 use Rattle.definition.specs.Store.{moved, movedWords}
-use Rattle.filing.specs.Filing.{Within, movedName}
-use Rattle.filing.proofs.Copied.{front-written, take-sets, drop-sets, drop-more}
+use Rattle.copying.specs.Moving.{Within, movedName}
+use Rattle.copying.proofs.Copied.{front-written, take-sets, drop-sets, drop-more}
 
 -- ---- The cards from the word i on.
 

@@ -1,7 +1,7 @@
 use native.Mathlib.Omega.{arith}
-use Rattle.filing.proofs.Copied.{tail-written}
-use Rattle.filing.proofs.append_text.Statement.{statement}
-use Rattle.filing.proofs.append_text.Tie as tie
+use Rattle.copying.proofs.Copied.{tail-written}
+use Rattle.copying.proofs.append_text.Statement.{statement}
+use Rattle.copying.proofs.append_text.Tie as tie
 use borrow.Author.Needs.{needs}
 
 sub-copy-text : tie.Need-sub-copy-text

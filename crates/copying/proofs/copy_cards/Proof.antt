@@ -6,10 +6,10 @@ use lib.ListN.{length, take, drop}
 use Rattle.definition.specs.Lists.{All}
 use Rattle.definition.specs.Cards.{cardsOf}
 use Rattle.definition.specs.Store.{movedWords}
-use Rattle.filing.specs.Filing.{Within}
-use Rattle.filing.proofs.Moved.{within-item, within-name, within-next, moved-turn, moved-kept, moved-all}
-use Rattle.filing.proofs.copy_cards.Statement.{statement}
-use Rattle.filing.proofs.copy_cards.Tie as tie
+use Rattle.copying.specs.Moving.{Within}
+use Rattle.copying.proofs.Moved.{within-item, within-name, within-next, moved-turn, moved-kept, moved-all}
+use Rattle.copying.proofs.copy_cards.Statement.{statement}
+use Rattle.copying.proofs.copy_cards.Tie as tie
 use borrow.Author.Needs.{needs}
 
 abbrev Inv-loop : tie.InvT-loop

@@ -3,9 +3,9 @@ use mathlib.Core.Path.{_≡_, refl, _∙_}
 use native.Mathlib.Omega.{arith}
 use lib.ListN.{length, length-set}
 use lib.Seq.{paste}
-use Rattle.filing.proofs.Copied.{copied-none, copied-next, copied-all}
-use Rattle.filing.proofs.copy_text.Statement.{statement}
-use Rattle.filing.proofs.copy_text.Tie as tie
+use Rattle.copying.proofs.Copied.{copied-none, copied-next, copied-all}
+use Rattle.copying.proofs.copy_text.Statement.{statement}
+use Rattle.copying.proofs.copy_text.Tie as tie
 use borrow.Author.Needs.{needs}
 
 abbrev Inv-loop : tie.InvT-loop

@@ -1,9 +1,9 @@
 use native.Mathlib.Omega.{arith}
 use Rattle.definition.specs.Cards.{cardsOf}
 use Rattle.definition.specs.Store.{movedWords}
-use Rattle.filing.proofs.Copied.{tail-written}
-use Rattle.filing.proofs.append_cards.Statement.{statement}
-use Rattle.filing.proofs.append_cards.Tie as tie
+use Rattle.copying.proofs.Copied.{tail-written}
+use Rattle.copying.proofs.append_cards.Statement.{statement}
+use Rattle.copying.proofs.append_cards.Tie as tie
 use borrow.Author.Needs.{needs}
 
 mul-copy-cards : tie.Need-mul-copy-cards

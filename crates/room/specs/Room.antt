@@ -6,8 +6,8 @@ use Rattle.definition.specs.declared.Answer.{Answer}
 use Rattle.definition.specs.Lists.{orElse}
 use Rattle.definition.specs.Answers.{answer}
 use Rattle.definition.specs.Refusals.{textRoom, cardRoom, refuse}
-use Rattle.store.specs.declared.Room.{Room}
-use Rattle.store.specs.declared.Room.the-variants.{Enough, Refused}
+use Rattle.room.specs.declared.Room.{Room}
+use Rattle.room.specs.declared.Room.the-variants.{Enough, Refused}
 
 abbrev pub roomOption : Room → Option Answer
 roomOption Enough = none

@@ -1,7 +1,7 @@
 use borrow.Author.Tests.{eq-eqb, ne-eqb}
-use Rattle.filing.specs.Filing.{movedName}
-use Rattle.filing.proofs.moved_name.Statement.{statement}
-use Rattle.filing.proofs.moved_name.Tie as tie
+use Rattle.copying.specs.Moving.{movedName}
+use Rattle.copying.proofs.moved_name.Statement.{statement}
+use Rattle.copying.proofs.moved_name.Tie as tie
 use borrow.Author.Needs.{needs}
 
 returns : tie.Need-returns

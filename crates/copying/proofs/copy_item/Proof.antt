@@ -1,7 +1,7 @@
 use native.Mathlib.Omega.{arith}
 use lib.ListN.{length-set}
-use Rattle.filing.proofs.copy_item.Statement.{statement}
-use Rattle.filing.proofs.copy_item.Tie as tie
+use Rattle.copying.proofs.copy_item.Statement.{statement}
+use Rattle.copying.proofs.copy_item.Tie as tie
 use borrow.Author.Needs.{needs}
 
 mul-unused : tie.Need-mul-unused

@@ -1,7 +1,7 @@
 use native.Mathlib.Omega.{arith}
 use lib.ListN.{length-set}
-use Rattle.filing.proofs.copy_name.Statement.{statement}
-use Rattle.filing.proofs.copy_name.Tie as tie
+use Rattle.copying.proofs.copy_name.Statement.{statement}
+use Rattle.copying.proofs.copy_name.Tie as tie
 use borrow.Author.Needs.{needs}
 
 add-at : tie.Need-add-at

@@ -1,0 +1,2 @@
+mod Copied
+mod Moved
