@@ -3,25 +3,25 @@ use mathlib.Core.Path.{_≡_, refl, sym, _∙_}
 use mathlib.Core.List.{List, [], _∷_}
 use mathlib.Core.Bool.{Bool, true, false}
 use mathlib.Core.Option.{Option, none, some}
-use Prim.Native.Nat.{ℕ, _+_, _/_, _%_, _<_, _≤_}
+use Prim.Native.Nat.{ℕ, _+_, _/_, _%_, _≤_}
 use native.Mathlib.Omega.{arith}
 use lib.ListN.{length}
-use borrow.Author.Tests.{eqb-true, le-leb, lt-leb, not-false}
+use borrow.Author.Tests.{eqb-true, not-false}
 use Rattle.definition.specs.declared.Answer.{Answer}
 use Rattle.definition.specs.Lists.{All, choose}
 use Rattle.definition.specs.Answers.{answer}
 use Rattle.definition.specs.Cards.{Card, cardsOf, isPart, faultFrom, cardFault, brokenCards, documentFault}
 use Rattle.definition.specs.Headings.{Document}
-use Rattle.definition.specs.Refusals.{textHeld, cardsHeld, document, zeroFault, refuse, roomRefusal, openingRefusal, filingRefusal}
-use Rattle.definition.specs.Store.{accountIn, documentCount, textUsed, cardsUsed}
+use Rattle.definition.specs.Refusals.{textHeld, cardsHeld, document, zeroFault, roomRefusal, openingRefusal, filingRefusal}
+use Rattle.definition.specs.Store.{accountIn}
 use Rattle.store_check.proofs.Sound.{documents-held, text-held, cards-held}
 use Rattle.definition.proofs.CleanCards.{clean-part, clean-heading}
 use Rattle.store.proofs.Clean.{item-in-text, name-in-text}
 use Rattle.store_check.proofs.Checked.{SoundStore}
 use Rattle.copying.specs.Moving.{Within}
 use Rattle.filing.specs.Filing.{Fits, Opens}
-use Rattle.room.specs.Room.{roomFor}
-use Rattle.room.proofs.Enough.{room-left}
+use Rattle.filing_check.specs.Room.{roomFor, lentRefusal}
+use Rattle.filing_check.proofs.Enough.{room-left, unrefused}
 use Rattle.filing.proofs.Filed.{count-cards}
 
 -- ---- A document that passes 1 to 5.
@@ -94,33 +94,21 @@ module _ (lent cards : List ℕ) where
 
 -- ---- Filing.
 
-module _ (text words lent cards : List ℕ) where
-  pub filing-faulty : (a : Answer) → documentFault lent cards ≡ some a → filingRefusal (accountIn text words) lent cards ≡ some a
-  unfolding filingRefusal
-  filing-faulty a e = rw e
+module _ (text words lent cards : List ℕ) (s : SoundStore text words) where
+  pub same-refusal : filingRefusal (accountIn text words) lent cards ≡ lentRefusal words lent cards
+  unfolding filingRefusal lentRefusal
+  same-refusal =
+      rw (room-for (accountIn text words .documents) lent cards, documents-held text words, text-held text words (s .textLong) (s .sound), cards-held text words (s .sound))
 
-  module _ (s : SoundStore text words) (f : documentFault lent cards ≡ none) where
-    pub filing-full : 64 ≤ documentCount words → filingRefusal (accountIn text words) lent cards ≡ some (answer 23 0)
-    unfolding filingRefusal refuse
-    filing-full h = rw (f, documents-held text words, le-leb 64 (documentCount words) h)
-
-    pub filing-room : (o : Option Answer) → documentCount words < 64 → o ≡ roomFor (textUsed words) (cardsUsed words) (length lent) (length cards / 5) →
-        filingRefusal (accountIn text words) lent cards ≡ o
-    unfolding filingRefusal refuse
-    filing-room o h e =
-        rw (f, documents-held text words, lt-leb 64 (documentCount words) h)
-        (room-for (accountIn text words .documents) lent cards
-        ∙ rw (text-held text words (s .textLong) (s .sound), cards-held text words (s .sound)) (sym e))
-
-    pub fits : documentCount words < 64 → none ≡ roomFor (textUsed words) (cardsUsed words) (length lent) (length cards / 5) → Fits text words lent cards
-    fits h e =
-        let q = room-left (textUsed words) (cardsUsed words) (length lent) (length cards / 5) (sym e) in
-        record {
-          textLong = s .textLong;
-          wordsLong = s .wordsLong;
-          few = h;
-          textFits = q .0;
-          cardsFit = q .1;
-          whole = whole-cards lent cards f;
-          within = within-text lent cards f 65536 (omega arith);
-        }
+  pub fits : lentRefusal words lent cards ≡ none → Fits text words lent cards
+  fits e =
+      let q = unrefused words lent cards e in
+      record {
+        textLong = s .textLong;
+        wordsLong = s .wordsLong;
+        few = q .few;
+        textFits = q .textFits;
+        cardsFit = q .cardsFit;
+        whole = whole-cards lent cards (q .sound);
+        within = within-text lent cards (q .sound) 65536 (omega (arith, q .textFits));
+      }

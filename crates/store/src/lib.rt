@@ -1,7 +1,7 @@
 // Opening a store, filing documents into it and turning its switches on: SchemaBuilder's `new`, `add_ast` and its two switches.
 use card_check::CardCheck;
 use definition::Answer;
-use room::Room;
+use filing_check::Room;
 use store_check::StoreCheck;
 use store_check::TEXT_ROOM;
 use store_check::WORDS_ROOM;
@@ -10,9 +10,6 @@ ghost use Prim.Native.Nat.{_≤_};
 ghost use lib.ListN.{set};
 ghost use Rattle.definition.specs.Answers.{answer};
 ghost use Rattle.definition.specs.Outcomes.{open-store, add-ast, turned, adopt-orphan-extensions, ignore-builtin-redefinitions};
-
-// How many documents a store holds.
-const DOCUMENT_ROOM: u32 = 64;
 
 // Where the two switches stand among the store's words.
 const ADOPT_AT: usize = 1;
@@ -48,7 +45,7 @@ pub fn open(text: &mut [u8], words: &mut [u32], lent: &[u8], cards: &[u32]) -> A
     if let CardCheck::Faulty(answer) = built_in::check_built_in(lent, cards) {
         return answer;
     }
-    if let Room::Refused(number) = room::check_room(0, 0, lent, cards) {
+    if let Room::Refused(number) = filing_check::check_room(0, 0, lent, cards) {
         return Answer { number, card: 0 };
     }
     filing::file_built_in(text, words, lent, cards);
@@ -62,17 +59,8 @@ pub fn add_ast(text: &mut [u8], words: &mut [u32], lent: &[u8], cards: &[u32]) -
     if let StoreCheck::Refused(number) = store_check::check_store(text, words) {
         return Answer { number, card: 0 };
     }
-    if let CardCheck::Faulty(answer) = card_check::check_document(lent, cards) {
+    if let CardCheck::Faulty(answer) = filing_check::check_filing(words, lent, cards) {
         return answer;
-    }
-    if words[0] >= DOCUMENT_ROOM {
-        return Answer {
-            number: 23,
-            card: 0,
-        };
-    }
-    if let Room::Refused(number) = room::check_room(words[3], words[4], lent, cards) {
-        return Answer { number, card: 0 };
     }
     filing::file(text, words, lent, cards);
     accepted()

@@ -1,9 +1,9 @@
 use Prim.Native.Nat.{_/_}
 use native.Mathlib.Omega.{arith}
 use lib.ListN.{length}
-use Rattle.room.proofs.Enough.{text-full, cards-full, enough}
-use Rattle.room.proofs.check_room.Statement.{statement}
-use Rattle.room.proofs.check_room.Tie as tie
+use Rattle.filing_check.proofs.Enough.{text-full, cards-full, enough}
+use Rattle.filing_check.proofs.check_room.Statement.{statement}
+use Rattle.filing_check.proofs.check_room.Tie as tie
 use borrow.Author.Needs.{needs}
 
 sub-if1 : tie.Need-sub-if1
