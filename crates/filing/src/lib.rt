@@ -1,8 +1,8 @@
 // What opening and filing write: a document's text, cards and row into the unused part of the store, and the counts.
 use ast::CARD_WORDS;
 use store_check::CARDS_AT;
-use store_check::ROW_WORDS;
-use store_check::ROWS_AT;
+use store_counts::ROW_WORDS;
+use store_counts::ROWS_AT;
 ghost use mathlib.Core.Path.{_≡_};
 ghost use Prim.Native.Nat.{_+_, _≤_};
 ghost use lib.ListN.{length, set};

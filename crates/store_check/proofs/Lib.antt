@@ -1,6 +1,4 @@
-pub mod Rows
-pub mod Counts
 pub mod Sound
-pub mod Cards
-pub mod Zero
+mod Cards
+mod Zero
 pub mod Checked

@@ -1,8 +1,8 @@
 use mathlib.Core.Path.{sym}
 use Rattle.definition.specs.Store.{documentCount, adoptWord, ignoreWord, textUsed, cardsUsed}
-use Rattle.store_check.proofs.Counts.{none-held, many-held, adopt-high, ignore-high, text-high, cards-last}
-use Rattle.store_check.proofs.counts_sound.Statement.{statement}
-use Rattle.store_check.proofs.counts_sound.Tie as tie
+use Rattle.store_counts.proofs.Counts.{none-held, many-held, adopt-high, ignore-high, text-high, cards-last}
+use Rattle.store_counts.proofs.counts_sound.Statement.{statement}
+use Rattle.store_counts.proofs.counts_sound.Tie as tie
 use borrow.Author.Needs.{needs}
 
 shared-slice-read-if1 : tie.Need-shared-slice-read-if1

@@ -3,9 +3,9 @@ use mathlib.Core.Path.{sym}
 use native.Mathlib.Omega.{arith}
 use lib.ListN.{length}
 use Rattle.definition.specs.Store.{documentCount, textUsed, cardsUsed, ignoreWord}
-use Rattle.store_check.proofs.Rows.{Passed, passed-none, passed-next, untouched, fallen, zero-ignored, text-uncounted, cards-uncounted, all-passed}
-use Rattle.store_check.proofs.rows_sound.Statement.{statement}
-use Rattle.store_check.proofs.rows_sound.Tie as tie
+use Rattle.store_counts.proofs.Rows.{Passed, passed-none, passed-next, untouched, fallen, zero-ignored, text-uncounted, cards-uncounted, all-passed}
+use Rattle.store_counts.proofs.rows_sound.Statement.{statement}
+use Rattle.store_counts.proofs.rows_sound.Tie as tie
 use borrow.Author.Needs.{needs}
 
 abbrev Inv-loop : tie.InvT-loop

@@ -1,0 +1,2 @@
+mod Counts
+pub mod Rows
