@@ -8,7 +8,7 @@ use native.Mathlib.Omega.{arith}
 use lib.Dec.{eqb, leb}
 use lib.ListN.{drop, getD}
 use lib.Seq.{drop-drop, getD-drop}
-use borrow.Author.Tests.{eq-eqb, ne-eqb, le-leb, lt-leb}
+use borrow.Author.Tests.{eq-eqb, ne-eqb, eqb-true, eqb-false, le-leb, lt-leb, leb-true, leb-false}
 use Rattle.definition.specs.Lists.{chunks}
 use Rattle.definition.specs.Store.{StoredRow, rowFrom, storedRows, documentCount, textUsed, cardsUsed, ignoreWord, rowsTouch, cardsCounted, switchesRise, zeroUnignored, rowsSound}
 
@@ -77,7 +77,7 @@ rise-fallen : (switch last : ℕ) (r : StoredRow) (rs : List StoredRow) → r .i
 unfolding switchesRise
 rise-fallen switch last r rs h = rw (lt-leb last (r .ignored) h)
 
-pub passed-next : (words : List ℕ) (at cards ignored row : ℕ) → row < documentCount words → getD words (5 + 4 * row) 0 ≡ at → ignored ≤ getD words (5 + 4 * row + 3) 0 →
+passed-next : (words : List ℕ) (at cards ignored row : ℕ) → row < documentCount words → getD words (5 + 4 * row) 0 ≡ at → ignored ≤ getD words (5 + 4 * row + 3) 0 →
     Passed words at cards ignored row →
     Passed words (at + getD words (5 + 4 * row + 1) 0) (cards + getD words (5 + 4 * row + 2) 0) (getD words (5 + 4 * row + 3) 0) (row + 1)
 unfolding rowAt
@@ -119,17 +119,35 @@ and-true true = refl
 and-true false = refl
 
 module _ (words : List ℕ) where
-  pub untouched : (at cards ignored row : ℕ) → row < documentCount words → (getD words (5 + 4 * row) 0 ≡ at → ⊥) → Passed words at cards ignored row →
+  untouched : (at cards ignored row : ℕ) → row < documentCount words → (getD words (5 + 4 * row) 0 ≡ at → ⊥) → Passed words at cards ignored row →
       rowsSound words (storedRows words) ≡ false
   unfolding rowAt
   untouched at cards ignored row h e p =
       touch-fails words (storedRows words) (p .touch ∙ ap (rowsTouch (textUsed words) at) (rows-next words row h) ∙ touch-other (textUsed words) at (rowAt words row) (rowsFrom words (row + 1)) e)
 
-  pub fallen : (at cards ignored row : ℕ) → row < documentCount words → getD words (5 + 4 * row + 3) 0 < ignored → Passed words at cards ignored row →
+  fallen : (at cards ignored row : ℕ) → row < documentCount words → getD words (5 + 4 * row + 3) 0 < ignored → Passed words at cards ignored row →
       rowsSound words (storedRows words) ≡ false
   unfolding rowAt
   fallen at cards ignored row h k p =
       rise-fails words (storedRows words) (p .rise ∙ ap (switchesRise (ignoreWord words) ignored) (rows-next words row h) ∙ rise-fallen (ignoreWord words) ignored (rowAt words row) (rowsFrom words (row + 1)) k)
+
+  -- The row's test, as the code asks it.
+  pub misfollows : (at cards ignored row : ℕ) → row < documentCount words → (eqb (getD words (5 + 4 * row) 0) at && leb ignored (getD words (5 + 4 * row + 3) 0)) ≡ false → Passed words at cards ignored row →
+      rowsSound words (storedRows words) ≡ false
+  misfollows at cards ignored row h e p = go (eqb (getD words (5 + 4 * row) 0) at) refl e
+    where
+      go : (b : Bool) → eqb (getD words (5 + 4 * row) 0) at ≡ b → (b && leb ignored (getD words (5 + 4 * row + 3) 0)) ≡ false → rowsSound words (storedRows words) ≡ false
+      go true q k = fallen at cards ignored row h (leb-false _ _ k) p
+      go false q k = untouched at cards ignored row h (eqb-false _ _ q) p
+
+  pub follows : (at cards ignored row : ℕ) → row < documentCount words → (eqb (getD words (5 + 4 * row) 0) at && leb ignored (getD words (5 + 4 * row + 3) 0)) ≡ true → Passed words at cards ignored row →
+      Passed words (at + getD words (5 + 4 * row + 1) 0) (cards + getD words (5 + 4 * row + 2) 0) (getD words (5 + 4 * row + 3) 0) (row + 1)
+  follows at cards ignored row h e p = go (eqb (getD words (5 + 4 * row) 0) at) refl e
+    where
+      go : (b : Bool) → eqb (getD words (5 + 4 * row) 0) at ≡ b → (b && leb ignored (getD words (5 + 4 * row + 3) 0)) ≡ true →
+          Passed words (at + getD words (5 + 4 * row + 1) 0) (cards + getD words (5 + 4 * row + 2) 0) (getD words (5 + 4 * row + 3) 0) (row + 1)
+      go true q k = passed-next words at cards ignored row h (eqb-true _ _ q) (leb-true _ _ k) p
+      go false q k = absurd (let z : _≡_ {A = ℕ} 0 1 = cc in omega arith)
 
   zero-row : 0 < documentCount words → zeroUnignored (storedRows words) ≡ eqb (getD words 8 0) 0
   unfolding zeroUnignored rowAt
@@ -151,14 +169,14 @@ module _ (words : List ℕ) where
     unfolding switchesRise
     rise-end = p .rise ∙ ap (switchesRise (ignoreWord words) ignored) (rows-none words row h)
 
-    pub text-uncounted : (at ≡ textUsed words → ⊥) → rowsSound words (storedRows words) ≡ false
-    text-uncounted e = touch-fails words (storedRows words) (touch-end ∙ ne-eqb at (textUsed words) e)
-
-    pub cards-uncounted : (cards ≡ cardsUsed words → ⊥) → rowsSound words (storedRows words) ≡ false
-    cards-uncounted e = counted-fails words (storedRows words) (counted-end ∙ ne-eqb cards (cardsUsed words) e)
-
-    pub all-passed : at ≡ textUsed words → cards ≡ cardsUsed words → 0 < documentCount words → getD words 8 0 ≡ 0 →
-        leb ignored (ignoreWord words) ≡ rowsSound words (storedRows words)
+    pub all-passed : 0 < documentCount words → getD words 8 0 ≡ 0 → (eqb at (textUsed words) && eqb cards (cardsUsed words) && leb ignored (ignoreWord words)) ≡ rowsSound words (storedRows words)
     unfolding rowsSound
-    all-passed t k d z =
-        sym (rw (touch-end ∙ eq-eqb at (textUsed words) t, counted-end ∙ eq-eqb cards (cardsUsed words) k, rise-end, zero-row d ∙ eq-eqb (getD words 8 0) 0 z) (and-true _))
+    all-passed d z = sym (rw (touch-end, counted-end, rise-end, zero-row d ∙ eq-eqb (getD words 8 0) 0 z) (and-true _))
+
+-- ---- The two tests, return by return.
+
+pub other-start : (x at : ℕ) (b : Bool) → (x ≡ at → ⊥) → (eqb x at && b) ≡ false
+other-start x at b e = rw (ne-eqb x at e)
+
+pub same-start : (x at : ℕ) (b : Bool) → x ≡ at → (eqb x at && b) ≡ b
+same-start x at b e = rw (eq-eqb x at e)
