@@ -15,8 +15,9 @@ use Rattle.definition.specs.Catalogue.{defaultRoots}
 use Rattle.definition.specs.Errors.{Error, error, headingError, clash, clashes, directiveErrors, redefinitionErrors, typeErrors, lateExtensionErrors, typeExtensionErrors, errorsAt, reading, noSchemaErrors, drawing}
 use Rattle.definition.specs.Merge.{draw}
 use Rattle.definition.specs.Refusals.{isBarred, barredFrom, document, errorAlone, zeroFault}
-use Rattle.built_in.proofs.Searches.{fails-heading, fails-other, fails-part}
-use Rattle.built_in.specs.Alone.{typeNamed, alikeCards, headingFails, cardFails, seenAfter, failsFrom, sixAt}
+use Rattle.card_errors.specs.Fails.{typeNamed, alikeCards, headingFails, cardFails}
+use Rattle.card_errors.proofs.Fails.{fails-heading, fails-other, fails-part}
+use Rattle.built_in.specs.Alone.{seenAfter, failsFrom, sixAt}
 
 -- ---- Lists.
 

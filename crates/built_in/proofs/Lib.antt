@@ -1,2 +1,2 @@
-pub mod Searches
-pub mod Alone
+mod Searches
+mod Alone

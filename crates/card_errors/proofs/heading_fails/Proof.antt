@@ -1,8 +1,8 @@
 use mathlib.Core.Path.{sym}
 use Rattle.ast.specs.Cards.{cardOf}
-use Rattle.built_in.proofs.Searches.{fails-executable, fails-directive, fails-type}
-use Rattle.built_in.proofs.heading_fails.Statement.{statement}
-use Rattle.built_in.proofs.heading_fails.Tie as tie
+use Rattle.card_errors.proofs.Fails.{fails-executable, fails-directive, fails-type}
+use Rattle.card_errors.proofs.heading_fails.Statement.{statement}
+use Rattle.card_errors.proofs.heading_fails.Tie as tie
 use borrow.Author.Needs.{needs}
 
 returns : tie.Need-returns

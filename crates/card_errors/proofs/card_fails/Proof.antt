@@ -1,11 +1,11 @@
 use mathlib.Core.Path.{sym, ap, _∙_}
 use borrow.Author.Tests.{not-true, not-false}
 use Rattle.ast.specs.Cards.{cardOf}
-use Rattle.built_in.specs.declared.Under.{Under}
-use Rattle.built_in.specs.Alone.{seenOf}
-use Rattle.built_in.proofs.Searches.{fails-heading, fails-other, fails-part}
-use Rattle.built_in.proofs.card_fails.Statement.{statement}
-use Rattle.built_in.proofs.card_fails.Tie as tie
+use Rattle.card_errors.specs.declared.Under.{Under}
+use Rattle.card_errors.specs.Fails.{seenOf}
+use Rattle.card_errors.proofs.Fails.{fails-heading, fails-other, fails-part}
+use Rattle.card_errors.proofs.card_fails.Statement.{statement}
+use Rattle.card_errors.proofs.card_fails.Tie as tie
 use borrow.Author.Needs.{needs}
 
 is-part-requires : tie.Need-is-part-requires

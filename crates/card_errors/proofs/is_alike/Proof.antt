@@ -1,8 +1,8 @@
 use mathlib.Core.Path.{sym, _∙_}
 use Rattle.ast.specs.Cards.{cardOf}
-use Rattle.built_in.proofs.Searches.{alike-kinds, alike-roots, alike-directives, alike-names}
-use Rattle.built_in.proofs.is_alike.Statement.{statement}
-use Rattle.built_in.proofs.is_alike.Tie as tie
+use Rattle.card_errors.proofs.Fails.{alike-kinds, alike-roots, alike-directives, alike-names}
+use Rattle.card_errors.proofs.is_alike.Statement.{statement}
+use Rattle.card_errors.proofs.is_alike.Tie as tie
 use borrow.Author.Needs.{needs}
 
 returns : tie.Need-returns

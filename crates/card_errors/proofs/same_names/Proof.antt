@@ -1,6 +1,6 @@
 use Rattle.definition.specs.Headings.{nameOf}
-use Rattle.built_in.proofs.same_names.Statement.{statement}
-use Rattle.built_in.proofs.same_names.Tie as tie
+use Rattle.card_errors.proofs.same_names.Statement.{statement}
+use Rattle.card_errors.proofs.same_names.Tie as tie
 use borrow.Author.Needs.{needs}
 
 cast-a-at : tie.Need-cast-a-at

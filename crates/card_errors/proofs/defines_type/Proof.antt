@@ -1,9 +1,9 @@
 use mathlib.Core.Path.{sym, _∙_}
 use borrow.Author.Tests.{not-true, not-false}
 use Rattle.ast.specs.Cards.{cardOf}
-use Rattle.built_in.proofs.Searches.{type-other, type-same}
-use Rattle.built_in.proofs.defines_type.Statement.{statement}
-use Rattle.built_in.proofs.defines_type.Tie as tie
+use Rattle.card_errors.proofs.Fails.{type-other, type-same}
+use Rattle.card_errors.proofs.defines_type.Statement.{statement}
+use Rattle.card_errors.proofs.defines_type.Tie as tie
 use borrow.Author.Needs.{needs}
 
 is-type-requires : tie.Need-is-type-requires

@@ -4,10 +4,10 @@ use lib.ListN.{drop}
 use Rattle.definition.specs.Lists.{any}
 use Rattle.definition.specs.Cards.{cardWords, cardsFrom}
 use Rattle.ast.specs.Cards.{cardOf}
-use Rattle.built_in.specs.Alone.{alikeCards}
-use Rattle.built_in.proofs.Searches.{any-hit, any-next, any-end}
-use Rattle.built_in.proofs.part_before.Statement.{statement}
-use Rattle.built_in.proofs.part_before.Tie as tie
+use Rattle.card_errors.specs.Fails.{alikeCards}
+use Rattle.card_errors.proofs.Fails.{any-hit, any-next, any-end}
+use Rattle.card_errors.proofs.part_before.Statement.{statement}
+use Rattle.card_errors.proofs.part_before.Tie as tie
 use borrow.Author.Needs.{needs}
 
 abbrev Inv-loop : tie.InvT-loop

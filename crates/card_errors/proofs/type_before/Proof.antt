@@ -5,10 +5,10 @@ use Rattle.definition.specs.Lists.{any}
 use Rattle.definition.specs.Cards.{cardWords, cardsFrom}
 use Rattle.ast.specs.Cards.{cardOf}
 use Rattle.definition.specs.Headings.{nameOf}
-use Rattle.built_in.specs.Alone.{typeNamed}
-use Rattle.built_in.proofs.Searches.{any-all, any-hit, any-next, any-end}
-use Rattle.built_in.proofs.type_before.Statement.{statement}
-use Rattle.built_in.proofs.type_before.Tie as tie
+use Rattle.card_errors.specs.Fails.{typeNamed}
+use Rattle.card_errors.proofs.Fails.{any-all, any-hit, any-next, any-end}
+use Rattle.card_errors.proofs.type_before.Statement.{statement}
+use Rattle.card_errors.proofs.type_before.Tie as tie
 use borrow.Author.Needs.{needs}
 
 abbrev Inv-loop : tie.InvT-loop
