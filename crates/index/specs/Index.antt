@@ -10,7 +10,7 @@ use Rattle.definition.specs.Lists.{keep, firsts}
 use Rattle.definition.specs.Names.{sameName}
 use Rattle.definition.specs.Headings.{Part, Heading, isTypeDefinition, isTypeExtension, sameNamed, types, orphans, definition, numberOf}
 use Rattle.definition.specs.Refusals.{cardRoom}
-use Rattle.definition.specs.Store.{cardsUsed, wordsRoom, sound}
+use Rattle.definition.specs.Store.{cardsUsed, wordsRoom}
 use Rattle.stored.specs.Stored.{storedParts, storedHeadings, cardName}
 
 -- ---- Fingerprints.
@@ -32,16 +32,16 @@ partPrint p = fingerprint (p .name)
 unfoldable pub sameCards : List ℕ → List ℕ → ℕ → ℕ → Bool
 sameCards text words a b = sameName (cardName text words a) (cardName text words b)
 
+-- The fingerprint of a stored card's name.
+unfoldable pub cardPrint : List ℕ → List ℕ → ℕ → ℕ
+cardPrint text words c = fingerprint (cardName text words c)
+
 unfoldable pub headingNumber : Heading → ℕ
 headingNumber h = h .number
 
 -- The headings that define or extend a type.
 unfoldable pub isTyped : Heading → Bool
 isTyped h = isTypeDefinition h || isTypeExtension h
-
--- The fingerprint of a stored card's name.
-unfoldable pub cardPrint : List ℕ → List ℕ → ℕ → ℕ
-cardPrint text words c = fingerprint (cardName text words c)
 
 -- ---- What the arrays hold.
 
@@ -58,18 +58,6 @@ pub record Cards (text words prints cards : List ℕ) : Type 0 where
   pub stored : (j : ℕ) → j < length cards → getD cards j 0 < cardsUsed words
   pub rising : (i j : ℕ) → i < j → j < length cards → getD cards i 0 < getD cards j 0
   pub few : length cards ≤ cardsUsed words
-
--- What filling the arrays asks: a store that decodes, and room for its cards; one more heading marks the end.
-pub record IndexAsked (text words heads prints owners typeCards orphanCards extensionCards scratch : List ℕ) : Type 0 where
-  pub store-sound : sound text words ≡ true
-  pub words-length : wordsRoom ≤ length words
-  pub heads-length : cardsUsed words < length heads
-  pub prints-length : cardsUsed words ≤ length prints
-  pub owners-length : cardsUsed words ≤ length owners
-  pub types-length : cardsUsed words ≤ length typeCards
-  pub orphans-length : cardsUsed words ≤ length orphanCards
-  pub extensions-length : cardsUsed words ≤ length extensionCards
-  pub scratch-length : cardsUsed words ≤ length scratch
 
 -- How far each array is used: m headings, t types, o names of orphans, e extensions.
 pub record Indexed (text words heads prints owners typeCards orphanCards extensionCards : List ℕ) (m t o e : ℕ) : Type 0 where

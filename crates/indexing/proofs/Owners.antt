@@ -22,6 +22,13 @@ use Rattle.type_index.specs.Types.{isTypeCard, TypesAre}
 use Rattle.extension_index.specs.Extensions.{extendsType, isExtensionCard, isUnowned, ExtensionsAsked, ExtensionsAre, OrphansAsked, OrphansAre}
 use Rattle.indexing.specs.Steps.{OwnersAsked, OwnersAre}
 
+-- The part of an array that a step used fits into it.
+pub from-zero : (n : ℕ) → 0 ≤ n
+from-zero n = omega arith
+
+pub part-fits : (used cards stored before after : ℕ) → used ≤ cards → cards ≤ stored → stored ≤ before → after ≡ before → used ≤ after
+part-fits used cards stored before after h k l e = omega arith
+
 -- A definition's kind is no extension's.
 pub type-no-extension : (words : List ℕ) (c : ℕ) → isTypeCard words c ≡ true → isExtensionCard words c ≡ false
 unfolding isTypeCard isExtensionCard isType extendsType

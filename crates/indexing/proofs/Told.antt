@@ -3,7 +3,8 @@ use mathlib.Core.Path.{_≡_, refl, sym, _∙_, ap}
 use mathlib.Core.List.{List, [], _∷_, map}
 use mathlib.Core.Bool.{Bool, true, false, _&&_, _||_}
 use mathlib.Core.Option.{Option, none, some}
-use Prim.Native.Nat.{ℕ, _≤_, _<_}
+use Prim.Native.Nat.{ℕ, _-_, _≤_, _<_}
+use native.Mathlib.Nat.{sub-zero}
 use native.Mathlib.Omega.{arith}
 use lib.Dec.{eqb, leb}
 use lib.ListN.{length, take, getD, getElem?, length-map}
@@ -22,13 +23,15 @@ use Rattle.stored.proofs.Words.{headings-at}
 use Rattle.stored.proofs.Laws.{cards-fit, heading-first}
 use Rattle.index.proofs.Spans.{all-named}
 use Rattle.indexing.proofs.Heads.{heads-chain, chain-stored, chain-rising}
-use Rattle.index.specs.Index.{Cards, Printed, sameCards, Indexed, IndexAsked, headingNumber, isTyped}
+use Rattle.index.specs.Index.{Cards, Printed, sameCards, Indexed, headingNumber, isTyped}
 use Rattle.index.proofs.Lists.{pictured, never, first-keep, keep-map, first-map, firsts-map, get-all, all-keep, all-firsts, all-first, keep-both, getD-picture, all-picture, taken-front}
 use Rattle.index.proofs.Search.{all-at}
 use Rattle.entry.specs.Entering.{firstCard}
 use Rattle.type_index.specs.Types.{isTypeCard}
 use Rattle.extension_index.specs.Extensions.{extendsType, isExtensionCard, isUnowned}
-use Rattle.indexing.specs.Steps.{HeadsAsked, HeadsAre, OwnersAre}
+use Rattle.span_index.specs.Spans.{SpansAsked}
+use Rattle.span_index.proofs.Walks.{spans-ready}
+use Rattle.indexing.specs.Steps.{IndexAsked, HeadsAsked, HeadsAre, OwnersAsked, OwnersAre}
 use Rattle.index.specs.declared.Counts.{Counts}
 
 -- ---- Headings by their cards.
@@ -135,14 +138,6 @@ module _ (text words : List ℕ) where
       ∙ firsts-told (keep (isOrphan hs) hs) (told-kept (isOrphan hs) hs a)
 
 -- ---- The walks' records, told by the headings.
-
-pub heads-ready : (text words heads prints owners typeCards orphanCards extensionCards scratch : List ℕ) →
-    IndexAsked text words heads prints owners typeCards orphanCards extensionCards scratch → HeadsAsked words heads
-heads-ready text words heads prints owners typeCards orphanCards extensionCards scratch a = record {
-  cards-most = cards-fit text words (a .store-sound);
-  heads-room = a .heads-length;
-  headed = heading-first text words (a .store-sound);
-}
 
 module _ (text words heads : List ℕ) (m : ℕ) (room : cardsUsed words < length heads) (few : cardsUsed words ≤ cardRoom) (is : HeadsAre words heads m) where
   taken : take m heads ≡ map headingNumber (storedHeadings text words)
@@ -293,3 +288,50 @@ module _ (text words heads : List ℕ) (m : ℕ) (room : cardsUsed words < lengt
           stored-of (keep isTypeExtension hs) (told-kept text words isTypeExtension hs all-told) extensionCards (r .extensions) extensions-are
           (omega (arith, e-most, is .headings-most));
     })
+
+-- ---- All steps: the arrays as they were lent, and what each step left of them.
+
+module _ (text words heads₀ prints₀ owners₀ types₀ orphans₀ extensions₀ starts₀ ends₀ firsts₀ : List ℕ)
+    (a : IndexAsked text words heads₀ prints₀ owners₀ types₀ orphans₀ extensions₀ starts₀ ends₀ firsts₀) where
+  pub heads-ready : HeadsAsked words heads₀
+  heads-ready = record {
+    cards-most = cards-fit text words (a .store-sound);
+    heads-room = a .heads-length;
+    headed = heading-first text words (a .store-sound);
+  }
+
+  module _ (heads : List ℕ) (m : ℕ) (is : HeadsAre words heads m) (heads-kept : length heads ≡ length heads₀) where
+    pub heads-fit : m ≤ length heads
+    heads-fit = omega (arith, a .heads-length, is .headings-most)
+
+    room : cardsUsed words < length heads
+    room = omega (arith, a .heads-length)
+
+    few : cardsUsed words ≤ cardRoom
+    few = cards-fit text words (a .store-sound)
+
+    module _ (prints : List ℕ) (p : Printed text words prints) where
+      pub owners-ready : OwnersAsked text words prints (take (m - 0) heads) owners₀ types₀ orphans₀ extensions₀ starts₀
+      owners-ready = rw sub-zero (record {
+        all-cards = cards-ready text words heads m room few is prints p;
+        owners-room = a .owners-length;
+        types-room = a .types-length;
+        orphans-room = a .orphans-length;
+        extensions-room = a .extensions-length;
+        scratch-room = a .starts-length;
+      })
+
+      module _ (owners types orphans extensions : List ℕ) (r : Counts) (w : OwnersAre text words (take (m - 0) heads) owners types orphans extensions r)
+          (owners-kept : length owners ≡ length owners₀) (types-kept : length types ≡ length types₀) (orphans-kept : length orphans ≡ length orphans₀)
+          (extensions-kept : length extensions ≡ length extensions₀) where
+        pub all-indexed : Indexed text words heads prints owners types orphans extensions (r .headings) (r .types) (r .orphans) (r .extensions)
+        all-indexed =
+            indexed text words heads m room few is prints owners types orphans extensions p r (rw sub-zero at w) (omega (arith, a .owners-length))
+            (omega (arith, a .types-length)) (omega (arith, a .orphans-length)) (omega (arith, a .extensions-length))
+
+        pub extensions-fit : r .extensions ≤ length extensions
+        extensions-fit = omega (arith, all-indexed .extensions-most, all-indexed .headings-most, all-indexed .extensions-length)
+
+        pub spans-asked : SpansAsked owners (take (r .extensions - 0) extensions)
+        spans-asked =
+            rw sub-zero (spans-ready text words heads prints owners types orphans extensions (r .headings) (r .types) (r .orphans) (r .extensions) all-indexed)

@@ -7,13 +7,29 @@ use lib.ListN.{length, take, getD}
 use Rattle.definition.specs.Lists.{keep, firsts}
 use Rattle.definition.specs.Cards.{isPart}
 use Rattle.definition.specs.Refusals.{cardRoom}
-use Rattle.definition.specs.Store.{cardsUsed}
+use Rattle.definition.specs.Store.{cardsUsed, wordsRoom, sound}
 use Rattle.stored.specs.Stored.{cardKind, storedHeadings}
 use Rattle.index.specs.Index.{headingNumber, sameCards, Cards}
 use Rattle.index.specs.declared.Counts.{Counts}
 use Rattle.entry.specs.Entering.{firstCard}
 use Rattle.type_index.specs.Types.{isTypeCard}
 use Rattle.extension_index.specs.Extensions.{isExtensionCard, isUnowned}
+
+-- ---- All arrays.
+
+-- What filling the arrays asks: a store that decodes, and room for its cards; one more heading marks the end. `firsts` has any length.
+pub record IndexAsked (text words heads prints owners types orphans extensions starts ends firsts : List ℕ) : Type 0 where
+  pub store-sound : sound text words ≡ true
+  pub words-length : wordsRoom ≤ length words
+  pub heads-length : cardsUsed words < length heads
+  pub prints-length : cardsUsed words ≤ length prints
+  pub owners-length : cardsUsed words ≤ length owners
+  pub types-length : cardsUsed words ≤ length types
+  pub orphans-length : cardsUsed words ≤ length orphans
+  pub extensions-length : cardsUsed words ≤ length extensions
+  pub starts-length : cardsUsed words ≤ length starts
+  pub ends-length : cardsUsed words ≤ length ends
+  pub slots : 0 < length firsts
 
 -- ---- Headings.
 

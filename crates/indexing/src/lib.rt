@@ -5,8 +5,8 @@ ghost use Prim.Native.Nat.{_≤_, _<_};
 ghost use lib.ListN.{length, take};
 ghost use Rattle.definition.specs.Refusals.{cardRoom};
 ghost use Rattle.definition.specs.Store.{cardsUsed, wordsRoom};
-ghost use Rattle.index.specs.Index.{fingerprint, Printed, IndexAsked, Indexed, Spanned};
-ghost use Rattle.indexing.specs.Steps.{HeadsAsked, HeadsAre, OwnersAsked, OwnersAre};
+ghost use Rattle.index.specs.Index.{fingerprint, Printed, Indexed, Spanned};
+ghost use Rattle.indexing.specs.Steps.{IndexAsked, HeadsAsked, HeadsAre, OwnersAsked, OwnersAre};
 
 // A number made of a name's bytes: where two differ, so do the names.
 pub fn fingerprint(name: &[u8]) -> u32
@@ -96,39 +96,8 @@ fn index_owners(
     }
 }
 
-// All arrays but those of the spans.
-fn index_cards(
-    text: &[u8],
-    words: &[u32],
-    heads: &mut [u32],
-    prints: &mut [u32],
-    owners: &mut [u32],
-    types: &mut [u32],
-    orphans: &mut [u32],
-    extensions: &mut [u32],
-    firsts: &mut [u32],
-    scratch: &mut [u32],
-) -> Counts
-    requires { ⌜ IndexAsked (now text) (now words) (now heads) (now prints) (now owners) (now types) (now orphans) (now extensions) (now scratch) × (0 < length (now firsts)) ⌝ }
-    ensures { λ r. ⌜ Indexed (now (text .entry)) (now (words .entry)) (now (heads .exit)) (now (prints .exit)) (now (owners .exit)) (now (types .exit)) (now (orphans .exit)) (now (extensions .exit)) (r .headings) (r .types) (r .orphans) (r .extensions) ⌝ }
-{
-    let count = index_headings(words, heads);
-    fingerprints(text, words, prints);
-    index_owners(
-        text,
-        words,
-        prints,
-        &heads[0..count],
-        owners,
-        types,
-        orphans,
-        extensions,
-        firsts,
-        scratch,
-    )
-}
-
-// Fills all arrays; what `firsts` and the scratch hold then means nothing. Large words in `firsts` make it fast.
+// Fills all arrays; what `firsts` holds then means nothing. Large words in `firsts` make it fast. Until the starts are noted, their array holds
+// fingerprints.
 pub fn index(
     text: &[u8],
     words: &[u32],
@@ -141,22 +110,23 @@ pub fn index(
     starts: &mut [u32],
     ends: &mut [u32],
     firsts: &mut [u32],
-    scratch: &mut [u32],
 ) -> Counts
-    requires { ⌜ IndexAsked (now text) (now words) (now heads) (now prints) (now owners) (now types) (now orphans) (now extensions) (now scratch) × (cardsUsed (now words) ≤ length (now starts)) × (cardsUsed (now words) ≤ length (now ends)) × (0 < length (now firsts)) ⌝ }
+    requires { ⌜ IndexAsked (now text) (now words) (now heads) (now prints) (now owners) (now types) (now orphans) (now extensions) (now starts) (now ends) (now firsts) ⌝ }
     ensures { λ r. ⌜ Indexed (now (text .entry)) (now (words .entry)) (now (heads .exit)) (now (prints .exit)) (now (owners .exit)) (now (types .exit)) (now (orphans .exit)) (now (extensions .exit)) (r .headings) (r .types) (r .orphans) (r .extensions) × Spanned (now (words .entry)) (now (owners .exit)) (take (r .extensions) (now (extensions .exit))) (now (starts .exit)) (now (ends .exit)) ⌝ }
 {
-    let counts = index_cards(
+    let count = index_headings(words, heads);
+    fingerprints(text, words, prints);
+    let counts = index_owners(
         text,
         words,
-        heads,
         prints,
+        &heads[0..count],
         owners,
         types,
         orphans,
         extensions,
         firsts,
-        scratch,
+        starts,
     );
     let e = counts.extensions;
     span_index::index_starts(owners, &extensions[0..e], starts);

@@ -7,7 +7,8 @@ ghost use lib.ListN.{length, take};
 ghost use Rattle.definition.specs.Merge.{draw};
 ghost use Rattle.definition.specs.Store.{accountIn, cardsUsed};
 ghost use Rattle.definition.specs.Outcomes.{drawnInto};
-ghost use Rattle.index.specs.Index.{IndexAsked, Indexed, Spanned};
+ghost use Rattle.index.specs.Index.{Indexed, Spanned};
+ghost use Rattle.indexing.specs.Steps.{IndexAsked};
 ghost use Rattle.schema.specs.Drawn.{DrawAsked, Drawn};
 
 // Draws an indexed store. The scratch serves the rows and then the errors.
