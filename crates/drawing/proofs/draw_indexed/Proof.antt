@@ -4,10 +4,10 @@ use lib.Dec.{eqb}
 use lib.ListN.{getD}
 use Rattle.rows.proofs.Catalogue.{indexed-arrays}
 use Rattle.rows.proofs.Parts.{spanned-parted}
-use Rattle.schema.proofs.Bounds.{rows-fit, rows-room, rows-stand, errors-most, errors-room, built}
+use Rattle.drawing.proofs.Bounds.{rows-fit, rows-room, rows-stand, errors-most, errors-room, built}
 use borrow.Author.Needs.{needs}
-use Rattle.schema.proofs.draw_indexed.Statement.{statement}
-use Rattle.schema.proofs.draw_indexed.Tie as tie
+use Rattle.drawing.proofs.draw_indexed.Statement.{statement}
+use Rattle.drawing.proofs.draw_indexed.Tie as tie
 
 shared-slice-read-adopt : tie.Need-shared-slice-read-adopt
 shared-slice-read-adopt c = search needs
