@@ -2,8 +2,8 @@
 use mathlib.Core.Path.{_≡_, _∙_}
 use Prim.Native.Nat.{ℕ, _≤_}
 use native.Mathlib.Omega.{arith}
-use Rattle.building.proofs.draw_store.Statement.{statement}
-use Rattle.building.proofs.draw_store.Tie as tie
+use Rattle.schema.proofs.draw_store.Statement.{statement}
+use Rattle.schema.proofs.draw_store.Tie as tie
 
 kept-room : (n a b : ℕ) → n ≤ a → b ≡ a → n ≤ b
 kept-room n a b h e = omega arith
