@@ -2,7 +2,7 @@
 use mathlib.Core.Path.{_≡_, refl, sym, _∙_, ap}
 use mathlib.Core.List.{List, [], _∷_, _++_, map, append-assoc, append-nil}
 use mathlib.Core.Bool.{Bool, true, false, _&&_, not}
-use Prim.Native.Nat.{ℕ, _+_, _*_, _/_, _≤_, _<_}
+use Prim.Native.Nat.{ℕ, _+_, _*_, _/_, _≤_, _<_, suc}
 use native.Mathlib.Omega.{arith}
 use borrow.Author.Tests.{eqb-true, eqb-false}
 use lib.Dec.{eqb}
@@ -18,12 +18,59 @@ use Rattle.stored.specs.Stored.{storedParts, cardName}
 use Rattle.stored.proofs.Words.{name-stored}
 use Rattle.rows_search.specs.Rows.{rowAt, foundFrom}
 use Rattle.rows_search.specs.declared.Found.the-variants.{Row as RowAt, Nothing}
-use Rattle.rows_search.proofs.Rows.{row-next, row-end}
+use Rattle.rows_search.proofs.Rows.{row-next, row-end, never-row, contradiction}
 use Rattle.rows_search.proofs.Listing.{Listing, listing-length, listing-same, drop-more}
-use Rattle.implementers.specs.Gather.{named, implementersNamed, pairGroup}
-use Rattle.implementers.proofs.Three.{three-room, three-pushed}
-use Rattle.implementers.proofs.Gather.{keep-yes, keep-no, keep-nil}
-use Rattle.implementers.proofs.Firsts.{first-none, first-here, first-other, rows-split, taken-length}
+use Rattle.implementing.specs.Gather.{named}
+use Rattle.implementers.specs.Groups.{implementersNamed, pairGroup}
+use Rattle.implementing.proofs.Three.{three-room, three-pushed}
+use Rattle.implementing.proofs.Gather.{keep-yes, keep-no, keep-nil}
+use Rattle.implementing.proofs.Firsts.{rows-split, taken-length}
+
+-- ---- Where a search stops: at a row that passes, if none before it does, else before it.
+
+module _ (p : Row → Bool) where
+  found-first : (k : ℕ) (pre : List Row) (r : Row) (post : List Row) → any p pre ≡ false → p r ≡ true → foundFrom p k (pre ++ (r ∷ post)) ≡ RowAt (k + length pre)
+  unfolding foundFrom any
+  found-first k [] r post e f = rw f (let z : k ≡ k + 0 = omega arith in ap RowAt z)
+  found-first k (x ∷ pre) r post e f = go (p x) e (found-first (k + 1) pre r post)
+    where
+      go : (b : Bool) → choose b true (any p pre) ≡ false → (any p pre ≡ false → p r ≡ true → foundFrom p (k + 1) (pre ++ (r ∷ post)) ≡ RowAt (k + 1 + length pre)) →
+          choose b (RowAt k) (foundFrom p (k + 1) (pre ++ (r ∷ post))) ≡ RowAt (k + suc (length pre))
+      go true e ih = contradiction false refl (sym e)
+      go false e ih = ih e f ∙ (let z : k + 1 + length pre ≡ k + suc (length pre) = omega arith in ap RowAt z)
+
+  found-before : (k : ℕ) (pre post : List Row) (t : ℕ) → any p pre ≡ true → foundFrom p k (pre ++ post) ≡ RowAt t → t < k + length pre
+  unfolding foundFrom any
+  found-before k [] post t e f = contradiction false refl e
+  found-before k (x ∷ pre) post t e f = go (p x) e f (found-before (k + 1) pre post t)
+    where
+      go : (b : Bool) → choose b true (any p pre) ≡ true → choose b (RowAt k) (foundFrom p (k + 1) (pre ++ post)) ≡ RowAt t →
+          (any p pre ≡ true → foundFrom p (k + 1) (pre ++ post) ≡ RowAt t → t < k + 1 + length pre) → t < k + suc (length pre)
+      go true e f ih = let q : k ≡ t = cc in omega arith
+      go false e f ih = let l = ih e f in omega arith
+
+  -- Which of the two, by the number that was found.
+  module _ (pre : List Row) (r : Row) (post : List Row) (f : p r ≡ true) where
+    pub first-none : foundFrom p 0 (pre ++ (r ∷ post)) ≡ Nothing → any p pre ≡ true
+    first-none e = go (any p pre) refl
+      where
+        go : (b : Bool) → any p pre ≡ b → any p pre ≡ true
+        go true s = s
+        go false s = never-row (sym (found-first 0 pre r post s f) ∙ e)
+
+    pub first-here : (t : ℕ) → foundFrom p 0 (pre ++ (r ∷ post)) ≡ RowAt t → t ≡ length pre → any p pre ≡ false
+    first-here t e q = go (any p pre) refl
+      where
+        go : (b : Bool) → any p pre ≡ b → any p pre ≡ false
+        go true s = absurd (let l = found-before 0 pre (r ∷ post) t s e in omega arith)
+        go false s = s
+
+    pub first-other : (t : ℕ) → foundFrom p 0 (pre ++ (r ∷ post)) ≡ RowAt t → (t ≡ length pre → ⊥) → any p pre ≡ true
+    first-other t e n = go (any p pre) refl
+      where
+        go : (b : Bool) → any p pre ≡ b → any p pre ≡ true
+        go true s = s
+        go false s = absurd (n (let q : RowAt t ≡ RowAt (0 + length pre) = sym e ∙ found-first 0 pre r post s f in let z : t ≡ 0 + length pre = cc in omega arith))
 
 -- ---- A list that is written from a place on.
 

@@ -1,2 +1,1 @@
--- Which interfaces count, as a walk over the rows finds them.
-pub mod Gather
+pub mod Groups

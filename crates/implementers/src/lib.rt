@@ -3,92 +3,17 @@ use rows_search::Found;
 ghost use mathlib.Core.Path.{_≡_};
 ghost use mathlib.Core.Bool.{true, not};
 ghost use mathlib.Core.List.{[]};
-ghost use Prim.Native.Nat.{_+_, _*_, _/_, _<_, _≤_};
-ghost use lib.ListN.{length, take, drop, getD, set};
+ghost use Prim.Native.Nat.{_+_, _/_, _<_, _≤_};
+ghost use lib.ListN.{length, take};
 ghost use Rattle.definition.specs.Lists.{any, keep, flatMap, written};
-ghost use Rattle.definition.specs.Cards.{isType};
 ghost use Rattle.definition.specs.Refusals.{groupsRoom};
 ghost use Rattle.definition.specs.Store.{accountIn, sound};
-ghost use Rattle.definition.specs.LentRows.{lentRows, nameNumbered, isRowNamed, held, rowsRefusal};
-ghost use Rattle.definition.specs.Lookups.{isRowOf, isPartNamed, sameInterface, allImplementing, groups, groupWords};
+ghost use Rattle.definition.specs.LentRows.{lentRows, isRowNamed, held, rowsRefusal};
+ghost use Rattle.definition.specs.Lookups.{isRowOf, sameInterface, groups, groupWords};
 ghost use Rattle.stored.specs.Stored.{storedParts};
 ghost use Rattle.rows_search.specs.Rows.{rowAt, foundFrom};
-ghost use Rattle.implementers.specs.Gather.{firstType, OwnerAt, pairWords, news, implementersNamed, pairGroup, pairGroups};
-
-// The type row, if it is the first of its name.
-fn first_type(text: &[u8], words: &[u32], rows: &[u32], i: usize) -> Found
-    requires { ⌜ (i < length (now rows) / 3) × (isType (getD (now rows) (3 * i) 0) ≡ true) ⌝ }
-    ensures { λ r. ⌜ r ≡ firstType (storedParts (now (text .entry)) (now (words .entry))) (lentRows (now (rows .entry))) (rowAt (now (rows .entry)) i) i ⌝ }
-{
-    let name = stored::card_name(text, words, rows[3 * i + 1] as usize);
-    let Found::Row(first) = rows_search::find_type(text, words, rows, name) else {
-        return Found::Nothing;
-    };
-    if first == i {
-        return Found::Row(i);
-    }
-    Found::Nothing
-}
-
-// Whether an interface is the first of its name under the type row t, which is the first of its own name.
-fn is_first_interface(text: &[u8], words: &[u32], rows: &[u32], t: usize, i: usize) -> bool
-    requires { ⌜ OwnerAt (storedParts (now text) (now words)) (now rows) t i × (i < length (now rows) / 3) × (getD (now rows) (3 * i) 0 ≡ 21) ⌝ }
-    ensures { λ r. ⌜ r ≡ not (any (isPartNamed (storedParts (now (text .entry)) (now (words .entry))) 21 (nameNumbered (storedParts (now (text .entry)) (now (words .entry))) (getD (now (rows .entry)) (3 * i + 1) 0))) (drop (t + 1) (take i (lentRows (now (rows .entry)))))) ⌝ }
-{
-    let owner = stored::card_name(text, words, rows[3 * t + 1] as usize);
-    let name = stored::card_name(text, words, rows[3 * i + 1] as usize);
-    let located = rows_search::find_part(text, words, rows, owner, 21, name);
-    let part = located.part;
-    let Found::Row(listed) = part else {
-        return false;
-    };
-    listed == i
-}
-
-// Writes three words, and hands back the place after them.
-fn put_words(list: &mut [u32], n: usize, a: u32, b: u32, c: u32) -> usize
-    requires { ⌜ n + 3 ≤ length (now list) ⌝ }
-    ensures { λ r. ⌜ (r ≡ n + 3) × (now (list .exit) ≡ set (set (set (now (list .entry)) n a) (n + 1) b) (n + 2) c) ⌝ }
-{
-    list[n] = a;
-    list[n + 1] = b;
-    list[n + 2] = c;
-    n + 3
-}
-
-// The interfaces that count, each with the type that lists it, in row order: three words each, the type's kind, the interface's card, the type's card.
-fn collect(text: &[u8], words: &[u32], rows: &[u32], pairs: &mut [u32]) -> usize
-    requires { ⌜ length (pairWords (allImplementing (storedParts (now text) (now words)) (lentRows (now rows)))) ≤ length (now pairs) ⌝ }
-    ensures { λ r. ⌜ (r ≡ length (pairWords (allImplementing (storedParts (now (text .entry)) (now (words .entry))) (lentRows (now (rows .entry)))))) × (now (pairs .exit) ≡ written (now (pairs .entry)) 0 (pairWords (allImplementing (storedParts (now (text .entry)) (now (words .entry))) (lentRows (now (rows .entry)))))) ⌝ }
-{
-    let count = rows.len() / 3;
-    let mut owner = Found::Nothing;
-    let mut n = 0;
-    let mut i = 0;
-    while i < count {
-        let what = rows[3 * i];
-        if rows_search::is_type(what) {
-            owner = first_type(text, words, rows, i);
-            i += 1;
-            continue;
-        }
-        if what != 21 {
-            i += 1;
-            continue;
-        }
-        let Found::Row(t) = owner else {
-            i += 1;
-            continue;
-        };
-        if !is_first_interface(text, words, rows, t, i) {
-            i += 1;
-            continue;
-        }
-        n = put_words(pairs, n, rows[3 * t], rows[3 * i + 1], rows[3 * t + 1]);
-        i += 1;
-    }
-    n
-}
+ghost use Rattle.implementing.specs.Gather.{news};
+ghost use Rattle.implementers.specs.Groups.{implementersNamed, pairGroup, pairGroups};
 
 // The first pair whose interface has the name.
 fn find_interface(text: &[u8], words: &[u32], pairs: &[u32], name: &[u8]) -> Found
@@ -179,7 +104,7 @@ fn write_group(
     let name = stored::card_name(text, words, naming as usize);
     let objects = count_kind(text, words, pairs, name, 6);
     let interfaces = count_kind(text, words, pairs, name, 7);
-    let next = put_words(list, start, naming, objects, interfaces);
+    let next = implementing::put_words(list, start, naming, objects, interfaces);
     push_implementers(text, words, pairs, name, list, next)
 }
 
@@ -210,6 +135,6 @@ pub fn implementers_map(text: &[u8], words: &[u32], rows: &[u32], list: &mut [u3
     ensures { λ r. ⌜ (r ≡ length (groups (held (accountIn (now (text .entry)) (now (words .entry)) .documents)) (lentRows (now (rows .entry))))) × (now (list .exit) ≡ written (now (list .entry)) 0 (flatMap groupWords (groups (held (accountIn (now (text .entry)) (now (words .entry)) .documents)) (lentRows (now (rows .entry)))))) ⌝ }
 {
     let mut pairs = [0u32; 6900];
-    let n = collect(text, words, rows, &mut pairs);
+    let n = implementing::collect(text, words, rows, &mut pairs);
     write_groups(text, words, &pairs[0..n], list)
 }

@@ -1,8 +1,8 @@
 -- Three stores, one after the other.
 use native.Mathlib.Omega.{arith}
 use lib.ListN.{length-set}
-use Rattle.implementers.proofs.put_words.Statement.{statement}
-use Rattle.implementers.proofs.put_words.Tie as tie
+use Rattle.implementing.proofs.put_words.Statement.{statement}
+use Rattle.implementing.proofs.put_words.Tie as tie
 use borrow.Author.Needs.{needs}
 
 mul-list : tie.Need-mul-list

@@ -3,14 +3,15 @@ use mathlib.Core.Path.{_≡_}
 use mathlib.Core.List.{List, [], _∷_, _++_, map}
 use mathlib.Core.Bool.{Bool, true, false, _&&_, not}
 use mathlib.Core.Option.{Option, none, some}
-use Prim.Native.Nat.{ℕ, _+_, _*_, _/_, _<_}
+use Prim.Native.Nat.{ℕ, _+_, _*_, _≤_, _<_}
+use lib.Dec.{ltb}
 use lib.ListN.{length, take, drop, getD}
-use Rattle.definition.specs.Lists.{choose, found, any, keep, flatMap}
+use Rattle.definition.specs.Lists.{choose, found, any, flatMap}
 use Rattle.definition.specs.Cards.{isType}
 use Rattle.definition.specs.Headings.{Part}
 use Rattle.definition.specs.Catalogue.{Row, row}
-use Rattle.definition.specs.LentRows.{nameNumbered, lentRows, isRowNamed, isTypeRow, isTypeRowNamed}
-use Rattle.definition.specs.Lookups.{isRowOf, isPartNamed, originOf, sameInterface, Implementing, implementing}
+use Rattle.definition.specs.LentRows.{nameNumbered, lentRows, isTypeRow, isTypeRowNamed}
+use Rattle.definition.specs.Lookups.{isRowOf, isPartNamed, Implementing, implementing}
 use Rattle.definition.specs.Outcomes.{wordsOfRow}
 use Rattle.rows_search.specs.Rows.{rowAt}
 use Rattle.rows_search.specs.declared.Found.{Found}
@@ -43,6 +44,10 @@ gather cs pre mid o (r ∷ rs) =
     let new = isRowOf 21 r && not (any (isPartNamed cs 21 (named cs r)) mid) in
     choose (isTypeRow r) type (found o (λ t. choose new (implementing t r ∷ under) under) outside)
 
+-- The type row t, where at the row i it is one that was seen and is the first of its name.
+unfoldable pub ownerOf : List Part → List ℕ → ℕ → ℕ → Found
+ownerOf cs rows t i = choose (isType (getD rows (3 * t) 0) && ltb t i) (firstType cs (lentRows rows) (rowAt rows t) t) Nothing
+
 -- The type row that rows stand under, and the rows between it and the row i.
 abbrev pub ownerRow : List ℕ → Found → Option Row
 ownerRow rows (RowAt t) = some (rowAt rows t)
@@ -55,14 +60,20 @@ underOwner rs Nothing i = []
 -- A type row that is the first of its name, with no other between it and the row i.
 pub record OwnerAt (cs : List Part) (rows : List ℕ) (t i : ℕ) : Type 0 where
   pub before : t < i
-  pub inside : i < length rows / 3 + 1
   pub type : isType (getD rows (3 * t) 0) ≡ true
   pub first : any (isTypeRowNamed cs (named cs (rowAt rows t))) (take t (lentRows rows)) ≡ false
   pub between : any isTypeRow (drop (t + 1) (take i (lentRows rows))) ≡ false
 
-abbrev pub OwnerIs : List Part → List ℕ → Found → ℕ → Type 0
-OwnerIs cs rows (RowAt t) i = OwnerAt cs rows t i
-OwnerIs cs rows Nothing i = Unit {0}
+-- The last type row before the row i; where there is none, any row.
+pub record LastType (rows : List ℕ) (t i : ℕ) : Type 0 where
+  pub before : t ≤ i
+  pub outside : isType (getD rows (3 * t) 0) ≡ false → any isTypeRow (take i (lentRows rows)) ≡ false
+  pub between : any isTypeRow (drop (t + 1) (take i (lentRows rows))) ≡ false
+
+-- Whether the interface at the row i counts.
+abbrev pub isListed : List Part → List ℕ → Found → ℕ → Bool
+isListed cs rows (RowAt t) i = not (any (isPartNamed cs 21 (named cs (rowAt rows i))) (drop (t + 1) (take i (lentRows rows))))
+isListed cs rows Nothing i = false
 
 -- An interface with the type that lists it as three words: the type's kind, the interface's card, the type's card.
 unfoldable pub asRow : Implementing → Row
@@ -75,18 +86,3 @@ pairWords is = flatMap wordsOfRow (map asRow is)
 unfoldable pub pairsLeft : List Part → List ℕ → Found → ℕ → List ℕ
 pairsLeft cs rows owner i =
     pairWords (gather cs (take i (lentRows rows)) (underOwner (lentRows rows) owner i) (ownerRow rows owner) (drop i (lentRows rows)))
-
--- ---- Groups over the pairs, which are read as rows: what is the type's kind, card the interface's, origin the type's.
-
--- The types that list the interface of a name.
-unfoldable pub implementersNamed : List Part → List Row → List ℕ → List ℕ
-implementersNamed cs ps n = map originOf (keep (isRowNamed cs n) ps)
-
--- The words of the group that a pair opens.
-unfoldable pub pairGroup : List Part → List Row → Row → List ℕ
-pairGroup cs ps r =
-    let same = keep (isRowNamed cs (named cs r)) ps in
-    r .card ∷ length (keep (isRowOf 6) same) ∷ length (keep (isRowOf 7) same) ∷ implementersNamed cs ps (named cs r)
-
-unfoldable pub pairGroups : List Part → List Row → List ℕ
-pairGroups cs ps = flatMap (pairGroup cs ps) (news (sameInterface cs) [] ps)

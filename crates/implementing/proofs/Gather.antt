@@ -11,7 +11,7 @@ use Rattle.definition.specs.LentRows.{isRowNamed, isTypeRow, isTypeRowNamed}
 use Rattle.definition.specs.Lookups.{Block, blocks, types, isBlockNamed, sameBlock, isRowOf, isPartNamed, Implementing, sameInterface, implementing, implementingOf, allImplementing}
 use Rattle.name.proofs.Laws.{same-equal}
 use Rattle.rows_search.proofs.Search.{blocks-type, blocks-under, blocks-nil}
-use Rattle.implementers.specs.Gather.{news, named, gather}
+use Rattle.implementing.specs.Gather.{news, named, gather}
 
 -- ---- Lists.
 
