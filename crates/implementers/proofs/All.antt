@@ -27,9 +27,10 @@ use Rattle.rows_search.specs.Rows.{rowAt}
 use Rattle.rows_search.proofs.Rows.{row-next, row-end, contradiction, taken-next}
 use Rattle.rows_cards.proofs.Passing.{row-passed}
 use Rattle.rows_check.proofs.Room.{cardsOf, cards-without, cards-with, accepted, cards-room}
-use Rattle.implementing.specs.Gather.{news, named, gather, asRow, pairWords}
+use Rattle.implementers.specs.Gather.{news, gather, asRow, pairWords}
+use Rattle.first_interface.specs.Owners.{named}
 use Rattle.implementers.specs.Groups.{implementersNamed, pairGroup, pairGroups}
-use Rattle.implementing.proofs.Gather.{any-snoc, news-nil, news-old, news-new, news-firsts, interfaces-same, gather-type, gather-outside, gather-other, gather-again, gather-new, gather-nil, gather-all}
+use Rattle.implementers.proofs.Gather.{any-snoc, news-nil, news-old, news-new, news-firsts, interfaces-same, gather-type, gather-outside, gather-other, gather-again, gather-new, gather-nil, gather-all}
 
 -- ---- The turns.
 

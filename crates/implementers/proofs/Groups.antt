@@ -20,11 +20,11 @@ use Rattle.rows_search.specs.Rows.{rowAt, foundFrom}
 use Rattle.rows_search.specs.declared.Found.the-variants.{Row as RowAt, Nothing}
 use Rattle.rows_search.proofs.Rows.{row-next, row-end, never-row, contradiction}
 use Rattle.rows_search.proofs.Listing.{Listing, listing-length, listing-same, drop-more}
-use Rattle.implementing.specs.Gather.{named}
+use Rattle.first_interface.specs.Owners.{named}
 use Rattle.implementers.specs.Groups.{implementersNamed, pairGroup}
-use Rattle.implementing.proofs.Three.{three-room, three-pushed}
-use Rattle.implementing.proofs.Gather.{keep-yes, keep-no, keep-nil}
-use Rattle.implementing.proofs.Firsts.{rows-split, taken-length}
+use Rattle.implementers.proofs.Three.{three-room, three-pushed}
+use Rattle.implementers.proofs.Gather.{keep-yes, keep-no, keep-nil}
+use Rattle.first_interface.proofs.Firsts.{rows-split, taken-length}
 
 -- ---- Where a search stops: at a row that passes, if none before it does, else before it.
 

@@ -7,7 +7,8 @@ use Rattle.definition.specs.Headings.{Part}
 use Rattle.definition.specs.Catalogue.{Row}
 use Rattle.definition.specs.LentRows.{isRowNamed}
 use Rattle.definition.specs.Lookups.{isRowOf, originOf, sameInterface}
-use Rattle.implementing.specs.Gather.{news, named}
+use Rattle.implementers.specs.Gather.{news}
+use Rattle.first_interface.specs.Owners.{named}
 
 -- The types that list the interface of a name.
 unfoldable pub implementersNamed : List Part → List Row → List ℕ → List ℕ

@@ -4,16 +4,64 @@ ghost use mathlib.Core.Path.{_≡_};
 ghost use mathlib.Core.Bool.{true, not};
 ghost use mathlib.Core.List.{[]};
 ghost use Prim.Native.Nat.{_+_, _/_, _<_, _≤_};
-ghost use lib.ListN.{length, take};
-ghost use Rattle.definition.specs.Lists.{any, keep, flatMap, written};
+ghost use lib.ListN.{length, set, take};
+ghost use Rattle.definition.specs.Lists.{written, any, keep, flatMap};
 ghost use Rattle.definition.specs.Refusals.{groupsRoom};
 ghost use Rattle.definition.specs.Store.{accountIn, sound};
 ghost use Rattle.definition.specs.LentRows.{lentRows, isRowNamed, held, rowsRefusal};
-ghost use Rattle.definition.specs.Lookups.{isRowOf, sameInterface, groups, groupWords};
+ghost use Rattle.definition.specs.Lookups.{allImplementing, isRowOf, sameInterface, groups, groupWords};
 ghost use Rattle.stored.specs.Stored.{storedParts};
 ghost use Rattle.rows_search.specs.Rows.{rowAt, foundFrom};
-ghost use Rattle.implementing.specs.Gather.{news};
+ghost use Rattle.implementers.specs.Gather.{pairWords, news};
 ghost use Rattle.implementers.specs.Groups.{implementersNamed, pairGroup, pairGroups};
+
+// Writes three words, and hands back the place after them.
+fn put_words(list: &mut [u32], n: usize, a: u32, b: u32, c: u32) -> usize
+    requires { ⌜ n + 3 ≤ length (now list) ⌝ }
+    ensures { λ r. ⌜ (r ≡ n + 3) × (now (list .exit) ≡ set (set (set (now (list .entry)) n a) (n + 1) b) (n + 2) c) ⌝ }
+{
+    list[n] = a;
+    list[n + 1] = b;
+    list[n + 2] = c;
+    n + 3
+}
+
+// The interfaces that count, each with the type that lists it, in row order: three words each, the type's kind, the interface's card, the type's card.
+fn collect(text: &[u8], words: &[u32], rows: &[u32], pairs: &mut [u32]) -> usize
+    requires { ⌜ length (pairWords (allImplementing (storedParts (now text) (now words)) (lentRows (now rows)))) ≤ length (now pairs) ⌝ }
+    ensures { λ r. ⌜ (r ≡ length (pairWords (allImplementing (storedParts (now (text .entry)) (now (words .entry))) (lentRows (now (rows .entry)))))) × (now (pairs .exit) ≡ written (now (pairs .entry)) 0 (pairWords (allImplementing (storedParts (now (text .entry)) (now (words .entry))) (lentRows (now (rows .entry)))))) ⌝ }
+{
+    let count = rows.len() / 3;
+    // The last type row; before the first one any row that is none, so that no interface counts.
+    let mut owner = 0;
+    let mut n = 0;
+    let mut i = 0;
+    while i < count {
+        let what = rows[3 * i];
+        if rows_search::is_type(what) {
+            owner = i;
+            i += 1;
+            continue;
+        }
+        if what != 21 {
+            i += 1;
+            continue;
+        }
+        if !first_interface::is_first_interface(text, words, rows, owner, i) {
+            i += 1;
+            continue;
+        }
+        n = put_words(
+            pairs,
+            n,
+            rows[3 * owner],
+            rows[3 * i + 1],
+            rows[3 * owner + 1],
+        );
+        i += 1;
+    }
+    n
+}
 
 // The first pair whose interface has the name.
 fn find_interface(text: &[u8], words: &[u32], pairs: &[u32], name: &[u8]) -> Found
@@ -104,7 +152,7 @@ fn write_group(
     let name = stored::card_name(text, words, naming as usize);
     let objects = count_kind(text, words, pairs, name, 6);
     let interfaces = count_kind(text, words, pairs, name, 7);
-    let next = implementing::put_words(list, start, naming, objects, interfaces);
+    let next = put_words(list, start, naming, objects, interfaces);
     push_implementers(text, words, pairs, name, list, next)
 }
 
@@ -135,6 +183,6 @@ pub fn implementers_map(text: &[u8], words: &[u32], rows: &[u32], list: &mut [u3
     ensures { λ r. ⌜ (r ≡ length (groups (held (accountIn (now (text .entry)) (now (words .entry)) .documents)) (lentRows (now (rows .entry))))) × (now (list .exit) ≡ written (now (list .entry)) 0 (flatMap groupWords (groups (held (accountIn (now (text .entry)) (now (words .entry)) .documents)) (lentRows (now (rows .entry)))))) ⌝ }
 {
     let mut pairs = [0u32; 6900];
-    let n = implementing::collect(text, words, rows, &mut pairs);
+    let n = collect(text, words, rows, &mut pairs);
     write_groups(text, words, &pairs[0..n], list)
 }

@@ -14,7 +14,7 @@ use Rattle.definition.specs.Names.{sameName, bytes}
 use Rattle.definition.specs.Answers.{absent, rootKind}
 use Rattle.definition.specs.Cards.{isRoot}
 use Rattle.definition.specs.Headings.{Part}
-use Rattle.definition.specs.Catalogue.{Row, row, defaultName}
+use Rattle.definition.specs.Catalogue.{Row, defaultName}
 use Rattle.definition.specs.Store.{accountIn, tooShort, sound}
 use Rattle.definition.specs.LentRows.{held, lentRows, isTypeRowNamed, firstTypeRow}
 use Rattle.definition.specs.Lookups.{span, isRowOf, rootCard, rootRow, rootSpan, isQueryRoot}

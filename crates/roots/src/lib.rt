@@ -1,18 +1,22 @@
-// schema/mod.rs: the root operations of lent rows.
+// schema/mod.rs: the root operations of lent rows, and meta fields, of which the query root has two.
+use definition::FieldFound;
+use definition::FieldLookup;
 use definition::OperationType;
 use rows_search::Found;
 ghost use mathlib.Core.Path.{_≡_};
 ghost use mathlib.Core.Bool.{true, false};
 ghost use Prim.Native.Nat.{_<_, _*_, _/_};
 ghost use lib.ListN.{length, getD};
+ghost use Rattle.definition.specs.Lists.{found};
 ghost use Rattle.definition.specs.Answers.{rootKind};
 ghost use Rattle.definition.specs.Cards.{isRoot};
 ghost use Rattle.definition.specs.Store.{accountIn, sound, tooShort};
 ghost use Rattle.definition.specs.LentRows.{lentRows, held};
-ghost use Rattle.definition.specs.Lookups.{rootCard, rootSpan, isQueryRoot};
+ghost use Rattle.definition.specs.Lookups.{rootCard, rootSpan, isQueryRoot, metaField};
 ghost use Rattle.definition.specs.Outcomes.{partOf};
 ghost use Rattle.stored.specs.Stored.{storedParts};
 ghost use Rattle.rows_search.specs.Rows.{rowAt};
+ghost use Rattle.roots.specs.MetaFields.{isTypename};
 
 // The word that stands for no card.
 const ABSENT: u32 = 4294967295;
@@ -59,11 +63,51 @@ pub fn root_operation<'a>(
     stored::card_name(text, words, card as usize)
 }
 
-pub fn is_query_root(text: &[u8], words: &[u32], rows: &[u32], name: &[u8]) -> bool
+fn is_query_root(text: &[u8], words: &[u32], rows: &[u32], name: &[u8]) -> bool
     ensures { λ r. ⌜ r ≡ isQueryRoot (storedParts (now (text .entry)) (now (words .entry))) (lentRows (now (rows .entry))) (now (name .entry)) ⌝ }
 {
     let Found::Row(i) = rows_search::find_row(rows, 26) else {
         return false;
     };
     rows_search::is_named(text, words, root_card(text, words, rows, i), name)
+}
+
+// Objects, interfaces and unions have `__typename`.
+fn is_typename(what: u32, field: &[u8]) -> bool
+    ensures { λ r. ⌜ r ≡ isTypename what (now (field .entry)) ⌝ }
+{
+    if what < 6 {
+        return false;
+    }
+    if 8 < what {
+        return false;
+    }
+    name::same_name(field, b"__typename")
+}
+
+// A meta field of a type of the kind and the name, or that the type of the card has no such field.
+pub fn meta_field(
+    text: &[u8],
+    words: &[u32],
+    rows: &[u32],
+    what: u32,
+    card: u32,
+    type_name: &[u8],
+    field: &[u8],
+) -> FieldLookup
+    ensures { λ r. ⌜ r ≡ found (metaField (storedParts (now (text .entry)) (now (words .entry))) (lentRows (now (rows .entry))) what (now («type_name» .entry)) (now (field .entry))) (λ m. FieldLookup.Found m) (FieldLookup.NoSuchField card) ⌝ }
+{
+    if is_typename(what, field) {
+        return FieldLookup::Found(FieldFound::Typename);
+    }
+    if !is_query_root(text, words, rows, type_name) {
+        return FieldLookup::NoSuchField(card);
+    }
+    if name::same_name(field, b"__schema") {
+        return FieldLookup::Found(FieldFound::Schema);
+    }
+    if name::same_name(field, b"__type") {
+        return FieldLookup::Found(FieldFound::Type);
+    }
+    FieldLookup::NoSuchField(card)
 }

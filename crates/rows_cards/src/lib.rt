@@ -1,4 +1,4 @@
-// Refusal 26, what it asks of a lent row by itself, and the marks that tell a card which stands in two rows.
+// Refusal 26, the tests of a lent row by itself, and the marks that tell a card which stands in two rows.
 use rows_search::Found;
 ghost use mathlib.Core.Path.{_≡_};
 ghost use mathlib.Core.Bool.{true};
@@ -8,13 +8,13 @@ ghost use Rattle.definition.specs.Answers.{absent};
 ghost use Rattle.definition.specs.Catalogue.{row};
 ghost use Rattle.definition.specs.LentRows.{lentRows, isDefaultRoot, wantedKind, defaultRootPasses};
 ghost use Rattle.stored.specs.Stored.{storedParts};
-ghost use Rattle.rows_cards.specs.Passing.{cardFits, originFits, rowPasses, isFree, marked};
+ghost use Rattle.rows_cards.specs.Passing.{originFits, isFree, marked};
 
 // The word that stands for no card.
 const ABSENT: u32 = 4294967295;
 
 // A root row whose card and origin are `-`.
-fn is_default_root(what: u32, card: u32, origin: u32) -> bool
+pub fn is_default_root(what: u32, card: u32, origin: u32) -> bool
     ensures { λ r. ⌜ r ≡ isDefaultRoot (row what card origin) ⌝ }
 {
     if !rows_search::is_root(what) {
@@ -27,7 +27,7 @@ fn is_default_root(what: u32, card: u32, origin: u32) -> bool
 }
 
 // The kind that a row's card has; a type row with an origin is adopted and has the matching extension.
-fn wanted_kind(what: u32, origin: u32) -> u32
+pub fn wanted_kind(what: u32, origin: u32) -> u32
     ensures { λ r. ⌜ r ≡ wantedKind (row what 0 origin) ⌝ }
 {
     if !rows_search::is_type(what) {
@@ -39,22 +39,7 @@ fn wanted_kind(what: u32, origin: u32) -> u32
     what + 7
 }
 
-fn card_passes(words: &[u32], what: u32, card: u32, origin: u32) -> bool
-    ensures { λ r. ⌜ r ≡ cardFits (now (words .entry)) (row what card origin) ⌝ }
-{
-    if card == ABSENT {
-        if what == 4 {
-            return true;
-        }
-        return is_default_root(what, card, origin);
-    }
-    if stored::cards_used(words) <= card as usize {
-        return false;
-    }
-    stored::card_kind(words, card as usize) == wanted_kind(what, origin)
-}
-
-fn origin_passes(words: &[u32], origin: u32) -> bool
+pub fn origin_passes(words: &[u32], origin: u32) -> bool
     ensures { λ r. ⌜ r ≡ originFits (now (words .entry)) origin ⌝ }
 {
     if origin == ABSENT {
@@ -68,7 +53,7 @@ fn origin_passes(words: &[u32], origin: u32) -> bool
 }
 
 // The first type row of a default root's name is an object.
-fn default_root_passes(
+pub fn default_root_passes(
     text: &[u8],
     words: &[u32],
     rows: &[u32],
@@ -85,26 +70,6 @@ fn default_root_passes(
         return false;
     };
     rows[3 * t] == 6
-}
-
-// What 26 asks of a row by itself.
-pub fn row_passes(
-    text: &[u8],
-    words: &[u32],
-    rows: &[u32],
-    what: u32,
-    card: u32,
-    origin: u32,
-) -> bool
-    ensures { λ r. ⌜ r ≡ rowPasses (storedParts (now (text .entry)) (now (words .entry))) (lentRows (now (rows .entry))) (row what card origin) ⌝ }
-{
-    if !card_passes(words, what, card, origin) {
-        return false;
-    }
-    if !origin_passes(words, origin) {
-        return false;
-    }
-    default_root_passes(text, words, rows, what, card, origin)
 }
 
 // Marks a card, if no row before had it; `-` is never marked.

@@ -1,9 +1,43 @@
-// Refusal 26: one walk over the rows that are lent to a lookup.
+// Refusal 26: what it asks of a row by itself, and one walk over the rows that are lent to a lookup.
 ghost use mathlib.Core.Path.{_≡_};
 ghost use mathlib.Core.Bool.{true};
 ghost use lib.Dec.{eqb};
+ghost use Rattle.definition.specs.Catalogue.{row};
 ghost use Rattle.definition.specs.Store.{accountIn, sound};
-ghost use Rattle.definition.specs.LentRows.{rowsRefusal};
+ghost use Rattle.definition.specs.LentRows.{lentRows, rowsRefusal};
+ghost use Rattle.stored.specs.Stored.{storedParts};
+ghost use Rattle.rows_cards.specs.Passing.{cardFits, rowPasses};
+
+// The word that stands for no card.
+const ABSENT: u32 = 4294967295;
+
+fn card_passes(words: &[u32], what: u32, card: u32, origin: u32) -> bool
+    ensures { λ r. ⌜ r ≡ cardFits (now (words .entry)) (row what card origin) ⌝ }
+{
+    if card == ABSENT {
+        if what == 4 {
+            return true;
+        }
+        return rows_cards::is_default_root(what, card, origin);
+    }
+    if stored::cards_used(words) <= card as usize {
+        return false;
+    }
+    stored::card_kind(words, card as usize) == rows_cards::wanted_kind(what, origin)
+}
+
+// What 26 asks of a row by itself.
+fn row_passes(text: &[u8], words: &[u32], rows: &[u32], what: u32, card: u32, origin: u32) -> bool
+    ensures { λ r. ⌜ r ≡ rowPasses (storedParts (now (text .entry)) (now (words .entry))) (lentRows (now (rows .entry))) (row what card origin) ⌝ }
+{
+    if !card_passes(words, what, card, origin) {
+        return false;
+    }
+    if !rows_cards::origin_passes(words, origin) {
+        return false;
+    }
+    rows_cards::default_root_passes(text, words, rows, what, card, origin)
+}
 
 // Refusal 26: one walk over the rows, and one mark for each stored card.
 pub fn check_lent_rows(text: &[u8], words: &[u32], rows: &[u32]) -> bool
@@ -24,7 +58,7 @@ pub fn check_lent_rows(text: &[u8], words: &[u32], rows: &[u32]) -> bool
         if !rows_order::row_fits(kind, place, what) {
             return false;
         }
-        if !rows_cards::row_passes(text, words, rows, what, card, rows[3 * i + 2]) {
+        if !row_passes(text, words, rows, what, card, rows[3 * i + 2]) {
             return false;
         }
         if !rows_cards::mark(&mut marks, card) {

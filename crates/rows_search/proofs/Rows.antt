@@ -1,19 +1,19 @@
 -- A row by its number, and searches over rows: what each turn of a loop uses.
 use mathlib.Core.Path.{_≡_, refl, sym, _∙_, ap}
 use mathlib.Core.List.{List, [], _∷_, _++_}
-use mathlib.Core.Bool.{Bool, true, false, not}
+use mathlib.Core.Bool.{Bool, true, false}
 use mathlib.Core.Option.{Option, none, some}
 use Prim.Native.Nat.{ℕ, suc, _+_, _*_, _/_, _≤_, _<_, zero}
 use native.Mathlib.Omega.{arith}
 use lib.ListN.{length, drop, getD, getElem?, drop-of-length-le, take}
 use lib.Seq.{getD-drop}
-use Rattle.definition.specs.Lists.{choose, firstWhere, found}
+use Rattle.definition.specs.Lists.{choose, firstWhere}
 use lib.Dec.{leb}
 use borrow.Author.Tests.{eq-eqb, ne-eqb, leb-true}
 use Rattle.definition.specs.Names.{sameName, bytes}
 use Rattle.definition.specs.Cards.{isType, isRoot}
 use Rattle.definition.specs.Catalogue.{Row, row, defaultName}
-use Rattle.definition.specs.LentRows.{lentRow, lentRows, isTypeRow, isRowNamed, isTypeRowNamed, passes}
+use Rattle.definition.specs.LentRows.{lentRow, lentRows, isTypeRow, isRowNamed, isTypeRowNamed}
 use Rattle.stored.specs.Stored.{storedParts, cardName}
 use Rattle.stored.proofs.Lists.{length-chunks, chunk-at, drop-get, get-inside, and-true}
 use Rattle.stored.proofs.Words.{name-stored}

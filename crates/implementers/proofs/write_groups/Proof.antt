@@ -10,7 +10,7 @@ use Rattle.definition.specs.Lookups.{sameInterface}
 use Rattle.stored.specs.Stored.{storedParts}
 use Rattle.rows_search.specs.Rows.{rowAt}
 use Rattle.rows_search.proofs.Listing.{Listing, listing-start, listing-same, listing-done}
-use Rattle.implementing.specs.Gather.{news}
+use Rattle.implementers.specs.Gather.{news}
 use Rattle.implementers.specs.Groups.{pairGroup, pairGroups}
 use Rattle.implementers.proofs.Groups.{part-room, part-written}
 use Rattle.implementers.proofs.All.{groupsLeft, countLeft, left-start, left-end, left-over, left-here}
