@@ -2,8 +2,8 @@ use mathlib.Core.Path.{sym, _∙_}
 use Rattle.index.specs.Index.{sameCards}
 use Rattle.errors_laws.specs.Views.{cardView}
 use Rattle.errors_laws.proofs.LawsBranches.{collides-other, collides-built-in, collides-named}
-use Rattle.reading_errors.proofs.reading.collides.Statement.{statement}
-use Rattle.reading_errors.proofs.reading.collides.Tie as tie
+use Rattle.redefinitions.proofs.collides.Statement.{statement}
+use Rattle.redefinitions.proofs.collides.Tie as tie
 use borrow.Author.Needs.{needs}
 
 card-kind-requires : tie.Need-card-kind-requires

@@ -1,8 +1,8 @@
 use Rattle.errors_laws.specs.Views.{cardView}
 use Rattle.errors_laws.proofs.LawsPush.{none-pushed}
 use Rattle.errors_laws.proofs.LawsBranches.{same-pushed, same-room, extension-waits, extension-merged}
-use Rattle.reading_errors.proofs.reading.schema_extension_errors.Statement.{statement}
-use Rattle.reading_errors.proofs.reading.schema_extension_errors.Tie as tie
+use Rattle.extension_errors.proofs.schema_extension_errors.Statement.{statement}
+use Rattle.extension_errors.proofs.schema_extension_errors.Tie as tie
 use borrow.Author.Needs.{needs}
 
 returns : tie.Need-returns

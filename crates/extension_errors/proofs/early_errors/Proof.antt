@@ -8,8 +8,8 @@ use Rattle.errors_laws.specs.ByCards.{earlyErrors}
 use Rattle.errors_laws.specs.Views.{viewOf}
 use Rattle.errors_laws.proofs.LawsPush.{Going, going-start, next-room, next-on, going-end, flat-next, flat-done}
 use Rattle.errors_laws.proofs.LawsBranches.{none-early}
-use Rattle.reading_errors.proofs.reading.early_errors.Statement.{statement}
-use Rattle.reading_errors.proofs.reading.early_errors.Tie as tie
+use Rattle.extension_errors.proofs.early_errors.Statement.{statement}
+use Rattle.extension_errors.proofs.early_errors.Tie as tie
 use borrow.Author.Needs.{needs}
 
 abbrev Inv-loop : tie.InvT-loop

@@ -1,8 +1,8 @@
 use borrow.Author.Tests.{not-true, not-false}
 use Rattle.errors_laws.proofs.LawsPush.{none-pushed, one-pushed, one-fits}
 use Rattle.errors_laws.proofs.LawsBranches.{second-own, second-ignored, second-scalar, second-other}
-use Rattle.reading_errors.proofs.reading.redefinition_errors.Statement.{statement}
-use Rattle.reading_errors.proofs.reading.redefinition_errors.Tie as tie
+use Rattle.redefinitions.proofs.redefinition_errors.Statement.{statement}
+use Rattle.redefinitions.proofs.redefinition_errors.Tie as tie
 use borrow.Author.Needs.{needs}
 
 word-requires : tie.Need-word-requires

@@ -1,7 +1,7 @@
 use Rattle.errors_laws.proofs.LawsPush.{none-pushed}
 use Rattle.errors_laws.proofs.LawsBranches.{same-pushed, same-room, early-other-kind, early-other-owner, early-own}
-use Rattle.reading_errors.proofs.reading.early_extension_errors.Statement.{statement}
-use Rattle.reading_errors.proofs.reading.early_extension_errors.Tie as tie
+use Rattle.extension_errors.proofs.early_extension_errors.Statement.{statement}
+use Rattle.extension_errors.proofs.early_extension_errors.Tie as tie
 use borrow.Author.Needs.{needs}
 
 card-kind-requires : tie.Need-card-kind-requires

@@ -9,8 +9,8 @@ use Rattle.errors_laws.specs.ByCards.{collides}
 use Rattle.errors_laws.specs.Views.{cardView}
 use Rattle.errors_laws.proofs.LawsPush.{none-pushed, one-pushed, one-fits}
 use Rattle.errors_laws.proofs.LawsBranches.{first-here, first-later, first-past, held-at, directive-found, directive-none}
-use Rattle.reading_errors.proofs.reading.directive_errors.Statement.{statement}
-use Rattle.reading_errors.proofs.reading.directive_errors.Tie as tie
+use Rattle.redefinitions.proofs.directive_errors.Statement.{statement}
+use Rattle.redefinitions.proofs.directive_errors.Tie as tie
 use borrow.Author.Needs.{needs}
 
 abbrev Inv-loop : tie.InvT-loop

@@ -1,8 +1,8 @@
 use native.Mathlib.Omega.{arith}
 use Rattle.errors_laws.proofs.LawsPush.{none-pushed, one-pushed, one-fits}
 use Rattle.errors_laws.proofs.LawsBranches.{same-pushed, same-room, late-waits, late-mismatch, late-merged}
-use Rattle.reading_errors.proofs.reading.type_extension_errors.Statement.{statement}
-use Rattle.reading_errors.proofs.reading.type_extension_errors.Tie as tie
+use Rattle.extension_errors.proofs.type_extension_errors.Statement.{statement}
+use Rattle.extension_errors.proofs.type_extension_errors.Tie as tie
 use borrow.Author.Needs.{needs}
 
 word-requires : tie.Need-word-requires
