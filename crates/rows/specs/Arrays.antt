@@ -1,14 +1,13 @@
 -- What drawing rows asks of the arrays that it is lent: all but the owners of `Indexed`. proofs/Catalogue.antt has the one from the other.
 use mathlib.Core.Path.{_≡_}
 use mathlib.Core.List.{List, [], map}
-use Prim.Native.Nat.{ℕ, _≤_, _<_}
-use lib.ListN.{length, take, getD}
+use Prim.Native.Nat.{ℕ}
+use lib.ListN.{take}
 use Rattle.definition.specs.Lists.{keep, firsts}
 use Rattle.definition.specs.Headings.{types, orphans, sameNamed, isTypeExtension}
-use Rattle.definition.specs.Store.{cardsUsed}
 use Rattle.stored.specs.Stored.{storedHeadings}
-use Rattle.index.specs.Index.{Printed, headingNumber, ownExtensions}
-use Rattle.component.specs.Drawn.{Stored, typeRowsAt}
+use Rattle.index.specs.Index.{Printed, headingNumber}
+use Rattle.component.specs.Drawn.{Stored}
 
 pub record Arrays (text words headings prints typeCards orphanCards extensionCards : List ℕ) (m t o e : ℕ) : Type 0 where
   pub printed : Printed text words prints
@@ -20,13 +19,3 @@ pub record Arrays (text words headings prints typeCards orphanCards extensionCar
   pub types-are : take t typeCards ≡ map headingNumber (types (storedHeadings text words))
   pub orphans-are : take o orphanCards ≡ map headingNumber (firsts sameNamed [] (orphans (storedHeadings text words)))
   pub extensions-are : take e extensionCards ≡ map headingNumber (keep isTypeExtension (storedHeadings text words))
-
--- And of the arrays that tell where among all extensions those of a type stand: with its part a defined type has the rows that it has with all.
--- proofs/Parts.antt has this from `Spanned`.
-pub record Parted (text words typeCards extensionCards starts ends : List ℕ) (t e : ℕ) : Type 0 where
-  pub starts-length : cardsUsed words ≤ length starts
-  pub ends-length : cardsUsed words ≤ length ends
-  pub part-draws :
-      (k : ℕ) → k < t →
-      typeRowsAt text words (ownExtensions (take e extensionCards) starts ends (getD typeCards k 0)) (getD typeCards k 0)
-      ≡ typeRowsAt text words (take e extensionCards) (getD typeCards k 0)

@@ -8,10 +8,10 @@ use Rattle.rows.proofs.draw_rows.Tie as tie
 use borrow.Author.Needs.{needs}
 use Rattle.rows.proofs.draw_rows.Reads as reads
 use Rattle.rows.proofs.draw_rows.Lts as lts
-use Rattle.rows.proofs.directive_definitions.Reads as directive-definitions-reads
+use Rattle.directive_rows.proofs.directive_definitions.Reads as directive-definitions-reads
 use Rattle.root_operations.proofs.push_schema.Reads as push-schema-reads
-use Rattle.rows.proofs.push_defined_types.Reads as push-defined-types-reads
-use Rattle.rows.proofs.push_types.Reads as push-types-reads
+use Rattle.type_rows.proofs.push_defined_types.Reads as push-defined-types-reads
+use Rattle.type_rows.proofs.push_types.Reads as push-types-reads
 
 push-schema-requires : tie.Need-push-schema-requires
 push-schema-requires c κs =

@@ -1,0 +1,2 @@
+-- The parts of all extensions that the rows of defined types are read from.
+pub mod Parted
