@@ -33,7 +33,7 @@ fn standing_directive(
     requires { ⌜ Printed (now text) (now words) (now prints) × Stored (now words) (now heads) m × (card < cardsUsed (now words)) ⌝ }
     ensures { λ r. ⌜ r ≡ standingAt (now (text .entry)) (now (words .entry)) (take m (now (heads .entry))) card ⌝ }
 {
-    let first = stored::built_in_count(words);
+    let first = documents::built_in_count(words);
     let mut standing = ABSENT;
     let mut i = 0;
     while i < m {

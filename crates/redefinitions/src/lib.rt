@@ -18,7 +18,7 @@ fn collides(text: &[u8], words: &[u32], prints: &[u32], h: u32, card: u32) -> bo
     if stored::card_kind(words, card as usize) != 3 {
         return false;
     }
-    if stored::built_in_at(words, card as usize) {
+    if documents::built_in_at(words, card as usize) {
         return false;
     }
     index::same_cards(text, words, prints, h, card)
@@ -60,10 +60,10 @@ pub fn redefinition_errors(
     ensures { λ r. ⌜ ledger (now (errors .exit)) r ≡ pushAll (ledger (now (errors .entry)) t) (redefinitionErrorsAt (cardsView (now (words .entry)) (now (owners .entry))) h) ⌝ }
 {
     let owner = stored::word(owners, h as usize);
-    if !stored::built_in_at(words, owner as usize) {
+    if !documents::built_in_at(words, owner as usize) {
         return pushing::push_error(errors, t, 4, h, owner);
     }
-    if stored::ignored_at(words, h as usize) {
+    if documents::ignored_at(words, h as usize) {
         return t;
     }
     if stored::card_kind(words, h as usize) == 5 {

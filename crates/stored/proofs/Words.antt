@@ -52,16 +52,6 @@ pub word-past : (words : List ℕ) (n k : ℕ) → cardsUsed words ≤ n → car
 unfolding cardWord
 word-past words n k h = rw (le-ltb n (cardsUsed words) h)
 
--- The same where the number of cards was read as a word.
-module _ (words : List ℕ) (n k used : ℕ) (e : used ≡ getD words 4 0) where
-  pub word-here : n < used → cardWord words n k ≡ getD words (261 + 5 * n + k) 0
-  unfolding cardWord cardsUsed
-  word-here h = rw (lt-ltb n (getD words 4 0) (omega arith))
-
-  pub word-none : used ≤ n → cardWord words n k ≡ 0
-  unfolding cardWord cardsUsed
-  word-none h = rw (le-ltb n (getD words 4 0) (omega arith))
-
 module _ (words : List ℕ) (n : ℕ) (h : n < cardsUsed words) where
   pub card-kind : cardFrom (drop (261 + 5 * n) words) .kind ≡ cardKind words n
   unfolding cardFrom cardKind
@@ -304,14 +294,6 @@ next-from words n = go (ltb n (cardsUsed words))
 
 -- The same where the number of cards was read.
 module _ (words : List ℕ) (n used : ℕ) (e : used ≡ cardsUsed words) where
-  pub after-end : used ≤ n → used ≡ nextCard words n
-  unfolding nextCard
-  after-end h = rw (le-ltb n (cardsUsed words) (omega arith)) e
-
-  pub after-here : n < used → n + 1 ≡ nextCard words n
-  unfolding nextCard
-  after-here h = rw (lt-ltb n (cardsUsed words) (omega arith))
-
   module _ (i : ℕ) (kind : ℕ) (k : kind ≡ cardKind words i) (p : Bool) (q : p ≡ isPart kind) where
     pub from-here : headingFrom words n ≡ headingFrom words i → i < used → p ≡ false → i ≡ headingFrom words n
     unfolding headingFrom

@@ -2,15 +2,16 @@
 -- proofs/Laws.antt shows that for a sound store both say the same.
 use mathlib.Core.List.{List, [], _∷_}
 use mathlib.Core.Bool.{Bool, false, _||_, not}
-use Prim.Native.Nat.{ℕ, _+_, _-_, _*_}
+use Prim.Native.Nat.{ℕ, _+_, _-_}
 use lib.Dec.{eqb, ltb}
 use lib.ListN.{length, drop, getD, getElem?}
 use Rattle.definition.specs.Lists.{choose, found, before}
-use Rattle.definition.specs.Names.{bytesAt}
-use Rattle.definition.specs.Cards.{Card, cardWords, isPart}
+use Rattle.definition.specs.Cards.{Card, isPart}
 use Rattle.definition.specs.Headings.{Part, Heading}
-use Rattle.definition.specs.Store.{rowsAt, cardsAt, StoredRow, storedRows, storedCards, cardsUsed}
+use Rattle.definition.specs.Store.{rowsAt, StoredRow, storedRows, storedCards, cardsUsed}
 use Rattle.definition.specs.LentRows.{cardsNamed}
+-- What the words alone say of one card is passed on.
+unfoldable pub use Rattle.card_words.specs.Cards.{cardWord, cardKind, itemStart, itemSize, cardItem, nameStart, nameSize, cardName, nextCard}
 
 -- ---- Cards.
 
@@ -22,34 +23,7 @@ storedParts text words = cardsNamed text 0 (storedCards words)
 unfoldable pub kindNumbered : List Part → ℕ → ℕ
 kindNumbered cs n = found (getElem? cs n) (λ c. c .kind) 0
 
--- The same by the words alone: word k of the card n, 0 where no such card is stored.
-unfoldable pub cardWord : List ℕ → ℕ → ℕ → ℕ
-cardWord words n k = choose (ltb n (cardsUsed words)) (getD words (cardsAt + cardWords * n + k) 0) 0
-
-unfoldable pub cardKind : List ℕ → ℕ → ℕ
-cardKind words n = cardWord words n 0
-
-unfoldable pub itemStart : List ℕ → ℕ → ℕ
-itemStart words n = cardWord words n 1
-
-unfoldable pub itemSize : List ℕ → ℕ → ℕ
-itemSize words n = cardWord words n 2
-
--- The bytes of a card's item, as far as the text reaches.
-unfoldable pub cardItem : List ℕ → List ℕ → ℕ → List ℕ
-cardItem text words n = bytesAt text (itemStart words n) (itemSize words n)
-
-unfoldable pub nameStart : List ℕ → ℕ → ℕ
-nameStart words n = cardWord words n 3
-
-unfoldable pub nameSize : List ℕ → ℕ → ℕ
-nameSize words n = cardWord words n 4
-
--- The bytes of a card's name, as far as the text reaches.
-unfoldable pub cardName : List ℕ → List ℕ → ℕ → List ℕ
-cardName text words n = bytesAt text (nameStart words n) (nameSize words n)
-
--- A card with both.
+-- A card with its kind and its name, by the words.
 abbrev pub cardAt : List ℕ → List ℕ → ℕ → Part
 cardAt text words n = record { number = n; kind = cardKind words n; name = cardName text words n }
 
@@ -118,10 +92,6 @@ partRun words i = length (before isHeadCard (drop i (storedCards words)))
 -- The first position from i on that has no part.
 unfoldable pub headingFrom : List ℕ → ℕ → ℕ
 headingFrom words i = i + partRun words i
-
--- The position after n, where n is one; else the number of cards.
-unfoldable pub nextCard : List ℕ → ℕ → ℕ
-nextCard words n = choose (ltb n (cardsUsed words)) (n + 1) (cardsUsed words)
 
 -- The first position after n that has a heading; the number of cards where there is none.
 unfoldable pub nextHeading : List ℕ → ℕ → ℕ

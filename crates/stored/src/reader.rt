@@ -1,9 +1,9 @@
 // A reader of a store's cards. Each of its functions takes it apart and calls one on plain slices, so compiled code is that of those.
-use crate::card_after;
 use crate::heading_from;
-use crate::item_of;
-use crate::kind_of;
-use crate::name_of;
+use card_words::card_after;
+use card_words::item_of;
+use card_words::kind_of;
+use card_words::name_of;
 ghost use mathlib.Core.Path.{_≡_};
 ghost use Rattle.stored.specs.Stored.{cardKind, cardItem, cardName, nextCard, nextHeading};
 

@@ -18,7 +18,7 @@ use Rattle.component.proofs.extend_ast.Reads as reads
 use Rattle.component.proofs.extend_ast.Lts as lts
 use Rattle.component.proofs.extend_part.Reads as extend-part-reads
 use Rattle.stored.proofs.card_kind.Reads as card-kind-reads
-use Rattle.stored.proofs.cards_used.Reads as cards-used-reads
+use Rattle.card_words.proofs.cards_used.Reads as cards-used-reads
 use Rattle.stored.proofs.is_part.Reads as is-part-reads
 
 abbrev Inv-loop : tie.InvT-loop

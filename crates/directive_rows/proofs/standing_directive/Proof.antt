@@ -14,7 +14,7 @@ use borrow.Author.Needs.{needs}
 use Rattle.directive_rows.proofs.standing_directive.Reads as reads
 use Rattle.directive_rows.proofs.standing_directive.Lts as lts
 use Rattle.directive_rows.proofs.names_directive.Reads as names-directive-reads
-use Rattle.stored.proofs.built_in_count.Reads as built-in-count-reads
+use Rattle.documents.proofs.built_in_count.Reads as built-in-count-reads
 
 abbrev Inv-loop : tie.InvT-loop
 Inv-loop text words prints headings count card first standing₀ i₀ standing i =

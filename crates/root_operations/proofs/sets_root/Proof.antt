@@ -15,7 +15,7 @@ use borrow.Author.Needs.{needs}
 use Rattle.root_operations.proofs.sets_root.Reads as reads
 use Rattle.root_operations.proofs.sets_root.Lts as lts
 use Rattle.stored.proofs.card_kind.Reads as card-kind-reads
-use Rattle.stored.proofs.cards_used.Reads as cards-used-reads
+use Rattle.card_words.proofs.cards_used.Reads as cards-used-reads
 use Rattle.stored.proofs.is_part.Reads as is-part-reads
 
 abbrev Inv-loop : tie.InvT-loop
