@@ -91,7 +91,7 @@ pub fn type_field(
     if number != 0 {
         return FieldLookup::Refused(number);
     }
-    fields::type_field(text, words, rows, type_name, field)
+    lookup::type_field(text, words, rows, type_name, field)
 }
 
 // Whether the type of the other name implements the interface or is a member of the union of the general name.
@@ -108,7 +108,7 @@ pub fn is_subtype(
     if number != 0 {
         return SubtypeLookup::Refused(number);
     }
-    subtypes::is_subtype(text, words, rows, general, other)
+    lookup::is_subtype(text, words, rows, general, other)
 }
 
 // Writes the origin of each part of the schema definition.

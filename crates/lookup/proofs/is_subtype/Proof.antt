@@ -4,9 +4,9 @@ use Prim.Native.Nat.{_/_, _<_}
 use native.Mathlib.Omega.{arith}
 use lib.ListN.{length}
 use denote.Ref.{now}
-use Rattle.subtypes.proofs.Answers.{subtype-none, general-inside, subtype-interface, subtype-union, subtype-neither}
-use Rattle.subtypes.proofs.is_subtype.Statement.{statement}
-use Rattle.subtypes.proofs.is_subtype.Tie as tie
+use Rattle.lookup.proofs.Subtypes.{subtype-none, general-inside, subtype-interface, subtype-union, subtype-neither}
+use Rattle.lookup.proofs.is_subtype.Statement.{statement}
+use Rattle.lookup.proofs.is_subtype.Tie as tie
 use borrow.Author.Needs.{needs}
 
 owned : (c : tie.After-owner) → c .owner .given .0 .0 < length (now (c .before .before .before .before .before .before .before .before .args .rows)) / 3

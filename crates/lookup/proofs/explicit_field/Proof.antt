@@ -1,8 +1,8 @@
 -- By what was found.
 use native.Mathlib.Omega.{arith}
-use Rattle.fields.proofs.Answers.{explicit-none, explicit-inside, explicit-some}
-use Rattle.fields.proofs.explicit_field.Statement.{statement}
-use Rattle.fields.proofs.explicit_field.Tie as tie
+use Rattle.lookup.proofs.Fields.{explicit-none, explicit-inside, explicit-some}
+use Rattle.lookup.proofs.explicit_field.Statement.{statement}
+use Rattle.lookup.proofs.explicit_field.Tie as tie
 use borrow.Author.Needs.{needs}
 
 enum-known-part : tie.Need-enum-known-part

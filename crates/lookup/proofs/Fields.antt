@@ -1,4 +1,4 @@
--- What the lookups answer, by the cases that the code tells apart.
+-- What type_field answers, by the cases that the code tells apart.
 use mathlib.Core.Path.{_≡_, refl, sym, _∙_, ap}
 use mathlib.Core.List.{List}
 use mathlib.Core.Bool.{true}
@@ -21,7 +21,7 @@ use Rattle.rows_search.specs.declared.Found.the-variants.{Row as RowAt, Nothing
 use Rattle.rows_search.proofs.Rows.{Hit, hit-inside, hit-row}
 use Rattle.rows_search.specs.declared.Located.{Located}
 use Rattle.rows_search.specs.Search.{locatedFrom}
-use Rattle.fields.specs.Answers.{isInside, explicitField, firstFound}
+use Rattle.lookup.specs.Answers.{isInside, explicitField, firstFound}
 use Rattle.rows_search.proofs.Search.{blockAfter, TypeAt, located-none, located-type, located-no-part, located-part}
 
 -- ---- An explicit field.

@@ -1,9 +1,9 @@
 -- By the first answer's case.
 use mathlib.Core.Path.{sym, ap}
 use Rattle.definition.specs.declared.FieldLookup.{FieldLookup}
-use Rattle.fields.specs.Answers.{firstFound}
-use Rattle.fields.proofs.first_found.Statement.{statement}
-use Rattle.fields.proofs.first_found.Tie as tie
+use Rattle.lookup.specs.Answers.{firstFound}
+use Rattle.lookup.proofs.first_found.Statement.{statement}
+use Rattle.lookup.proofs.first_found.Tie as tie
 use borrow.Author.Needs.{needs}
 
 enum-known-own : tie.Need-enum-known-own

@@ -4,10 +4,10 @@ use Prim.Native.Nat.{_/_, _<_}
 use native.Mathlib.Omega.{arith}
 use lib.ListN.{length}
 use denote.Ref.{now}
-use Rattle.fields.specs.Answers.{firstFound}
-use Rattle.fields.proofs.Answers.{field-no-type, field-type-inside, part-inside, field-answer}
-use Rattle.fields.proofs.type_field.Statement.{statement}
-use Rattle.fields.proofs.type_field.Tie as tie
+use Rattle.lookup.specs.Answers.{firstFound}
+use Rattle.lookup.proofs.Fields.{field-no-type, field-type-inside, part-inside, field-answer}
+use Rattle.lookup.proofs.type_field.Statement.{statement}
+use Rattle.lookup.proofs.type_field.Tie as tie
 use borrow.Author.Needs.{needs}
 
 owned : (c : tie.After-owner) → c .owner .given .0 .0 < length (now (c .before .before .before .before .before .before .before .before .args .rows)) / 3
