@@ -5,7 +5,7 @@ use mathlib.Core.Bool.{Bool}
 use mathlib.Core.Option.{Option, none, some}
 use Prim.Native.Nat.{ℕ, _+_, _%_, _≤_, _<_}
 use lib.ListN.{length, take, getD}
-use Rattle.definition.specs.Lists.{found, firstWhere, firsts}
+use Rattle.definition.specs.Lists.{found, firstWhere}
 use Rattle.definition.specs.Answers.{absent}
 use Rattle.index.specs.Index.{sameCards, cardPrint}
 use Rattle.entry.specs.declared.Entry.{Entry}
