@@ -1,22 +1,26 @@
--- The origins of the schema definition's parts: the turns of the walks over the rows before the first type row.
+-- The origins of the schema definition's parts: the next part of the rows before the first type row, and the turns of the walks over the parts.
 use mathlib.Core.Path.{_≡_, refl, sym, _∙_, ap}
-use mathlib.Core.List.{List, [], _∷_, _++_}
+use mathlib.Core.List.{List, [], _∷_, _++_, map}
 use mathlib.Core.Bool.{Bool, true, false, _&&_, not}
-use Prim.Native.Nat.{ℕ, _+_, _*_, _/_, _≤_, _<_}
+use mathlib.Core.Option.{some}
+use Prim.Native.Nat.{ℕ, suc, _+_, _*_, _/_, _≤_, _<_}
 use native.Mathlib.Numerals.{add-one}
 use native.Mathlib.Omega.{arith}
 use borrow.Author.Tests.{eq-eqb, ne-eqb, le-leb, lt-leb}
 use lib.Dec.{eqb, leb}
-use lib.ListN.{length, take, drop, getD, set, drop-of-length-le}
-use lib.Seq.{drop-cons}
+use lib.ListN.{length, take, drop, getD, getElem?, set, drop-of-length-le}
+use lib.Seq.{drop-cons, drop-drop}
 use Rattle.definition.specs.Lists.{choose, keep, any, firsts}
 use Rattle.definition.specs.Answers.{absent}
-use Rattle.definition.specs.Cards.{isType, isRoot}
-use Rattle.definition.specs.Catalogue.{row}
+use Rattle.definition.specs.Cards.{isRoot}
+use Rattle.definition.specs.Catalogue.{Row, row}
 use Rattle.definition.specs.LentRows.{lentRows, isTypeRow}
 use Rattle.definition.specs.Lookups.{blocks, isRowOf, isSchemaPart, originOf, originList, isCard, extensionList}
+use Rattle.stored.proofs.Lists.{get-drop, get-inside}
+use Rattle.rows_search.specs.declared.Found.the-variants.{Row as RowAt, Nothing}
 use Rattle.rows_search.specs.Rows.{rowAt}
-use Rattle.rows_search.proofs.Rows.{row-next, row-end}
+use Rattle.rows_search.specs.Search.{partFrom}
+use Rattle.rows_search.proofs.Rows.{length-rows, row-get, never, never-row}
 use Rattle.origins.specs.Extensions.{isNew}
 use Rattle.rows_search.proofs.Search.{blocks-type, blocks-under, blocks-nil}
 use Rattle.rows_search.proofs.Listing.{Listing, listing-start, listing-push, listing-length, pushed-words}
@@ -40,31 +44,86 @@ module _ (what card origin : ℕ) where
   unfolding isSchemaPart isRowOf
   schema-any = refl
 
--- ---- A turn.
+-- ---- The next part.
 
+module _ (x : Row) (xs : List Row) where
+  kept-stop : isTypeRow x ≡ true → keep isSchemaPart (blocks (x ∷ xs) .0) ≡ []
+  unfolding keep
+  kept-stop s = rw (blocks-type x xs s)
+
+  kept-part : isTypeRow x ≡ false → isSchemaPart x ≡ true → keep isSchemaPart (blocks (x ∷ xs) .0) ≡ x ∷ keep isSchemaPart (blocks xs .0)
+  unfolding keep
+  kept-part s t = rw (blocks-under x xs s, t)
+
+  kept-other : isTypeRow x ≡ false → isSchemaPart x ≡ false → keep isSchemaPart (blocks (x ∷ xs) .0) ≡ keep isSchemaPart (blocks xs .0)
+  unfolding keep
+  kept-other s t = rw (blocks-under x xs s, t)
+
+kept-end : keep isSchemaPart (blocks [] .0) ≡ []
+unfolding keep
+kept-end = rw blocks-nil
+
+kept-none : (i : ℕ) (xs : List Row) → partFrom isSchemaPart i xs ≡ Nothing → keep isSchemaPart (blocks xs .0) ≡ []
+unfolding partFrom
+kept-none i [] e = kept-end
+kept-none i (x ∷ xs) e = go (isTypeRow x) (isSchemaPart x) refl refl e (kept-none (i + 1) xs)
+  where
+    go : (a b : Bool) → isTypeRow x ≡ a → isSchemaPart x ≡ b → choose a Nothing (choose b (RowAt i) (partFrom isSchemaPart (i + 1) xs)) ≡ Nothing →
+        (partFrom isSchemaPart (i + 1) xs ≡ Nothing → keep isSchemaPart (blocks xs .0) ≡ []) → keep isSchemaPart (blocks (x ∷ xs) .0) ≡ []
+    go true b s t e ih = kept-stop x xs s
+    go false true s t e ih = never-row e
+    go false false s t e ih = kept-other x xs s t ∙ ih e
+
+-- The part that was found, and what is left after it.
+record Next (i : ℕ) (xs : List Row) (k : ℕ) : Type 0 where
+  pub at : ℕ
+  pub row : Row
+  pub place : k ≡ i + at
+  pub held : getElem? xs at ≡ some row
+  pub rest : keep isSchemaPart (blocks xs .0) ≡ row ∷ keep isSchemaPart (blocks (drop (suc at) xs) .0)
+
+kept-next : (i : ℕ) (xs : List Row) (k : ℕ) → partFrom isSchemaPart i xs ≡ RowAt k → Next i xs k
+unfolding partFrom
+kept-next i [] k e = never e
+kept-next i (x ∷ xs) k e = go (isTypeRow x) (isSchemaPart x) refl refl e (kept-next (i + 1) xs k)
+  where
+    go : (a b : Bool) → isTypeRow x ≡ a → isSchemaPart x ≡ b → choose a Nothing (choose b (RowAt i) (partFrom isSchemaPart (i + 1) xs)) ≡ RowAt k →
+        (partFrom isSchemaPart (i + 1) xs ≡ RowAt k → Next (i + 1) xs k) → Next i (x ∷ xs) k
+    go true b s t e ih = never e
+    go false true s t e ih = let q : i ≡ k = cc in record { at = 0; row = x; place = omega arith; held = refl; rest = kept-part x xs s t }
+    go false false s t e ih =
+        let n = ih e in
+        record { at = suc (n .at); row = n .row; place = (let p = n .place in omega arith); held = n .held; rest = kept-other x xs s t ∙ n .rest }
+
+-- Of lent rows.
 module _ (rows : List ℕ) (i : ℕ) where
-  pub origins-end : length rows / 3 ≤ i → originList (drop i (lentRows rows)) ≡ []
-  unfolding originList keep
-  origins-end h = rw (row-end rows i h, blocks-nil)
+  pub origins-none : partFrom isSchemaPart i (drop i (lentRows rows)) ≡ Nothing → originList (drop i (lentRows rows)) ≡ []
+  unfolding originList
+  origins-none e = ap (map originOf) (kept-none i (drop i (lentRows rows)) e)
 
-  module _ (h : i < length rows / 3) where
-    pub origins-stop : isType (getD rows (3 * i) 0) ≡ true → originList (drop i (lentRows rows)) ≡ []
-    unfolding originList keep isTypeRow
-    origins-stop e = rw (row-next rows i h, blocks-type (rowAt rows i) (drop (i + 1) (lentRows rows)) e)
+  module _ (k : ℕ) (e : partFrom isSchemaPart i (drop i (lentRows rows)) ≡ RowAt k) where
+    next-part : Next i (drop i (lentRows rows)) k
+    next-part = kept-next i (drop i (lentRows rows)) k e
 
-    module _ (e : isType (getD rows (3 * i) 0) ≡ false) where
-      under : blocks (drop i (lentRows rows)) .0 ≡ rowAt rows i ∷ blocks (drop (i + 1) (lentRows rows)) .0
-      unfolding isTypeRow
-      under = rw (row-next rows i h, blocks-under (rowAt rows i) (drop (i + 1) (lentRows rows)) e)
+    next-held : getElem? (lentRows rows) k ≡ some (next-part .row)
+    next-held = ap (getElem? (lentRows rows)) (next-part .place) ∙ sym (get-drop (lentRows rows) i (next-part .at)) ∙ next-part .held
 
-      pub origins-other : isSchemaPart (row (getD rows (3 * i) 0) 0 0) ≡ false → originList (drop i (lentRows rows)) ≡ originList (drop (i + 1) (lentRows rows))
-      unfolding originList keep
-      origins-other f = rw (under, sym (schema-any (getD rows (3 * i) 0) (getD rows (3 * i + 1) 0) (getD rows (3 * i + 2) 0)) ∙ f)
+    pub next-after : i ≤ k
+    next-after = let p = next-part .place in omega arith
 
-      pub origins-part : isSchemaPart (row (getD rows (3 * i) 0) 0 0) ≡ true →
-          originList (drop i (lentRows rows)) ≡ getD rows (3 * i + 2) 0 ∷ originList (drop (i + 1) (lentRows rows))
-      unfolding originList keep originOf
-      origins-part f = rw (under, sym (schema-any (getD rows (3 * i) 0) (getD rows (3 * i + 1) 0) (getD rows (3 * i + 2) 0)) ∙ f)
+    pub next-inside : k < length rows / 3
+    next-inside = let g = get-inside (lentRows rows) k (next-part .row) next-held in let l = length-rows rows in omega arith
+
+    pub origins-next : originList (drop i (lentRows rows)) ≡ getD rows (3 * k + 2) 0 ∷ originList (drop (k + 1) (lentRows rows))
+    unfolding originList originOf
+    origins-next =
+        let f : some (next-part .row) ≡ some (rowAt rows k) = sym next-held ∙ row-get rows k next-inside in
+        let r : next-part .row ≡ rowAt rows k = cc in
+        let p : i + suc (next-part .at) ≡ k + 1 = (let p = next-part .place in omega arith) in
+        let d : drop (suc (next-part .at)) (drop i (lentRows rows)) ≡ drop (k + 1) (lentRows rows) =
+        drop-drop (suc (next-part .at)) i (lentRows rows) ∙ ap (λ (m : ℕ). drop m (lentRows rows)) p in
+        ap (map originOf) (next-part .rest)
+        ∙ (λ j. originOf (r j) ∷ map originOf (keep isSchemaPart (blocks (d j) .0)))
 
 -- ---- A word among words.
 

@@ -1,13 +1,15 @@
 // schema/mod.rs: the origins of the schema definition of lent rows, and the extensions among them.
+use rows_search::Found;
 ghost use mathlib.Core.Path.{_≡_};
 ghost use mathlib.Core.Bool.{true};
 ghost use Prim.Native.Nat.{_<_, _≤_, _+_};
 ghost use lib.Dec.{eqb};
-ghost use lib.ListN.{length, take, set};
+ghost use lib.ListN.{length, take, drop, set};
 ghost use Rattle.definition.specs.Lists.{choose, any, written};
 ghost use Rattle.definition.specs.Catalogue.{row};
 ghost use Rattle.definition.specs.LentRows.{lentRows};
 ghost use Rattle.definition.specs.Lookups.{isSchemaPart, originList, extensionList};
+ghost use Rattle.rows_search.specs.Search.{partFrom};
 ghost use Rattle.origins.specs.Extensions.{isNew};
 
 // The word that stands for no card.
@@ -26,28 +28,40 @@ fn is_schema_part(what: u32) -> bool
     what <= 28
 }
 
+// The next part of the schema definition from a row on; both lists walk over the parts by it.
+fn next_part(rows: &[u32], start: usize) -> Found
+    ensures { λ r. ⌜ r ≡ partFrom isSchemaPart start (drop start (lentRows (now (rows .entry)))) ⌝ }
+{
+    let count = rows.len() / 3;
+    let mut i = start;
+    while i < count {
+        let what = rows[3 * i];
+        if rows_search::is_type(what) {
+            return Found::Nothing;
+        }
+        if is_schema_part(what) {
+            return Found::Row(i);
+        }
+        i += 1;
+    }
+    Found::Nothing
+}
+
 // The origins of the schema definition's parts, in order. How many there are is handed back.
 pub fn iter_origins(rows: &[u32], list: &mut [u32]) -> usize
     requires { ⌜ length (originList (lentRows (now rows))) ≤ length (now list) ⌝ }
     ensures { λ r. ⌜ (r ≡ length (originList (lentRows (now (rows .entry))))) × (now (list .exit) ≡ written (now (list .entry)) 0 (originList (lentRows (now (rows .entry))))) ⌝ }
 {
-    let count = rows.len() / 3;
     let mut n = 0;
     let mut i = 0;
-    while i < count {
-        let what = rows[3 * i];
-        if rows_search::is_type(what) {
+    loop {
+        let Found::Row(k) = next_part(rows, i) else {
             return n;
-        }
-        if !is_schema_part(what) {
-            i += 1;
-            continue;
-        }
-        list[n] = rows[3 * i + 2];
+        };
+        list[n] = rows[3 * k + 2];
         n += 1;
-        i += 1;
+        i = k + 1;
     }
-    n
 }
 
 fn contains(list: &[u32], x: u32) -> bool
@@ -83,20 +97,13 @@ pub fn extensions(rows: &[u32], list: &mut [u32]) -> usize
     requires { ⌜ length (extensionList (lentRows (now rows))) ≤ length (now list) ⌝ }
     ensures { λ r. ⌜ (r ≡ length (extensionList (lentRows (now (rows .entry))))) × (now (list .exit) ≡ written (now (list .entry)) 0 (extensionList (lentRows (now (rows .entry))))) ⌝ }
 {
-    let count = rows.len() / 3;
     let mut n = 0;
     let mut i = 0;
-    while i < count {
-        let what = rows[3 * i];
-        if rows_search::is_type(what) {
+    loop {
+        let Found::Row(k) = next_part(rows, i) else {
             return n;
-        }
-        if !is_schema_part(what) {
-            i += 1;
-            continue;
-        }
-        n = add_extension(list, n, rows[3 * i + 2]);
-        i += 1;
+        };
+        n = add_extension(list, n, rows[3 * k + 2]);
+        i = k + 1;
     }
-    n
 }
