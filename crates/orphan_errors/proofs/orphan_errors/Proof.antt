@@ -1,7 +1,7 @@
 use Rattle.errors_laws.specs.Views.{viewOf}
 use Rattle.errors_laws.proofs.LawsBranches.{same-pushed, same-room, orphans-adopted, orphans-unadopted}
-use Rattle.errors.proofs.drawing.orphan_errors.Statement.{statement}
-use Rattle.errors.proofs.drawing.orphan_errors.Tie as tie
+use Rattle.orphan_errors.proofs.orphan_errors.Statement.{statement}
+use Rattle.orphan_errors.proofs.orphan_errors.Tie as tie
 use borrow.Author.Needs.{needs}
 
 adoption-errors-requires : tie.Need-adoption-errors-requires

@@ -1,8 +1,8 @@
 use borrow.Author.Tests.{not-true, not-false}
 use Rattle.errors_laws.proofs.LawsPush.{none-pushed, one-pushed, one-fits}
 use Rattle.errors_laws.proofs.LawsBranches.{same-pushed, same-room, adopt-other, adopt-mismatch, adopt-merged}
-use Rattle.errors.proofs.drawing.adopt_extension.Statement.{statement}
-use Rattle.errors.proofs.drawing.adopt_extension.Tie as tie
+use Rattle.orphan_errors.proofs.adopt_extension.Statement.{statement}
+use Rattle.orphan_errors.proofs.adopt_extension.Tie as tie
 use borrow.Author.Needs.{needs}
 
 is-orphan-of-requires : tie.Need-is-orphan-of-requires

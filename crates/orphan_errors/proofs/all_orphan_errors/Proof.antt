@@ -10,8 +10,8 @@ use Rattle.errors_laws.proofs.LawsBranches.{held-at}
 use Rattle.errors_laws.specs.ByCards.{orphanErrorsAt}
 use Rattle.errors_laws.specs.Views.{viewOf}
 use Rattle.stored.specs.Stored.{cardKind}
-use Rattle.errors.proofs.drawing.all_orphan_errors.Statement.{statement}
-use Rattle.errors.proofs.drawing.all_orphan_errors.Tie as tie
+use Rattle.orphan_errors.proofs.all_orphan_errors.Statement.{statement}
+use Rattle.orphan_errors.proofs.all_orphan_errors.Tie as tie
 use borrow.Author.Needs.{needs}
 
 abbrev Inv-loop : tie.InvT-loop

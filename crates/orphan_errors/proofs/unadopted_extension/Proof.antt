@@ -2,8 +2,8 @@ use mathlib.Core.List.{[]}
 use borrow.Author.Tests.{not-true, not-false}
 use Rattle.errors_laws.proofs.LawsPush.{none-pushed, one-pushed, one-fits}
 use Rattle.errors_laws.proofs.LawsBranches.{unadopted-other, unadopted-same}
-use Rattle.errors.proofs.drawing.unadopted_extension.Statement.{statement}
-use Rattle.errors.proofs.drawing.unadopted_extension.Tie as tie
+use Rattle.orphan_errors.proofs.unadopted_extension.Statement.{statement}
+use Rattle.orphan_errors.proofs.unadopted_extension.Tie as tie
 use borrow.Author.Needs.{needs}
 
 is-orphan-of-requires : tie.Need-is-orphan-of-requires

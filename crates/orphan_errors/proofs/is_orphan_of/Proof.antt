@@ -1,8 +1,8 @@
 use mathlib.Core.Path.{sym, _∙_}
 use Rattle.index.specs.Index.{sameCards}
 use Rattle.errors_laws.proofs.LawsBranches.{orphan-owned, orphan-named}
-use Rattle.errors.proofs.drawing.is_orphan_of.Statement.{statement}
-use Rattle.errors.proofs.drawing.is_orphan_of.Tie as tie
+use Rattle.orphan_errors.proofs.is_orphan_of.Statement.{statement}
+use Rattle.orphan_errors.proofs.is_orphan_of.Tie as tie
 use borrow.Author.Needs.{needs}
 
 word-requires : tie.Need-word-requires

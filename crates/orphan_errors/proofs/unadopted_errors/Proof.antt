@@ -9,8 +9,8 @@ use Rattle.errors_laws.proofs.LawsPush.{Going, going-start, next-room, next-on,
 use Rattle.errors_laws.proofs.LawsBranches.{held-at}
 use Rattle.errors_laws.specs.ByCards.{unadoptedErrorsAt}
 use Rattle.errors_laws.specs.Views.{viewOf}
-use Rattle.errors.proofs.drawing.unadopted_errors.Statement.{statement}
-use Rattle.errors.proofs.drawing.unadopted_errors.Tie as tie
+use Rattle.orphan_errors.proofs.unadopted_errors.Statement.{statement}
+use Rattle.orphan_errors.proofs.unadopted_errors.Tie as tie
 use borrow.Author.Needs.{needs}
 
 abbrev Inv-loop : tie.InvT-loop
