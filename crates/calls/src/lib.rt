@@ -1,3 +1,2 @@
-// The lines of a file of calls: which call a line is, its words and its numbers.
-pub mod command;
+// The lines of a file of calls: a line's words and its numbers.
 pub mod parse;

@@ -2,17 +2,15 @@
 mod switches;
 
 use definition::Answer;
+use filed::document::Filed;
+use filed::document::file_document;
 use libc::STDOUT_FILENO;
 use listed::buffers;
-use listed::documents::Document;
-use listed::documents::read_document;
 use listed::put::put_listing;
 use listed::put::put_refusal;
 use switches::Switches;
 use switches::SwitchesFile;
 use switches::read_switches;
-ghost use Prim.Native.Nat.{_+_, _*_, _≤_};
-ghost use lib.ListN.{length};
 
 // No folder has a document of this number: the store holds 64.
 const LAST: usize = 18446744073709551615;
@@ -46,12 +44,9 @@ fn main() {
 
 // Files document after document, and answers whether to draw them: if not, a refusal was printed or it was told what can't be read.
 fn file_documents(switches: Switches, text: &mut [u8], words: &mut [u32]) -> bool {
-    let mut lent = buffers::file_bytes();
-    let mut bytes = buffers::file_bytes();
-    let mut cards = buffers::card_words();
     let mut n = 0;
     while n < LAST {
-        match file_document(n, switches, text, words, &mut lent, &mut bytes, &mut cards) {
+        match run_document(n, switches, text, words) {
             Next::Document => n += 1,
             Next::Drawing => return true,
             Next::End => return false,
@@ -60,57 +55,26 @@ fn file_documents(switches: Switches, text: &mut [u8], words: &mut [u32]) -> boo
     true
 }
 
-// A document's turn: it is read and filed, or its refusal is printed.
-fn file_document(
-    n: usize,
-    switches: Switches,
-    text: &mut [u8],
-    words: &mut [u32],
-    lent: &mut [u8],
-    bytes: &mut [u8],
-    cards: &mut [u32],
-) -> Next
-    requires { ⌜ length (now bytes) ≤ 4 * length (now cards) + 1 ⌝ }
-{
-    let document = read_document(b"", n, lent, bytes, cards);
-    match document {
-        Document::Missing => Next::Drawing,
-        Document::Told => Next::End,
-        Document::Uneven => {
-            print_refusal(Answer { number: 1, card: 0 });
-            Next::End
-        }
-        Document::Read {
-            text: size,
-            cards: count,
-        } => {
-            let answer = file(n, switches, text, words, &lent[..size], &cards[..count]);
-            if answer.number == 0 {
+// A document's turn: it is filed, or its refusal is printed. Document 0 opens the store, and behind it the switches are turned on.
+fn run_document(n: usize, switches: Switches, text: &mut [u8], words: &mut [u32]) -> Next {
+    match file_document(n == 0, b"", n, text, words) {
+        Filed::Missing => Next::Drawing,
+        Filed::Told => Next::End,
+        Filed::Uneven => print_refusal(Answer { number: 1, card: 0 }),
+        Filed::Answered(filed) => {
+            if filed.number != 0 {
+                return print_refusal(filed);
+            }
+            if n != 0 {
                 return Next::Document;
             }
-            print_refusal(answer);
-            Next::End
+            let answer = turn_on(switches, text, words);
+            if answer.number != 0 {
+                return print_refusal(answer);
+            }
+            Next::Document
         }
     }
-}
-
-// Document 0 opens the store, and behind it the switches are turned on.
-fn file(
-    n: usize,
-    switches: Switches,
-    text: &mut [u8],
-    words: &mut [u32],
-    lent: &[u8],
-    cards: &[u32],
-) -> Answer {
-    if n != 0 {
-        return collection::add_ast(text, words, lent, cards);
-    }
-    let opened = collection::open(text, words, lent, cards);
-    if opened.number != 0 {
-        return opened;
-    }
-    turn_on(switches, text, words)
 }
 
 fn turn_on(switches: Switches, text: &[u8], words: &mut [u32]) -> Answer {
@@ -135,10 +99,12 @@ fn draw(text: &[u8], words: &[u32]) {
     print(&out[..n]);
 }
 
-fn print_refusal(answer: Answer) {
+// A refusal is the last that is printed.
+fn print_refusal(answer: Answer) -> Next {
     let mut out = [0u8; 64];
     let n = put_refusal(answer, &mut out);
     print(&out[..n]);
+    Next::End
 }
 
 fn print(bytes: &[u8]) {

@@ -1,30 +1,26 @@
-// The lines of a case, one after another, over its store, rows and errors.
-use crate::buffers;
-use crate::change::run_change;
-use crate::compare::copy_bytes;
-use crate::compare::copy_words;
-use crate::compare::first_bytes;
-use crate::compare::first_words;
-use crate::compare::same_words;
-use crate::draw::run_build;
-use crate::draw::run_tallies;
-use crate::filing::run_filing;
-use crate::filing::run_switch;
-use crate::lookups::run_lookup;
-use crate::report::Tally;
-use crate::report::count;
-use crate::report::count_unended;
-use crate::step::Lent;
-use crate::step::Step;
-use crate::step::Verdict;
-use crate::step::Writes;
-use crate::step::asked;
-use crate::step::changed;
-use crate::step::failed;
-use calls::command::Command;
-use calls::command::command_of;
+// The lines of a case, one after another, over its store and rows.
+use asked::run_lookup;
 use calls::parse::word;
 use definition::Tallies;
+use drawn::run_build;
+use filed::filing::run_filing;
+use filed::filing::run_switch;
+use held::hold::hold_tallies;
+use held::report::Tally;
+use held::report::count;
+use held::report::count_unended;
+use steps::buffers;
+use steps::change::run_change;
+use steps::command::Call;
+use steps::command::Command;
+use steps::command::command_of;
+use steps::compare::first_words;
+use steps::compare::least;
+use steps::step::Lent;
+use steps::step::Step;
+use steps::step::Verdict;
+use steps::step::asked;
+use steps::step::told;
 ghost use mathlib.Core.Path.{_≡_};
 ghost use Prim.Native.Nat.{_+_, _<_, _≤_};
 ghost use lib.ListN.{length};
@@ -37,9 +33,6 @@ pub fn run_lines(case: usize, folder: &[u8], calls: &[u8]) -> Tally
     let mut text = buffers::text();
     let mut words = buffers::words();
     let mut rows = buffers::rows();
-    let mut errors = buffers::errors();
-    let mut kept_text = buffers::text();
-    let mut kept_words = buffers::words();
     let mut lent = whole();
     let mut tally = Tally {
         calls: 0,
@@ -54,17 +47,7 @@ pub fn run_lines(case: usize, folder: &[u8], calls: &[u8]) -> Tally
             return count_unended(case, number, &calls[at..end], tally);
         }
         let line = &calls[at..end];
-        let step = run_line(
-            folder,
-            line,
-            lent,
-            &mut text,
-            &mut words,
-            &mut rows,
-            &mut errors,
-            &mut kept_text,
-            &mut kept_words,
-        );
+        let step = run_line(folder, line, lent, &mut text, &mut words, &mut rows);
         lent = step.lent;
         tally = count(case, number, line, step, tally);
         at = end + 1;
@@ -101,117 +84,6 @@ fn line_end(calls: &[u8], at: usize) -> usize
     i
 }
 
-// Runs a line, and sees that all stayed which it may not write.
-fn run_line(
-    folder: &[u8],
-    line: &[u8],
-    lent: Lent,
-    text: &mut [u8],
-    words: &mut [u32],
-    rows: &mut [u32],
-    errors: &mut [u32],
-    kept_text: &mut [u8],
-    kept_words: &mut [u32],
-) -> Step
-    requires { ⌜ (length (now folder) ≤ 24) × (length (now line) ≤ 262144) × (length (now rows) ≡ 6912) × (length (now errors) ≡ 6900) ⌝ }
-{
-    let mut old_text = buffers::text();
-    let mut old_words = buffers::words();
-    let mut old_rows = buffers::rows();
-    let mut old_errors = buffers::errors();
-    copy_bytes(text, &mut old_text);
-    copy_words(words, &mut old_words);
-    copy_words(rows, &mut old_rows);
-    copy_words(errors, &mut old_errors);
-    let step = run_command(
-        folder,
-        line,
-        lent,
-        text,
-        words,
-        rows,
-        errors,
-        kept_text,
-        kept_words,
-    );
-    let writes = step.writes;
-    if !store_stayed(writes, text, &old_text, words, &old_words) {
-        return blamed(step);
-    }
-    if !drawing_stayed(writes, rows, &old_rows, errors, &old_errors) {
-        return blamed(step);
-    }
-    step
-}
-
-// Something was changed that had to stay; an answer that differs is told first.
-fn blamed(step: Step) -> Step {
-    let lent = step.lent;
-    let verdict = step.verdict;
-    if let Verdict::Passed = verdict {
-        return Step {
-            lent,
-            verdict: Verdict::Changed,
-            writes: Writes::Nothing,
-            called: step.called,
-        };
-    }
-    step
-}
-
-// The store stays unless the line writes it.
-fn store_stayed(
-    writes: Writes,
-    text: &[u8],
-    old_text: &[u8],
-    words: &[u32],
-    old_words: &[u32],
-) -> bool {
-    if let Writes::Store = writes {
-        return true;
-    }
-    if !check::same(text, old_text) {
-        return false;
-    }
-    same_words(words, old_words, 0)
-}
-
-// Rows and errors stay, of a drawing those past what is drawn.
-fn drawing_stayed(
-    writes: Writes,
-    rows: &[u32],
-    old_rows: &[u32],
-    errors: &[u32],
-    old_errors: &[u32],
-) -> bool {
-    match writes {
-        Writes::Drawing { rows: r, errors: e } => tails_stayed(
-            rows,
-            old_rows,
-            r,
-            errors,
-            old_errors,
-            e,
-        ),
-        Writes::Nothing => tails_stayed(rows, old_rows, 0, errors, old_errors, 0),
-        Writes::Store => tails_stayed(rows, old_rows, 0, errors, old_errors, 0),
-    }
-}
-
-fn tails_stayed(
-    rows: &[u32],
-    old_rows: &[u32],
-    r: usize,
-    errors: &[u32],
-    old_errors: &[u32],
-    e: usize,
-) -> bool {
-    if !same_words(rows, old_rows, r) {
-        return false;
-    }
-    same_words(errors, old_errors, e)
-}
-
 // Whether a line is to be passed over.
 fn is_comment(line: &[u8]) -> bool {
     if line.len() == 0 {
@@ -220,42 +92,63 @@ fn is_comment(line: &[u8]) -> bool {
     line[0] == b'#'
 }
 
-fn run_command(
+fn run_line(
     folder: &[u8],
     line: &[u8],
     lent: Lent,
     text: &mut [u8],
     words: &mut [u32],
     rows: &mut [u32],
-    errors: &mut [u32],
-    kept_text: &mut [u8],
-    kept_words: &mut [u32],
 ) -> Step
-    requires { ⌜ (length (now folder) ≤ 24) × (length (now line) ≤ 262144) × (length (now rows) ≡ 6912) × (length (now errors) ≡ 6900) ⌝ }
+    requires { ⌜ (length (now folder) ≤ 24) × (length (now line) ≤ 262144) × (length (now text) ≡ 131072) × (length (now words) ≡ 23522) × (length (now rows) ≡ 6912) ⌝ }
 {
     if is_comment(line) {
-        return changed(lent, Writes::Nothing);
+        return told(lent, Verdict::Passed);
     }
     match command_of(word(line, 0)) {
-        Command::Open => run_filing(true, folder, line, lent, text, words),
-        Command::AddAst => run_filing(false, folder, line, lent, text, words),
-        Command::AdoptOrphanExtensions => run_switch(true, line, lent, text, words),
-        Command::IgnoreBuiltinRedefinitions => run_switch(false, line, lent, text, words),
-        Command::Build => run_build(folder, line, lent, text, words, rows, errors),
-        Command::Tallies => run_tallies(line, lent),
-        Command::Look(lookup) => {
-            let verdict = run_lookup(
-                lookup,
+        Command::Call(call) => {
+            let t = least(lent.text, text.len());
+            let w = least(lent.words, words.len());
+            run_call(
+                call,
+                folder,
                 line,
-                first_bytes(text, lent.text),
-                first_words(words, lent.words),
-                first_words(rows, lent.rows),
-            );
-            asked(lent, verdict)
+                lent,
+                &mut text[..t],
+                &mut words[..w],
+                rows,
+            )
         }
-        Command::Change(change) => {
-            run_change(change, line, lent, text, words, rows, kept_text, kept_words)
+        Command::Tallies => {
+            let tallies = lent.tallies;
+            told(lent, hold_tallies(line, tallies))
+        },
+        Command::Change(change) => run_change(change, line, lent, text, words, rows),
+        Command::Unknown => told(lent, Verdict::Malformed),
+    }
+}
+
+// A call of a public entry, over what is lent.
+fn run_call(
+    call: Call,
+    folder: &[u8],
+    line: &[u8],
+    lent: Lent,
+    text: &mut [u8],
+    words: &mut [u32],
+    rows: &mut [u32],
+) -> Step
+    requires { ⌜ (length (now folder) ≤ 24) × (length (now line) ≤ 262144) × (length (now rows) ≡ 6912) ⌝ }
+{
+    match call {
+        Call::Open => asked(lent, run_filing(true, folder, line, text, words)),
+        Call::AddAst => asked(lent, run_filing(false, folder, line, text, words)),
+        Call::AdoptOrphanExtensions => asked(lent, run_switch(true, line, text, words)),
+        Call::IgnoreBuiltinRedefinitions => asked(lent, run_switch(false, line, text, words)),
+        Call::Build => run_build(folder, line, lent, text, words, rows),
+        Call::Look(lookup) => {
+            let rows = first_words(rows, lent.rows);
+            asked(lent, run_lookup(lookup, line, text, words, rows))
         }
-        Command::Unknown => failed(lent, Verdict::Malformed),
     }
 }

@@ -1,22 +1,16 @@
 // Runs cases of calls: each folder 0, 1, 2 .. holds a file `calls` with one call a line and what must come of it. Every call goes through the public entries,
 // over a store, rows and errors of local arrays. A failing call is printed, and at the end how many cases, calls and failures there were.
-mod buffers;
-mod change;
-mod compare;
-mod draw;
-mod filing;
 mod lines;
-mod lookups;
-mod report;
-mod step;
 
+use held::report;
+use held::report::Tally;
 use listed::files::File;
 use listed::files::is_missing;
 use listed::files::read_file;
-use listed::put::put_byte;
 use listed::put::put_bytes;
-use report::Tally;
-use report::put_count;
+use listed::put::put_name;
+use steps::buffers;
+use steps::compare::first_bytes;
 ghost use Rattle.replay.specs.Counted.{FewRan};
 
 // No folder is reached whose number is this.
@@ -53,10 +47,9 @@ fn run_case(case: usize) -> Case
     ensures { λ r. ⌜ FewRan r ⌝ }
 {
     let mut name = [0u8; 32];
-    let at = put_count(case, &mut name, 0);
-    let at = put_byte(b'/', &mut name, at);
+    let at = put_name(b"", b"", case, b"/", &mut name);
     let end = put_bytes(b"calls", &mut name, at);
-    let path = compare::first_bytes(&name, end);
+    let path = first_bytes(&name, end);
     if is_missing(path) {
         return Case::Missing;
     }
@@ -68,6 +61,6 @@ fn run_case(case: usize) -> Case
             failures: 1,
         });
     };
-    let folder = compare::first_bytes(path, at);
-    Case::Ran(lines::run_lines(case, folder, compare::first_bytes(&calls, size)))
+    let folder = first_bytes(path, at);
+    Case::Ran(lines::run_lines(case, folder, first_bytes(&calls, size)))
 }

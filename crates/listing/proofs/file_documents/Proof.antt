@@ -1,40 +1,24 @@
 use Prim.Native.Nat.{_-_}
 use mathlib.Core.Path.{_≡_}
 use lib.ListN.{length}
+use borrow.Author.Needs.{needs}
 use Rattle.listing.proofs.file_documents.Statement.{statement}
 use Rattle.listing.proofs.file_documents.Tie as tie
-use borrow.Author.Needs.{needs}
+use Rattle.listing.proofs.file_documents.Reads as reads
+use Rattle.listing.proofs.file_documents.Lts as lts
+use Rattle.listing.proofs.run_document.Reads as run-document-reads
 
 abbrev Inv-loop : tie.InvT-loop
-Inv-loop switches text₀ words₀ lent₀ bytes₀ cards₀ n₀ text words lent bytes cards n =
-    (1048577 ≡ length lent) × (1048577 ≡ length bytes) × (262144 ≡ length cards) × (length text ≡ length text₀) × (length words ≡ length words₀)
+Inv-loop switches text₀ words₀ n₀ text words n = (length text ≡ length text₀) × (length words ≡ length words₀)
 
 abbrev μ-loop : tie.MeasureT-loop
-μ-loop switches text₀ words₀ lent₀ bytes₀ cards₀ n₀ text words lent bytes cards n = 18446744073709551615 - n
-
-file-bytes-requires : tie.Need-file-bytes-requires Inv-loop μ-loop
-file-bytes-requires c κs = search needs
-
-file-bytes-requires-2 : tie.Need-file-bytes-requires-2 Inv-loop μ-loop
-file-bytes-requires-2 c κs = search needs
-
-card-words-requires : tie.Need-card-words-requires Inv-loop μ-loop
-card-words-requires c κs = search needs
+μ-loop switches text₀ words₀ n₀ text words n = 18446744073709551615 - n
 
 loop-holds : tie.Need-loop-holds Inv-loop μ-loop
 loop-holds c = search needs
 
-slice-aggregate-file-document : tie.Need-slice-aggregate-file-document Inv-loop μ-loop
-slice-aggregate-file-document c = search needs
-
-slice-aggregate-file-document-2 : tie.Need-slice-aggregate-file-document-2 Inv-loop μ-loop
-slice-aggregate-file-document-2 c = search needs
-
-slice-aggregate-file-document-3 : tie.Need-slice-aggregate-file-document-3 Inv-loop μ-loop
-slice-aggregate-file-document-3 c = search needs
-
-file-document-requires : tie.Need-file-document-requires Inv-loop μ-loop
-file-document-requires c κs = search needs
+run-document-requires : tie.Need-run-document-requires Inv-loop μ-loop
+run-document-requires c κs = search needs
 
 enum-told : tie.Need-enum-told Inv-loop μ-loop
 enum-told c = search needs
@@ -87,14 +71,8 @@ file-documents-spec =
     (tie.spec
     Inv-loop
     μ-loop
-    file-bytes-requires
-    file-bytes-requires-2
-    card-words-requires
     loop-holds
-    slice-aggregate-file-document
-    slice-aggregate-file-document-2
-    slice-aggregate-file-document-3
-    file-document-requires
+    run-document-requires
     enum-told
     add-n
     loop-less

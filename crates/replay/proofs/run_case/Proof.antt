@@ -1,31 +1,32 @@
-use native.Mathlib.Omega.{arith}
 use Rattle.listed.proofs.Input.{within}
+use borrow.Author.Needs.{needs}
 use Rattle.replay.proofs.run_case.Statement.{statement}
 use Rattle.replay.proofs.run_case.Tie as tie
-use borrow.Author.Needs.{needs}
 use Rattle.replay.proofs.run_case.Reads as reads
 use Rattle.replay.proofs.run_case.Lts as lts
+use Rattle.held.proofs.report.print_unread.Reads as print-unread-reads
 use Rattle.listed.proofs.files.is_missing.Reads as is-missing-reads
 use Rattle.listed.proofs.files.read_file.Reads as read-file-reads
-use Rattle.listed.proofs.put.put_byte.Reads as put-byte-reads
 use Rattle.listed.proofs.put.put_bytes.Reads as put-bytes-reads
-use Rattle.replay.proofs.buffers.file_bytes.Reads as file-bytes-reads
-use Rattle.replay.proofs.compare.first_bytes.Reads as first-bytes-reads
+use Rattle.listed.proofs.put.put_name.Reads as put-name-reads
 use Rattle.replay.proofs.lines.run_lines.Reads as run-lines-reads
-use Rattle.replay.proofs.report.print_unread.Reads as print-unread-reads
-use Rattle.replay.proofs.report.put_count.Reads as put-count-reads
+use Rattle.steps.proofs.buffers.file_bytes.Reads as file-bytes-reads
+use Rattle.steps.proofs.compare.first_bytes.Reads as first-bytes-reads
 
-slice-aggregate-put-count : tie.Need-slice-aggregate-put-count
-slice-aggregate-put-count c = search needs
+slice-aggregate-put-name : tie.Need-slice-aggregate-put-name
+slice-aggregate-put-name c = search needs
 
-put-count-requires : tie.Need-put-count-requires
-put-count-requires c κs = search needs
+slice-aggregate-put-name-2 : tie.Need-slice-aggregate-put-name-2
+slice-aggregate-put-name-2 c = search needs
 
-slice-aggregate-put-byte : tie.Need-slice-aggregate-put-byte
-slice-aggregate-put-byte c = search needs
+slice-aggregate-put-name-3 : tie.Need-slice-aggregate-put-name-3
+slice-aggregate-put-name-3 c = search needs
 
-put-byte-requires : tie.Need-put-byte-requires
-put-byte-requires c κs = search needs
+slice-aggregate-put-name-4 : tie.Need-slice-aggregate-put-name-4
+slice-aggregate-put-name-4 c = search needs
+
+put-name-requires : tie.Need-put-name-requires
+put-name-requires c κs = search needs
 
 slice-aggregate-put-bytes : tie.Need-slice-aggregate-put-bytes
 slice-aggregate-put-bytes c = search needs
@@ -87,8 +88,7 @@ run-lines-requires c κs =
     let g = c .before .before .first-bytes2 .ensures .1 in
     let w = within (c .before .before .before .before .size .given .1) (c .before .before .before .before .before .before .before .read-file .ensures) in
     let e = c .before .before .before .before .before .before .before .before .before .before .file-bytes .ensures in
-    let p = c .before .before .before .before .before .before .before .before .before .before .before .before .before .before .before .before .before .before .before .before .put-byte .ensures .place in
-    let q = c .before .before .before .before .before .before .before .before .before .before .before .before .before .before .before .before .before .before .before .before .before .before .before .put-count .ensures in
+    let q = c .before .before .before .before .before .before .before .before .before .before .before .before .before .before .before .before .before .before .before .before .put-name .ensures .1 in
     search needs
 
 returns-3 : tie.Need-returns-3
@@ -98,10 +98,11 @@ pub run-case-spec : {M : Type 1} → statement M
 run-case-spec =
     tie.close
     (tie.spec
-    slice-aggregate-put-count
-    put-count-requires
-    slice-aggregate-put-byte
-    put-byte-requires
+    slice-aggregate-put-name
+    slice-aggregate-put-name-2
+    slice-aggregate-put-name-3
+    slice-aggregate-put-name-4
+    put-name-requires
     slice-aggregate-put-bytes
     slice-aggregate-put-bytes-2
     put-bytes-requires

@@ -1,70 +1,78 @@
-use native.Mathlib.Omega.{arith}
+use mathlib.Core.Path.{sym}
+use lib.Seq.{length-take-le}
+use borrow.Author.Needs.{needs}
 use Rattle.replay.proofs.lines.run_line.Statement.{statement}
 use Rattle.replay.proofs.lines.run_line.Tie as tie
-use borrow.Author.Needs.{needs}
 use Rattle.replay.proofs.lines.run_line.Reads as reads
 use Rattle.replay.proofs.lines.run_line.Lts as lts
-use Rattle.replay.proofs.buffers.errors.Reads as errors-reads
-use Rattle.replay.proofs.buffers.rows.Reads as rows-reads
-use Rattle.replay.proofs.buffers.text.Reads as text-reads
-use Rattle.replay.proofs.buffers.words.Reads as words-reads
-use Rattle.replay.proofs.compare.copy_bytes.Reads as copy-bytes-reads
-use Rattle.replay.proofs.compare.copy_words.Reads as copy-words-reads
-use Rattle.replay.proofs.lines.blamed.Reads as blamed-reads
-use Rattle.replay.proofs.lines.drawing_stayed.Reads as drawing-stayed-reads
-use Rattle.replay.proofs.lines.run_command.Reads as run-command-reads
-use Rattle.replay.proofs.lines.store_stayed.Reads as store-stayed-reads
+use Rattle.calls.proofs.parse.word.Reads as word-reads
+use Rattle.held.proofs.hold.hold_tallies.Reads as hold-tallies-reads
+use Rattle.replay.proofs.lines.is_comment.Reads as is-comment-reads
+use Rattle.replay.proofs.lines.run_call.Reads as run-call-reads
+use Rattle.steps.proofs.change.run_change.Reads as run-change-reads
+use Rattle.steps.proofs.command.command_of.Reads as command-of-reads
+use Rattle.steps.proofs.compare.least.Reads as least-reads
+use Rattle.steps.proofs.step.told.Reads as told-reads
 
-text-requires : tie.Need-text-requires
-text-requires c κs = search needs
+is-comment-requires : tie.Need-is-comment-requires
+is-comment-requires c κs = search needs
 
-words-requires : tie.Need-words-requires
-words-requires c κs = search needs
+told-requires : tie.Need-told-requires
+told-requires c κs = search needs
 
-rows-requires : tie.Need-rows-requires
-rows-requires c κs = search needs
+returns : tie.Need-returns
+returns c = search needs
 
-errors-requires : tie.Need-errors-requires
-errors-requires c κs = search needs
+word-requires : tie.Need-word-requires
+word-requires c κs = search needs
 
-slice-aggregate-copy-bytes : tie.Need-slice-aggregate-copy-bytes
-slice-aggregate-copy-bytes c = search needs
+command-of-requires : tie.Need-command-of-requires
+command-of-requires c κs = search needs
 
-copy-bytes-requires : tie.Need-copy-bytes-requires
-copy-bytes-requires c κs = search needs
+enum-known-call : tie.Need-enum-known-call
+enum-known-call c = search needs
 
-slice-aggregate-copy-words : tie.Need-slice-aggregate-copy-words
-slice-aggregate-copy-words c = search needs
+least-requires : tie.Need-least-requires
+least-requires c κs = search needs
 
-copy-words-requires : tie.Need-copy-words-requires
-copy-words-requires c κs = search needs
+least-requires-2 : tie.Need-least-requires-2
+least-requires-2 c κs = search needs
 
-slice-aggregate-copy-words-2 : tie.Need-slice-aggregate-copy-words-2
-slice-aggregate-copy-words-2 c = search needs
+slice-relend-prefix-run-call : tie.Need-slice-relend-prefix-run-call
+slice-relend-prefix-run-call c = search needs
 
-copy-words-requires-2 : tie.Need-copy-words-requires-2
-copy-words-requires-2 c κs = search needs
+slice-aggregate-run-call : tie.Need-slice-aggregate-run-call
+slice-aggregate-run-call c = sym (length-take-le _ (c .before .before .before .before .before .before .before .before .before .before .before .before .before .before .before .args .text .now) (c .before .before .least .ensures .1))
 
-slice-aggregate-copy-words-3 : tie.Need-slice-aggregate-copy-words-3
-slice-aggregate-copy-words-3 c = search needs
+slice-relend-prefix-run-call-2 : tie.Need-slice-relend-prefix-run-call-2
+slice-relend-prefix-run-call-2 c = search needs
 
-copy-words-requires-3 : tie.Need-copy-words-requires-3
-copy-words-requires-3 c κs = search needs
+slice-aggregate-run-call-2 : tie.Need-slice-aggregate-run-call-2
+slice-aggregate-run-call-2 c = sym (length-take-le _ (c .before .before .before .before .before .before .before .before .before .before .before .before .before .before .before .before .args .words .now) (c .before .before .least2 .ensures .1))
 
-run-command-requires : tie.Need-run-command-requires
-run-command-requires c κs = search needs
+run-call-requires : tie.Need-run-call-requires
+run-call-requires c κs = search needs
 
-slice-aggregate-store-stayed : tie.Need-slice-aggregate-store-stayed
-slice-aggregate-store-stayed c = let k = c .before .before .before .before .before .before .before .before .before .before .before .before .before .before .before .before .before .before .before .before .before .before .before .before .before .before .before .before .before .before .before .before .before .before .copy-bytes .kept in let e = c .before .before .before .before .before .before .before .before .before .before .before .before .before .before .before .before .before .before .before .before .before .before .before .before .before .before .before .before .before .before .before .before .before .before .before .before .before .before .before .before .text .ensures in omega arith
+enum-told : tie.Need-enum-told
+enum-told c = search needs
 
-slice-aggregate-store-stayed-2 : tie.Need-slice-aggregate-store-stayed-2
-slice-aggregate-store-stayed-2 c = let k = c .before .before .before .before .before .before .before .before .before .before .before .before .before .before .before .before .before .before .before .before .before .before .before .before .before .before .before .before .before .before .before .before .copy-words .kept in let e = c .before .before .before .before .before .before .before .before .before .before .before .before .before .before .before .before .before .before .before .before .before .before .before .before .before .before .before .before .before .before .before .before .before .before .before .before .before .before .before .before .before .words .ensures in omega arith
+hold-tallies-requires : tie.Need-hold-tallies-requires
+hold-tallies-requires c κs = search needs
 
-store-stayed-requires : tie.Need-store-stayed-requires
-store-stayed-requires c κs = search needs
+told-requires-2 : tie.Need-told-requires-2
+told-requires-2 c κs = search needs
 
-blamed-requires : tie.Need-blamed-requires
-blamed-requires c κs = search needs
+enum-known-change : tie.Need-enum-known-change
+enum-known-change c = search needs
+
+run-change-requires : tie.Need-run-change-requires
+run-change-requires c κs = search needs
+
+enum-told-2 : tie.Need-enum-told-2
+enum-told-2 c = search needs
+
+told-requires-3 : tie.Need-told-requires-3
+told-requires-3 c κs = search needs
 
 same-length : tie.Need-same-length
 same-length c = search needs
@@ -75,6 +83,12 @@ same-length-2 c = search needs
 same-length-3 : tie.Need-same-length-3
 same-length-3 c = search needs
 
+returns-2 : tie.Need-returns-2
+returns-2 c = search needs
+
+returns-3 : tie.Need-returns-3
+returns-3 c = search needs
+
 same-length-4 : tie.Need-same-length-4
 same-length-4 c = search needs
 
@@ -84,106 +98,43 @@ same-length-5 c = search needs
 same-length-6 : tie.Need-same-length-6
 same-length-6 c = search needs
 
-returns : tie.Need-returns
-returns c = search needs
+returns-4 : tie.Need-returns-4
+returns-4 c = search needs
 
-slice-aggregate-drawing-stayed : tie.Need-slice-aggregate-drawing-stayed
-slice-aggregate-drawing-stayed c = let k = c .before .before .before .before .before .before .before .before .before .before .before .before .before .before .before .before .before .before .before .before .before .before .before .before .before .before .before .before .before .before .before .before .copy-words2 .kept in let e = c .before .before .before .before .before .before .before .before .before .before .before .before .before .before .before .before .before .before .before .before .before .before .before .before .before .before .before .before .before .before .before .before .before .before .before .before .before .before .before .before .before .before .before .before .rows .ensures in omega arith
-
-slice-aggregate-drawing-stayed-2 : tie.Need-slice-aggregate-drawing-stayed-2
-slice-aggregate-drawing-stayed-2 c = let k = c .before .before .before .before .before .before .before .before .before .before .before .before .before .before .before .before .before .before .before .before .before .before .before .before .before .before .before .before .before .before .copy-words3 .kept in let e = c .before .before .before .before .before .before .before .before .before .before .before .before .before .before .before .before .before .before .before .before .before .before .before .before .before .before .before .before .before .before .before .before .before .before .before .before .before .before .before .before .before .before .before .before .before .errors .ensures in omega arith
-
-drawing-stayed-requires : tie.Need-drawing-stayed-requires
-drawing-stayed-requires c κs = search needs
-
-blamed-requires-2 : tie.Need-blamed-requires-2
-blamed-requires-2 c κs = search needs
-
-same-length-7 : tie.Need-same-length-7
-same-length-7 c = search needs
-
-same-length-8 : tie.Need-same-length-8
-same-length-8 c = search needs
-
-same-length-9 : tie.Need-same-length-9
-same-length-9 c = search needs
-
-same-length-10 : tie.Need-same-length-10
-same-length-10 c = search needs
-
-same-length-11 : tie.Need-same-length-11
-same-length-11 c = search needs
-
-same-length-12 : tie.Need-same-length-12
-same-length-12 c = search needs
-
-returns-2 : tie.Need-returns-2
-returns-2 c = search needs
-
-same-length-13 : tie.Need-same-length-13
-same-length-13 c = search needs
-
-same-length-14 : tie.Need-same-length-14
-same-length-14 c = search needs
-
-same-length-15 : tie.Need-same-length-15
-same-length-15 c = search needs
-
-same-length-16 : tie.Need-same-length-16
-same-length-16 c = search needs
-
-same-length-17 : tie.Need-same-length-17
-same-length-17 c = search needs
-
-same-length-18 : tie.Need-same-length-18
-same-length-18 c = search needs
-
-returns-3 : tie.Need-returns-3
-returns-3 c = search needs
+returns-5 : tie.Need-returns-5
+returns-5 c = search needs
 
 pub run-line-spec : {M : Type 1} → statement M
 run-line-spec =
     tie.close
     (tie.spec
-    text-requires
-    words-requires
-    rows-requires
-    errors-requires
-    slice-aggregate-copy-bytes
-    copy-bytes-requires
-    slice-aggregate-copy-words
-    copy-words-requires
-    slice-aggregate-copy-words-2
-    copy-words-requires-2
-    slice-aggregate-copy-words-3
-    copy-words-requires-3
-    run-command-requires
-    slice-aggregate-store-stayed
-    slice-aggregate-store-stayed-2
-    store-stayed-requires
-    blamed-requires
+    is-comment-requires
+    told-requires
+    returns
+    word-requires
+    command-of-requires
+    enum-known-call
+    least-requires
+    least-requires-2
+    slice-relend-prefix-run-call
+    slice-aggregate-run-call
+    slice-relend-prefix-run-call-2
+    slice-aggregate-run-call-2
+    run-call-requires
+    enum-told
+    hold-tallies-requires
+    told-requires-2
+    enum-known-change
+    run-change-requires
+    enum-told-2
+    told-requires-3
     same-length
     same-length-2
     same-length-3
+    returns-2
+    returns-3
     same-length-4
     same-length-5
     same-length-6
-    returns
-    slice-aggregate-drawing-stayed
-    slice-aggregate-drawing-stayed-2
-    drawing-stayed-requires
-    blamed-requires-2
-    same-length-7
-    same-length-8
-    same-length-9
-    same-length-10
-    same-length-11
-    same-length-12
-    returns-2
-    same-length-13
-    same-length-14
-    same-length-15
-    same-length-16
-    same-length-17
-    same-length-18
-    returns-3)
+    returns-4
+    returns-5)

@@ -1,0 +1,113 @@
+// Drawing, and what is expected of it: the listing, and that nothing is written past what is drawn.
+use calls::parse::read_numbers;
+use definition::Drawing;
+use held::hold::hold_drawing;
+use steps::buffers;
+use steps::compare::copy_words;
+use steps::compare::same_words;
+use steps::step::Lent;
+use steps::step::Step;
+use steps::step::Verdict;
+use steps::step::asked;
+use steps::step::blamed;
+ghost use mathlib.Core.Path.{_≡_};
+ghost use Prim.Native.Nat.{_≤_};
+ghost use lib.ListN.{length};
+
+// `build R E N K`
+pub fn run_build(
+    folder: &[u8],
+    line: &[u8],
+    lent: Lent,
+    text: &[u8],
+    words: &[u32],
+    rows: &mut [u32],
+) -> Step
+    requires { ⌜ (length (now folder) ≤ 24) × (length (now line) ≤ 262144) × (length (now rows) ≡ 6912) ⌝ }
+{
+    let mut given = [0usize; 4];
+    if !read_numbers(line, 1, &mut given) {
+        return asked(lent, Verdict::Malformed);
+    }
+    if rows.len() < given[0] {
+        return asked(lent, Verdict::Malformed);
+    }
+    let mut errors = buffers::errors();
+    if errors.len() < given[1] {
+        return asked(lent, Verdict::Malformed);
+    }
+    let mut old_rows = buffers::rows();
+    copy_words(rows, &mut old_rows);
+    let drawing = draw(text, words, rows, given[0], &mut errors, given[1]);
+    let verdict = hold_drawing(folder, drawing, given[2], given[3], rows, &errors);
+    asked(
+        lend_drawn(lent, drawing),
+        hold_rest(verdict, drawing, rows, &old_rows, &errors),
+    )
+}
+
+// Draws into the first r words of the rows and e of the errors.
+fn draw(
+    text: &[u8],
+    words: &[u32],
+    rows: &mut [u32],
+    r: usize,
+    errors: &mut [u32],
+    e: usize,
+) -> Drawing
+    requires { ⌜ (r ≤ length (now rows)) × (e ≤ length (now errors)) ⌝ }
+{
+    collection::build(text, words, &mut rows[..r], &mut errors[..e])
+}
+
+// The rows drawn are lent from now on; a refused drawing leaves what was lent, and counts nothing.
+fn lend_drawn(lent: Lent, drawing: Drawing) -> Lent {
+    let tallies = drawing.tallies;
+    if drawing.number != 0 {
+        return Lent {
+            text: lent.text,
+            words: lent.words,
+            rows: lent.rows,
+            tallies,
+        };
+    }
+    Lent {
+        text: lent.text,
+        words: lent.words,
+        rows: rows_drawn(drawing),
+        tallies,
+    }
+}
+
+// How many words of rows a drawing writes: none where it is refused.
+fn rows_drawn(drawing: Drawing) -> usize {
+    if drawing.number != 0 {
+        return 0;
+    }
+    3 * (drawing.rows as usize)
+}
+
+fn errors_drawn(drawing: Drawing) -> usize {
+    if drawing.number != 0 {
+        return 0;
+    }
+    3 * (drawing.reading_errors as usize + drawing.drawing_errors as usize)
+}
+
+// Rows and errors stay past what is drawn.
+fn hold_rest(
+    verdict: Verdict,
+    drawing: Drawing,
+    rows: &[u32],
+    old_rows: &[u32],
+    errors: &[u32],
+) -> Verdict {
+    if !same_words(rows, old_rows, rows_drawn(drawing)) {
+        return blamed(verdict);
+    }
+    let untouched = buffers::errors();
+    if !same_words(errors, &untouched, errors_drawn(drawing)) {
+        return blamed(verdict);
+    }
+    verdict
+}

@@ -1,0 +1,95 @@
+// The calls that write the store: opening, filing, turning a switch on. What is expected of one stands in its line.
+use crate::document::Filed;
+use crate::document::file_document;
+use calls::parse::read_numbers;
+use definition::Answer;
+use held::hold::hold_answer;
+use steps::buffers;
+use steps::compare::copy_bytes;
+use steps::compare::copy_words;
+use steps::compare::first_bytes;
+use steps::compare::first_words;
+use steps::compare::same_words;
+use steps::numbers::Pair;
+use steps::numbers::read_pair;
+use steps::step::Verdict;
+use steps::step::blamed;
+ghost use Prim.Native.Nat.{_≤_};
+ghost use lib.ListN.{length};
+
+// `open D N C` and `add_ast D N C`
+pub fn run_filing(
+    opens: bool,
+    folder: &[u8],
+    line: &[u8],
+    text: &mut [u8],
+    words: &mut [u32],
+) -> Verdict
+    requires { ⌜ (length (now folder) ≤ 24) × (length (now line) ≤ 262144) ⌝ }
+{
+    let mut given = [0usize; 3];
+    if !read_numbers(line, 1, &mut given) {
+        return Verdict::Malformed;
+    }
+    let mut old_text = buffers::text();
+    let mut old_words = buffers::words();
+    copy_bytes(text, &mut old_text);
+    copy_words(words, &mut old_words);
+    let Filed::Answered(answer) = file_document(opens, folder, given[0], text, words) else {
+        return Verdict::NoFile;
+    };
+    let verdict = hold_answer(answer, given[1], given[2]);
+    if answer.number == 0 {
+        return verdict;
+    }
+    hold_store(verdict, text, &old_text, words, &old_words)
+}
+
+// A refused call leaves the store.
+fn hold_store(
+    verdict: Verdict,
+    text: &[u8],
+    old_text: &[u8],
+    words: &[u32],
+    old_words: &[u32],
+) -> Verdict {
+    if !check::same(text, first_bytes(old_text, text.len())) {
+        return blamed(verdict);
+    }
+    hold_words(verdict, words, old_words)
+}
+
+fn hold_words(verdict: Verdict, words: &[u32], old_words: &[u32]) -> Verdict {
+    if !same_words(words, first_words(old_words, words.len()), 0) {
+        return blamed(verdict);
+    }
+    verdict
+}
+
+// `adopt_orphan_extensions N C` and `ignore_builtin_redefinitions N C`
+pub fn run_switch(adopts: bool, line: &[u8], text: &[u8], words: &mut [u32]) -> Verdict
+    requires { ⌜ length (now line) ≤ 262144 ⌝ }
+{
+    let Pair::Numbers {
+        first: number,
+        second: card,
+    } = read_pair(line, 1)
+    else {
+        return Verdict::Malformed;
+    };
+    let mut old_words = buffers::words();
+    copy_words(words, &mut old_words);
+    let answer = turn_on(adopts, text, words);
+    let verdict = hold_answer(answer, number, card);
+    if answer.number == 0 {
+        return verdict;
+    }
+    hold_words(verdict, words, &old_words)
+}
+
+fn turn_on(adopts: bool, text: &[u8], words: &mut [u32]) -> Answer {
+    if adopts {
+        return collection::adopt_orphan_extensions(text, words);
+    }
+    collection::ignore_builtin_redefinitions(text, words)
+}

@@ -1,0 +1,3 @@
+// What came of a line, held against what is expected, and the report of it.
+pub mod hold;
+pub mod report;
