@@ -1,18 +1,17 @@
 // The public entries for C: a slice is a pointer and a length, an enum's answer its numbers in 01, written through lent words.
+use answers::field_card;
+use answers::field_meta;
+use answers::field_number;
+use answers::field_refusal;
+use answers::subtype_number;
+use answers::subtype_refusal;
 use definition::Answer;
 use definition::Drawing;
-use definition::FieldFound;
-use definition::FieldLookup;
 use definition::OperationType;
-use definition::SubtypeLookup;
 ghost use mathlib.Core.Path.{_≡_};
 ghost use lib.ListN.{length};
-ghost use Rattle.definition.specs.Answers.{metaNumber, explicitCard, fieldRefusal, fieldNumber, fieldMeta, fieldCard, subtypeRefusal, subtypeNumber};
 ghost use Rattle.definition.specs.Outcomes.{open-store, add-ast, adopt-orphan-extensions, ignore-builtin-redefinitions, build, check-rows, type-field, is-subtype, iter-origins, extensions, implementers-map};
 ghost use Rattle.gimletaspen.specs.Exported.{rootNamed, copiedName, FieldNumbers, SubtypeNumbers};
-
-// 01 writes it `-`.
-const ABSENT: u32 = 4294967295;
 
 #[no_mangle]
 pub extern "C" fn gimletaspen_open(
@@ -112,72 +111,6 @@ pub extern "C" fn gimletaspen_root_operation(
     copy_name(root_of(text, words, rows, kind), name)
 }
 
-fn meta_number(found: FieldFound) -> u32
-    ensures { λ r. ⌜ r ≡ metaNumber found ⌝ }
-{
-    match found {
-        FieldFound::Explicit(_) => 0,
-        FieldFound::Typename => 1,
-        FieldFound::Schema => 2,
-        FieldFound::Type => 3,
-    }
-}
-
-fn explicit_card(found: FieldFound) -> u32
-    ensures { λ r. ⌜ r ≡ explicitCard found ⌝ }
-{
-    match found {
-        FieldFound::Explicit(card) => card,
-        FieldFound::Typename => ABSENT,
-        FieldFound::Schema => ABSENT,
-        FieldFound::Type => ABSENT,
-    }
-}
-
-fn field_refusal(answer: FieldLookup) -> u32
-    ensures { λ r. ⌜ r ≡ fieldRefusal answer ⌝ }
-{
-    match answer {
-        FieldLookup::Found(_) => 0,
-        FieldLookup::NoSuchType => 0,
-        FieldLookup::NoSuchField(_) => 0,
-        FieldLookup::Refused(number) => number,
-    }
-}
-
-fn field_number(answer: FieldLookup) -> u32
-    ensures { λ r. ⌜ r ≡ fieldNumber answer ⌝ }
-{
-    match answer {
-        FieldLookup::Found(_) => 1,
-        FieldLookup::NoSuchType => 2,
-        FieldLookup::NoSuchField(_) => 3,
-        FieldLookup::Refused(_) => 0,
-    }
-}
-
-fn field_meta(answer: FieldLookup) -> u32
-    ensures { λ r. ⌜ r ≡ fieldMeta answer ⌝ }
-{
-    match answer {
-        FieldLookup::Found(found) => meta_number(found),
-        FieldLookup::NoSuchType => ABSENT,
-        FieldLookup::NoSuchField(_) => ABSENT,
-        FieldLookup::Refused(_) => ABSENT,
-    }
-}
-
-fn field_card(answer: FieldLookup) -> u32
-    ensures { λ r. ⌜ r ≡ fieldCard answer ⌝ }
-{
-    match answer {
-        FieldLookup::Found(found) => explicit_card(found),
-        FieldLookup::NoSuchType => ABSENT,
-        FieldLookup::NoSuchField(card) => card,
-        FieldLookup::Refused(_) => ABSENT,
-    }
-}
-
 // Hands back the refusal or 0; the three other numbers of the answer are written.
 #[no_mangle]
 pub extern "C" fn gimletaspen_type_field(
@@ -197,26 +130,6 @@ pub extern "C" fn gimletaspen_type_field(
     *meta = field_meta(answer);
     *card = field_card(answer);
     field_refusal(answer)
-}
-
-fn subtype_refusal(answer: SubtypeLookup) -> u32
-    ensures { λ r. ⌜ r ≡ subtypeRefusal answer ⌝ }
-{
-    match answer {
-        SubtypeLookup::Subtype => 0,
-        SubtypeLookup::NotSubtype => 0,
-        SubtypeLookup::Refused(number) => number,
-    }
-}
-
-fn subtype_number(answer: SubtypeLookup) -> u32
-    ensures { λ r. ⌜ r ≡ subtypeNumber answer ⌝ }
-{
-    match answer {
-        SubtypeLookup::Subtype => 1,
-        SubtypeLookup::NotSubtype => 0,
-        SubtypeLookup::Refused(_) => 0,
-    }
 }
 
 // Hands back the refusal or 0; 1 is written for yes, else 0.
