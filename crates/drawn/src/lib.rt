@@ -14,6 +14,11 @@ ghost use mathlib.Core.Path.{_≡_};
 ghost use Prim.Native.Nat.{_≤_};
 ghost use lib.ListN.{length};
 
+// The words that rows and errors have.
+const ROWS: usize = 6912;
+
+const ERRORS: usize = 6900;
+
 // `build R E N K`
 pub fn run_build(
     folder: &[u8],
@@ -29,17 +34,44 @@ pub fn run_build(
     if !read_numbers(line, 1, &mut given) {
         return asked(lent, Verdict::Malformed);
     }
-    if rows.len() < given[0] {
+    if ROWS < given[0] {
         return asked(lent, Verdict::Malformed);
     }
+    if ERRORS < given[1] {
+        return asked(lent, Verdict::Malformed);
+    }
+    let expected = Expected {
+        r: given[0],
+        e: given[1],
+        number: given[2],
+        k: given[3],
+    };
+    hold_build(folder, expected, lent, text, words, rows)
+}
+
+// The numbers of the line: how many words of rows and errors are lent, the number of the answer, and of the listing.
+struct Expected {
+    r: usize,
+    e: usize,
+    number: usize,
+    k: usize,
+}
+
+fn hold_build(
+    folder: &[u8],
+    expected: Expected,
+    lent: Lent,
+    text: &[u8],
+    words: &[u32],
+    rows: &mut [u32],
+) -> Step
+    requires { ⌜ (length (now folder) ≤ 24) × (expected .r ≤ 6912) × (expected .e ≤ 6900) × (length (now rows) ≡ 6912) ⌝ }
+{
     let mut errors = buffers::errors();
-    if errors.len() < given[1] {
-        return asked(lent, Verdict::Malformed);
-    }
     let mut old_rows = buffers::rows();
     copy_words(rows, &mut old_rows);
-    let drawing = draw(text, words, rows, given[0], &mut errors, given[1]);
-    let verdict = hold_drawing(folder, drawing, given[2], given[3], rows, &errors);
+    let drawing = draw(text, words, rows, expected.r, &mut errors, expected.e);
+    let verdict = hold_drawing(folder, drawing, expected.number, expected.k, rows, &errors);
     asked(
         lend_drawn(lent, drawing),
         hold_rest(verdict, drawing, rows, &old_rows, &errors),

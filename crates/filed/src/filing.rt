@@ -5,6 +5,8 @@ use calls::parse::read_numbers;
 use definition::Answer;
 use held::hold::hold_answer;
 use steps::buffers;
+use steps::command::Filing;
+use steps::command::Switch;
 use steps::compare::copy_bytes;
 use steps::compare::copy_words;
 use steps::compare::first_bytes;
@@ -19,7 +21,7 @@ ghost use lib.ListN.{length};
 
 // `open D N C` and `add_ast D N C`
 pub fn run_filing(
-    opens: bool,
+    filing: Filing,
     folder: &[u8],
     line: &[u8],
     text: &mut [u8],
@@ -31,14 +33,44 @@ pub fn run_filing(
     if !read_numbers(line, 1, &mut given) {
         return Verdict::Malformed;
     }
+    let expected = Answered {
+        number: given[1],
+        card: given[2],
+    };
+    hold_filing(opens(filing), folder, given[0], expected, text, words)
+}
+
+fn opens(filing: Filing) -> bool {
+    match filing {
+        Filing::Open => true,
+        Filing::AddAst => false,
+    }
+}
+
+// The answer that is expected.
+struct Answered {
+    number: usize,
+    card: usize,
+}
+
+fn hold_filing(
+    opens: bool,
+    folder: &[u8],
+    d: usize,
+    expected: Answered,
+    text: &mut [u8],
+    words: &mut [u32],
+) -> Verdict
+    requires { ⌜ length (now folder) ≤ 24 ⌝ }
+{
     let mut old_text = buffers::text();
     let mut old_words = buffers::words();
     copy_bytes(text, &mut old_text);
     copy_words(words, &mut old_words);
-    let Filed::Answered(answer) = file_document(opens, folder, given[0], text, words) else {
+    let Filed::Answered(answer) = file_document(opens, folder, d, text, words) else {
         return Verdict::NoFile;
     };
-    let verdict = hold_answer(answer, given[1], given[2]);
+    let verdict = hold_answer(answer, expected.number, expected.card);
     if answer.number == 0 {
         return verdict;
     }
@@ -67,7 +99,7 @@ fn hold_words(verdict: Verdict, words: &[u32], old_words: &[u32]) -> Verdict {
 }
 
 // `adopt_orphan_extensions N C` and `ignore_builtin_redefinitions N C`
-pub fn run_switch(adopts: bool, line: &[u8], text: &[u8], words: &mut [u32]) -> Verdict
+pub fn run_switch(switch: Switch, line: &[u8], text: &[u8], words: &mut [u32]) -> Verdict
     requires { ⌜ length (now line) ≤ 262144 ⌝ }
 {
     let Pair::Numbers {
@@ -79,7 +111,7 @@ pub fn run_switch(adopts: bool, line: &[u8], text: &[u8], words: &mut [u32]) -> 
     };
     let mut old_words = buffers::words();
     copy_words(words, &mut old_words);
-    let answer = turn_on(adopts, text, words);
+    let answer = turn_on(switch, text, words);
     let verdict = hold_answer(answer, number, card);
     if answer.number == 0 {
         return verdict;
@@ -87,9 +119,9 @@ pub fn run_switch(adopts: bool, line: &[u8], text: &[u8], words: &mut [u32]) -> 
     hold_words(verdict, words, &old_words)
 }
 
-fn turn_on(adopts: bool, text: &[u8], words: &mut [u32]) -> Answer {
-    if adopts {
-        return collection::adopt_orphan_extensions(text, words);
+fn turn_on(switch: Switch, text: &[u8], words: &mut [u32]) -> Answer {
+    match switch {
+        Switch::AdoptOrphanExtensions => collection::adopt_orphan_extensions(text, words),
+        Switch::IgnoreBuiltinRedefinitions => collection::ignore_builtin_redefinitions(text, words),
     }
-    collection::ignore_builtin_redefinitions(text, words)
 }

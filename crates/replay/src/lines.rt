@@ -1,7 +1,5 @@
 // The lines of a case, one after another, over its store and rows.
 use asked::run_lookup;
-use calls::parse::word;
-use definition::Tallies;
 use drawn::run_build;
 use filed::filing::run_filing;
 use filed::filing::run_switch;
@@ -21,6 +19,7 @@ use steps::step::Step;
 use steps::step::Verdict;
 use steps::step::asked;
 use steps::step::told;
+use steps::step::whole;
 ghost use mathlib.Core.Path.{_≡_};
 ghost use Prim.Native.Nat.{_+_, _<_, _≤_};
 ghost use lib.ListN.{length};
@@ -55,20 +54,6 @@ pub fn run_lines(case: usize, folder: &[u8], calls: &[u8]) -> Tally
     tally
 }
 
-// At a case's start all of the store is lent, and no rows are drawn.
-fn whole() -> Lent {
-    let tallies = Tallies {
-        counts: [0u32; 16],
-        total: 0,
-    };
-    Lent {
-        text: 65536,
-        words: 11761,
-        rows: 0,
-        tallies,
-    }
-}
-
 // Where the line at a place ends: at the next line feed, or where the file does.
 fn line_end(calls: &[u8], at: usize) -> usize
     requires { ⌜ at ≤ length (now calls) ⌝ }
@@ -84,14 +69,7 @@ fn line_end(calls: &[u8], at: usize) -> usize
     i
 }
 
-// Whether a line is to be passed over.
-fn is_comment(line: &[u8]) -> bool {
-    if line.len() == 0 {
-        return false;
-    }
-    line[0] == b'#'
-}
-
+// A line: a call, or what stands between calls.
 fn run_line(
     folder: &[u8],
     line: &[u8],
@@ -102,10 +80,7 @@ fn run_line(
 ) -> Step
     requires { ⌜ (length (now folder) ≤ 24) × (length (now line) ≤ 262144) × (length (now text) ≡ 131072) × (length (now words) ≡ 23522) × (length (now rows) ≡ 6912) ⌝ }
 {
-    if is_comment(line) {
-        return told(lent, Verdict::Passed);
-    }
-    match command_of(word(line, 0)) {
+    match command_of(line) {
         Command::Call(call) => {
             let t = least(lent.text, text.len());
             let w = least(lent.words, words.len());
@@ -124,6 +99,7 @@ fn run_line(
             told(lent, hold_tallies(line, tallies))
         },
         Command::Change(change) => run_change(change, line, lent, text, words, rows),
+        Command::Comment => told(lent, Verdict::Passed),
         Command::Unknown => told(lent, Verdict::Malformed),
     }
 }
@@ -141,10 +117,8 @@ fn run_call(
     requires { ⌜ (length (now folder) ≤ 24) × (length (now line) ≤ 262144) × (length (now rows) ≡ 6912) ⌝ }
 {
     match call {
-        Call::Open => asked(lent, run_filing(true, folder, line, text, words)),
-        Call::AddAst => asked(lent, run_filing(false, folder, line, text, words)),
-        Call::AdoptOrphanExtensions => asked(lent, run_switch(true, line, text, words)),
-        Call::IgnoreBuiltinRedefinitions => asked(lent, run_switch(false, line, text, words)),
+        Call::File(filing) => asked(lent, run_filing(filing, folder, line, text, words)),
+        Call::TurnOn(switch) => asked(lent, run_switch(switch, line, text, words)),
         Call::Build => run_build(folder, line, lent, text, words, rows),
         Call::Look(lookup) => {
             let rows = first_words(rows, lent.rows);

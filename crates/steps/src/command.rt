@@ -1,4 +1,4 @@
-// The first word of a line: which call or change it is.
+// Which call or change a line is, by its first word.
 use calls::parse::count_words;
 use calls::parse::word;
 ghost use Prim.Native.Nat.{_≤_};
@@ -19,11 +19,20 @@ pub enum Lookup {
     Fill(Filling),
 }
 
-pub enum Call {
+// The calls that file a document, and those that turn a switch on.
+pub enum Filing {
     Open,
     AddAst,
+}
+
+pub enum Switch {
     AdoptOrphanExtensions,
     IgnoreBuiltinRedefinitions,
+}
+
+pub enum Call {
+    File(Filing),
+    TurnOn(Switch),
     Build,
     Look(Lookup),
 }
@@ -44,6 +53,8 @@ pub enum Command {
     // The tallies of the last drawing.
     Tallies,
     Change(Change),
+    // To be passed over.
+    Comment,
     Unknown,
 }
 
@@ -62,15 +73,25 @@ fn place_of(name: &[u8], names: &[u8]) -> usize
     n
 }
 
-pub fn command_of(name: &[u8]) -> Command {
+pub fn command_of(line: &[u8]) -> Command {
+    if line.len() == 0 {
+        return Command::Unknown;
+    }
+    if line[0] == b'#' {
+        return Command::Comment;
+    }
+    named(word(line, 0))
+}
+
+fn named(name: &[u8]) -> Command {
     match place_of(
         name,
         b"open add_ast adopt_orphan_extensions ignore_builtin_redefinitions build tallies",
     ) {
-        0 => Command::Call(Call::Open),
-        1 => Command::Call(Call::AddAst),
-        2 => Command::Call(Call::AdoptOrphanExtensions),
-        3 => Command::Call(Call::IgnoreBuiltinRedefinitions),
+        0 => Command::Call(Call::File(Filing::Open)),
+        1 => Command::Call(Call::File(Filing::AddAst)),
+        2 => Command::Call(Call::TurnOn(Switch::AdoptOrphanExtensions)),
+        3 => Command::Call(Call::TurnOn(Switch::IgnoreBuiltinRedefinitions)),
         4 => Command::Call(Call::Build),
         5 => Command::Tallies,
         _ => lookup_of(name),

@@ -9,6 +9,20 @@ pub struct Lent {
     pub tallies: Tallies,
 }
 
+// At a case's start all of the store is lent, and no rows are drawn.
+pub fn whole() -> Lent {
+    let tallies = Tallies {
+        counts: [0u32; 16],
+        total: 0,
+    };
+    Lent {
+        text: 65536,
+        words: 11761,
+        rows: 0,
+        tallies,
+    }
+}
+
 // How a line went. What was expected stands in the line itself, so a failure says what came.
 pub enum Verdict {
     Passed,

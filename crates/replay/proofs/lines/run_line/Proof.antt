@@ -5,26 +5,12 @@ use Rattle.replay.proofs.lines.run_line.Statement.{statement}
 use Rattle.replay.proofs.lines.run_line.Tie as tie
 use Rattle.replay.proofs.lines.run_line.Reads as reads
 use Rattle.replay.proofs.lines.run_line.Lts as lts
-use Rattle.calls.proofs.parse.word.Reads as word-reads
 use Rattle.held.proofs.hold.hold_tallies.Reads as hold-tallies-reads
-use Rattle.replay.proofs.lines.is_comment.Reads as is-comment-reads
 use Rattle.replay.proofs.lines.run_call.Reads as run-call-reads
 use Rattle.steps.proofs.change.run_change.Reads as run-change-reads
 use Rattle.steps.proofs.command.command_of.Reads as command-of-reads
 use Rattle.steps.proofs.compare.least.Reads as least-reads
 use Rattle.steps.proofs.step.told.Reads as told-reads
-
-is-comment-requires : tie.Need-is-comment-requires
-is-comment-requires c κs = search needs
-
-told-requires : tie.Need-told-requires
-told-requires c κs = search needs
-
-returns : tie.Need-returns
-returns c = search needs
-
-word-requires : tie.Need-word-requires
-word-requires c κs = search needs
 
 command-of-requires : tie.Need-command-of-requires
 command-of-requires c κs = search needs
@@ -42,13 +28,13 @@ slice-relend-prefix-run-call : tie.Need-slice-relend-prefix-run-call
 slice-relend-prefix-run-call c = search needs
 
 slice-aggregate-run-call : tie.Need-slice-aggregate-run-call
-slice-aggregate-run-call c = sym (length-take-le _ (c .before .before .before .before .before .before .before .before .before .before .before .before .before .before .before .args .text .now) (c .before .before .least .ensures .1))
+slice-aggregate-run-call c = sym (length-take-le _ (c .before .before .before .before .before .before .before .before .before .before .before .before .args .text .now) (c .before .before .least .ensures .1))
 
 slice-relend-prefix-run-call-2 : tie.Need-slice-relend-prefix-run-call-2
 slice-relend-prefix-run-call-2 c = search needs
 
 slice-aggregate-run-call-2 : tie.Need-slice-aggregate-run-call-2
-slice-aggregate-run-call-2 c = sym (length-take-le _ (c .before .before .before .before .before .before .before .before .before .before .before .before .before .before .before .before .args .words .now) (c .before .before .least2 .ensures .1))
+slice-aggregate-run-call-2 c = sym (length-take-le _ (c .before .before .before .before .before .before .before .before .before .before .before .before .before .args .words .now) (c .before .before .least2 .ensures .1))
 
 run-call-requires : tie.Need-run-call-requires
 run-call-requires c κs = search needs
@@ -59,8 +45,8 @@ enum-told c = search needs
 hold-tallies-requires : tie.Need-hold-tallies-requires
 hold-tallies-requires c κs = search needs
 
-told-requires-2 : tie.Need-told-requires-2
-told-requires-2 c κs = search needs
+told-requires : tie.Need-told-requires
+told-requires c κs = search needs
 
 enum-known-change : tie.Need-enum-known-change
 enum-known-change c = search needs
@@ -70,6 +56,12 @@ run-change-requires c κs = search needs
 
 enum-told-2 : tie.Need-enum-told-2
 enum-told-2 c = search needs
+
+told-requires-2 : tie.Need-told-requires-2
+told-requires-2 c κs = search needs
+
+enum-told-3 : tie.Need-enum-told-3
+enum-told-3 c = search needs
 
 told-requires-3 : tie.Need-told-requires-3
 told-requires-3 c κs = search needs
@@ -83,11 +75,11 @@ same-length-2 c = search needs
 same-length-3 : tie.Need-same-length-3
 same-length-3 c = search needs
 
+returns : tie.Need-returns
+returns c = search needs
+
 returns-2 : tie.Need-returns-2
 returns-2 c = search needs
-
-returns-3 : tie.Need-returns-3
-returns-3 c = search needs
 
 same-length-4 : tie.Need-same-length-4
 same-length-4 c = search needs
@@ -97,6 +89,9 @@ same-length-5 c = search needs
 
 same-length-6 : tie.Need-same-length-6
 same-length-6 c = search needs
+
+returns-3 : tie.Need-returns-3
+returns-3 c = search needs
 
 returns-4 : tie.Need-returns-4
 returns-4 c = search needs
@@ -108,10 +103,6 @@ pub run-line-spec : {M : Type 1} → statement M
 run-line-spec =
     tie.close
     (tie.spec
-    is-comment-requires
-    told-requires
-    returns
-    word-requires
     command-of-requires
     enum-known-call
     least-requires
@@ -123,18 +114,21 @@ run-line-spec =
     run-call-requires
     enum-told
     hold-tallies-requires
-    told-requires-2
+    told-requires
     enum-known-change
     run-change-requires
     enum-told-2
+    told-requires-2
+    enum-told-3
     told-requires-3
     same-length
     same-length-2
     same-length-3
+    returns
     returns-2
-    returns-3
     same-length-4
     same-length-5
     same-length-6
+    returns-3
     returns-4
     returns-5)

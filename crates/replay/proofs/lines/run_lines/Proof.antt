@@ -11,7 +11,7 @@ use Rattle.held.proofs.report.count.Reads as count-reads
 use Rattle.held.proofs.report.count_unended.Reads as count-unended-reads
 use Rattle.replay.proofs.lines.line_end.Reads as line-end-reads
 use Rattle.replay.proofs.lines.run_line.Reads as run-line-reads
-use Rattle.replay.proofs.lines.whole.Reads as whole-reads
+use Rattle.steps.proofs.step.whole.Reads as whole-reads
 use Rattle.steps.proofs.buffers.rows.Reads as rows-reads
 use Rattle.steps.proofs.buffers.text.Reads as text-reads
 use Rattle.steps.proofs.buffers.words.Reads as words-reads
