@@ -1,8 +1,8 @@
 // A document of a folder, read and filed.
 use definition::Answer;
-use listed::buffers;
-use listed::documents::Document;
-use listed::documents::read_document;
+use input::buffers;
+use input::documents::Document;
+use input::documents::read_document;
 ghost use Prim.Native.Nat.{_≤_};
 ghost use lib.ListN.{length};
 

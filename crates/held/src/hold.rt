@@ -10,8 +10,8 @@ use definition::Answer;
 use definition::Drawing;
 use definition::FieldLookup;
 use definition::Tallies;
-use listed::files::File;
-use listed::files::read_file;
+use input::files::File;
+use input::files::read_file;
 use listed::put::put_listing;
 use listed::put::put_name;
 use steps::buffers;
@@ -136,7 +136,7 @@ pub fn hold_drawing(
     if came != 0 {
         return Verdict::Passed;
     }
-    let mut listing = listed::buffers::output();
+    let mut listing = input::buffers::output();
     let n = put_listing(drawing, rows, errors, &mut listing);
     hold_listing(folder, k, first_bytes(&listing, n))
 }

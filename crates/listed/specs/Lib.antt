@@ -1,4 +1,3 @@
--- What is read from files and what is put into buffers. What the system itself reads and writes is tested, not proved.
+-- What is put into buffers.
 pub mod Text
 pub mod Listing
-pub mod Input

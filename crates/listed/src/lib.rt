@@ -1,5 +1,2 @@
-// What the programs share: whole files read into buffers, a document's text and card words, and a drawing's listing put as text.
-pub mod buffers;
-pub mod documents;
-pub mod files;
+// What the programs share of text: numbers, names of files and a drawing's listing, put into a buffer.
 pub mod put;

@@ -1,8 +1,8 @@
 // The file `switches`: two digits, whether to adopt orphan extensions and whether to ignore redefined built-in types.
-use listed::files::File;
-use listed::files::is_missing;
-use listed::files::read_file;
-use listed::files::tell;
+use input::files::File;
+use input::files::is_missing;
+use input::files::read_file;
+use input::files::tell;
 ghost use mathlib.Core.Path.{_≡_};
 ghost use Rattle.listing.specs.Digits.{switchesOf, adoptOf, ignoreOf};
 

@@ -4,9 +4,9 @@ mod lines;
 
 use held::report;
 use held::report::Tally;
-use listed::files::File;
-use listed::files::is_missing;
-use listed::files::read_file;
+use input::files::File;
+use input::files::is_missing;
+use input::files::read_file;
 use listed::put::put_bytes;
 use listed::put::put_name;
 use steps::buffers;

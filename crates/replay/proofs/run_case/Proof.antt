@@ -1,12 +1,12 @@
-use Rattle.listed.proofs.Input.{within}
+use Rattle.input.proofs.Input.{within}
 use borrow.Author.Needs.{needs}
 use Rattle.replay.proofs.run_case.Statement.{statement}
 use Rattle.replay.proofs.run_case.Tie as tie
 use Rattle.replay.proofs.run_case.Reads as reads
 use Rattle.replay.proofs.run_case.Lts as lts
 use Rattle.held.proofs.report.print_unread.Reads as print-unread-reads
-use Rattle.listed.proofs.files.is_missing.Reads as is-missing-reads
-use Rattle.listed.proofs.files.read_file.Reads as read-file-reads
+use Rattle.input.proofs.files.is_missing.Reads as is-missing-reads
+use Rattle.input.proofs.files.read_file.Reads as read-file-reads
 use Rattle.listed.proofs.put.put_bytes.Reads as put-bytes-reads
 use Rattle.listed.proofs.put.put_name.Reads as put-name-reads
 use Rattle.replay.proofs.lines.run_lines.Reads as run-lines-reads

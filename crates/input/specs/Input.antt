@@ -2,10 +2,10 @@
 use mathlib.Core.Path.{_≡_, refl}
 use mathlib.Core.List.{List, [], _∷_}
 use Prim.Native.Nat.{ℕ, _+_, _*_, _≤_, _<_}
-use Rattle.listed.specs.declared.documents.Document.{Document}
-use Rattle.listed.specs.declared.documents.Document.the-variants.{Read, Missing, Uneven, Told as DocumentTold}
-use Rattle.listed.specs.declared.files.File.{File}
-use Rattle.listed.specs.declared.files.File.the-variants.{Whole, Told}
+use Rattle.input.specs.declared.documents.Document.{Document}
+use Rattle.input.specs.declared.documents.Document.the-variants.{Read, Missing, Uneven, Told as DocumentTold}
+use Rattle.input.specs.declared.files.File.{File}
+use Rattle.input.specs.declared.files.File.the-variants.{Whole, Told}
 
 -- A file that was read has fewer bytes than its buffer, so that none was cut off.
 abbrev pub Within : File → ℕ → Type 0

@@ -1,15 +1,15 @@
 use native.Mathlib.Omega.{arith}
 use mathlib.Core.Path.{sym}
 use lib.Seq.{length-take-le}
 use Rattle.listed.proofs.Text.{put-within, take-within}
-use Rattle.listed.proofs.documents.read_document.Statement.{statement}
-use Rattle.listed.proofs.documents.read_document.Tie as tie
+use Rattle.input.proofs.documents.read_document.Statement.{statement}
+use Rattle.input.proofs.documents.read_document.Tie as tie
 use borrow.Author.Needs.{needs}
-use Rattle.listed.proofs.documents.read_document.Reads as reads
-use Rattle.listed.proofs.documents.read_document.Lts as lts
-use Rattle.listed.proofs.documents.read_both.Reads as read-both-reads
-use Rattle.listed.proofs.files.is_missing.Reads as is-missing-reads
+use Rattle.input.proofs.documents.read_document.Reads as reads
+use Rattle.input.proofs.documents.read_document.Lts as lts
+use Rattle.input.proofs.documents.read_both.Reads as read-both-reads
+use Rattle.input.proofs.files.is_missing.Reads as is-missing-reads
 use Rattle.listed.proofs.put.put_name.Reads as put-name-reads
 
 slice-aggregate-put-name : tie.Need-slice-aggregate-put-name
 slice-aggregate-put-name c = search needs

@@ -2,11 +2,11 @@ use Prim.Native.Nat.{_≤_, _-_, _*_}
 use native.Mathlib.Omega.{arith}
 use mathlib.Core.Path.{_≡_}
 use lib.ListN.{length, drop, length-set}
-use Rattle.listed.specs.Input.{wordsOf}
-use Rattle.listed.proofs.Input.{words-more, words-end}
+use Rattle.input.specs.Input.{wordsOf}
+use Rattle.input.proofs.Input.{words-more, words-end}
 use Rattle.listed.proofs.Text.{Left, left-all, left-turn, left-none, put-one}
-use Rattle.listed.proofs.documents.put_words.Statement.{statement}
-use Rattle.listed.proofs.documents.put_words.Tie as tie
+use Rattle.input.proofs.documents.put_words.Statement.{statement}
+use Rattle.input.proofs.documents.put_words.Tie as tie
 use borrow.Author.Needs.{needs}
 
 abbrev Inv-loop : tie.InvT-loop

@@ -6,11 +6,11 @@ use native.Mathlib.Numerals.{towards-suc}
 use native.Mathlib.Omega.{arith}
 use lib.ListN.{length, getD, drop, length-drop}
 use lib.Seq.{drop-cons}
-use Rattle.listed.specs.Input.{Within, Lies, littleEndian, wordsOf}
-use Rattle.listed.specs.declared.documents.Document.{Document}
-use Rattle.listed.specs.declared.documents.Document.the-variants.{Read}
-use Rattle.listed.specs.declared.files.File.{File}
-use Rattle.listed.specs.declared.files.File.the-variants.{Whole}
+use Rattle.input.specs.Input.{Within, Lies, littleEndian, wordsOf}
+use Rattle.input.specs.declared.documents.Document.{Document}
+use Rattle.input.specs.declared.documents.Document.the-variants.{Read}
+use Rattle.input.specs.declared.files.File.{File}
+use Rattle.input.specs.declared.files.File.the-variants.{Whole}
 
 -- Four bytes at a place, and where fewer are left.
 drop4 : (s : List ℕ) (i : ℕ) → i + 4 ≤ length s → drop i s ≡ getD s i 0 ∷ getD s (i + 1) 0 ∷ getD s (i + 2) 0 ∷ getD s (i + 3) 0 ∷ drop (i + 4) s

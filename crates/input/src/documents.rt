@@ -2,12 +2,12 @@
 use crate::files::File;
 use crate::files::is_missing;
 use crate::files::read_file;
-use crate::put::put_name;
+use listed::put::put_name;
 ghost use mathlib.Core.Path.{_≡_};
 ghost use Prim.Native.Nat.{_+_, _*_, _≤_};
 ghost use lib.ListN.{length};
 ghost use Rattle.listed.specs.Text.{Put};
-ghost use Rattle.listed.specs.Input.{Lies, littleEndian, wordsOf};
+ghost use Rattle.input.specs.Input.{Lies, littleEndian, wordsOf};
 
 pub enum Document {
     // Its text and its card words stand at the front of their buffers.

@@ -1,8 +1,8 @@
 use Prim.Native.Nat.{_≤_, _-_}
 use mathlib.Core.Path.{_≡_}
 use lib.ListN.{length}
-use Rattle.listed.proofs.files.read_open.Statement.{statement}
-use Rattle.listed.proofs.files.read_open.Tie as tie
+use Rattle.input.proofs.files.read_open.Statement.{statement}
+use Rattle.input.proofs.files.read_open.Tie as tie
 use borrow.Author.Needs.{needs}
 
 abbrev Inv-loop : tie.InvT-loop

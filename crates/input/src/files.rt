@@ -1,9 +1,9 @@
 // Reading whole files. What goes wrong is told on standard error where it happens, with the file's name.
-use crate::put::put_bytes;
 use libc::STDERR_FILENO;
+use listed::put::put_bytes;
 ghost use Prim.Native.Nat.{_≤_};
 ghost use lib.ListN.{length};
-ghost use Rattle.listed.specs.Input.{Within};
+ghost use Rattle.input.specs.Input.{Within};
 
 // How many bytes a file has, which stand at the front of a buffer, or that it was told why there are none.
 pub enum File {

@@ -1,9 +1,9 @@
 use native.Mathlib.Omega.{arith}
 use mathlib.Core.Path.{sym}
 use lib.Seq.{length-take-le}
-use Rattle.listed.proofs.Input.{within}
-use Rattle.listed.proofs.documents.read_both.Statement.{statement}
-use Rattle.listed.proofs.documents.read_both.Tie as tie
+use Rattle.input.proofs.Input.{within}
+use Rattle.input.proofs.documents.read_both.Statement.{statement}
+use Rattle.input.proofs.documents.read_both.Tie as tie
 use borrow.Author.Needs.{needs}
 
 read-file-requires : tie.Need-read-file-requires

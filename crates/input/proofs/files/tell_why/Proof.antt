@@ -1,7 +1,7 @@
 use mathlib.Core.Path.{sym}
 use lib.Seq.{length-take-le}
-use Rattle.listed.proofs.files.tell_why.Statement.{statement}
-use Rattle.listed.proofs.files.tell_why.Tie as tie
+use Rattle.input.proofs.files.tell_why.Statement.{statement}
+use Rattle.input.proofs.files.tell_why.Tie as tie
 use borrow.Author.Needs.{needs}
 
 slice-aggregate-put-bytes : tie.Need-slice-aggregate-put-bytes
