@@ -116,12 +116,12 @@ uint32_t gimletaspen_is_subtype(
     const uint8_t *text, size_t text_length, const uint32_t *words, size_t words_length, const uint32_t *rows, size_t rows_length,
     const uint8_t *general, size_t general_length, const uint8_t *other, size_t other_length, uint32_t *yes);
 
-/* The origins of the schema's parts in order, each once: GIMLETASPEN_NONE for the definition, else an extension's card. */
+/* The origin of each of the schema's parts, in order: GIMLETASPEN_NONE for the definition and for default roots, else an extension's card. */
 struct gimletaspen_answer gimletaspen_iter_origins(
     const uint8_t *text, size_t text_length, const uint32_t *words, size_t words_length, const uint32_t *rows, size_t rows_length,
     uint32_t *list, size_t list_length);
 
-/* The same without GIMLETASPEN_NONE. */
+/* The extensions among them, each once, in order of first occurrence. */
 struct gimletaspen_answer gimletaspen_extensions(
     const uint8_t *text, size_t text_length, const uint32_t *words, size_t words_length, const uint32_t *rows, size_t rows_length,
     uint32_t *list, size_t list_length);
