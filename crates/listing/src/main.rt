@@ -2,8 +2,8 @@
 mod switches;
 
 use definition::Answer;
-use filed::document::Filed;
-use filed::document::file_document;
+use filed::Filed;
+use filed::file_document;
 use input::buffers;
 use libc::STDOUT_FILENO;
 use listed::put::put_listing;

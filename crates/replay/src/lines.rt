@@ -1,8 +1,8 @@
 // The lines of a case, one after another, over its store and rows.
+use crate::filing::run_filing;
+use crate::filing::run_switch;
 use asked::run_lookup;
 use drawn::run_build;
-use filed::filing::run_filing;
-use filed::filing::run_switch;
 use held::hold::hold_tallies;
 use held::report::Tally;
 use held::report::count;

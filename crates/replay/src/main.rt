@@ -1,5 +1,6 @@
 // Runs cases of calls: each folder 0, 1, 2 .. holds a file `calls` with one call a line and what must come of it. Every call goes through the public entries,
 // over a store, rows and errors of local arrays. A failing call is printed, and at the end how many cases, calls and failures there were.
+mod filing;
 mod lines;
 
 use held::report;

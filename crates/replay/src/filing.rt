@@ -1,8 +1,8 @@
 // The calls that write the store: opening, filing, turning a switch on. What is expected of one stands in its line.
-use crate::document::Filed;
-use crate::document::file_document;
 use calls::parse::read_numbers;
 use definition::Answer;
+use filed::Filed;
+use filed::file_document;
 use held::hold::hold_answer;
 use steps::buffers;
 use steps::command::Filing;

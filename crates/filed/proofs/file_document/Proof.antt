@@ -3,11 +3,11 @@ use mathlib.Core.Path.{sym}
 use lib.Seq.{length-take-le}
 use Rattle.input.proofs.Input.{lies}
 use borrow.Author.Needs.{needs}
-use Rattle.filed.proofs.document.file_document.Statement.{statement}
-use Rattle.filed.proofs.document.file_document.Tie as tie
-use Rattle.filed.proofs.document.file_document.Reads as reads
-use Rattle.filed.proofs.document.file_document.Lts as lts
-use Rattle.filed.proofs.document.file.Reads as file-reads
+use Rattle.filed.proofs.file_document.Statement.{statement}
+use Rattle.filed.proofs.file_document.Tie as tie
+use Rattle.filed.proofs.file_document.Reads as reads
+use Rattle.filed.proofs.file_document.Lts as lts
+use Rattle.filed.proofs.file.Reads as file-reads
 use Rattle.input.proofs.buffers.card_words.Reads as card-words-reads
 use Rattle.input.proofs.buffers.file_bytes.Reads as file-bytes-reads
 use Rattle.input.proofs.documents.read_document.Reads as read-document-reads
