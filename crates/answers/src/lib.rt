@@ -1,12 +1,10 @@
 // The numbers that 01 gives to an answer, for the entries of C and for the lines of calls.
+use definition::ABSENT;
 use definition::FieldFound;
 use definition::FieldLookup;
 use definition::SubtypeLookup;
 ghost use mathlib.Core.Path.{_≡_};
 ghost use Rattle.definition.specs.Answers.{metaNumber, explicitCard, fieldRefusal, fieldNumber, fieldMeta, fieldCard, subtypeRefusal, subtypeNumber};
-
-// 01 writes it `-`.
-const ABSENT: u32 = 4294967295;
 
 fn meta_number(found: FieldFound) -> u32
     ensures { λ r. ⌜ r ≡ metaNumber found ⌝ }

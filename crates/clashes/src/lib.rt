@@ -2,6 +2,3 @@
 pub mod merging;
 pub mod placing;
 pub mod pushing;
-
-// The word that stands for no card.
-pub const ABSENT: u32 = 4294967295;

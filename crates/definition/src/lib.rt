@@ -1,5 +1,8 @@
 // The answers of the public entries. Contracts and definitions share these types; specs/ says what each case stands for.
 
+// The word that stands for no card, `-` in 01.
+pub const ABSENT: u32 = 4294967295;
+
 // A refusal and, for 2 to 6, the number of the card in its document, else 0. An accepted call answers 0 and 0; a call that fills a slice
 // answers 0 and how many things it wrote. A lent document may have more cards than 32 bits count, so the card's number is a usize.
 #[repr(C)]

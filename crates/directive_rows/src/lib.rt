@@ -1,4 +1,5 @@
 // The rows of the directive definitions, of schema/from_ast.rs.
+use definition::ABSENT;
 ghost use mathlib.Core.Path.{_≡_};
 ghost use Prim.Native.Nat.{_*_, _≤_, _<_};
 ghost use lib.ListN.{length, take};
@@ -6,9 +7,6 @@ ghost use Rattle.definition.specs.Store.{cardsUsed};
 ghost use Rattle.index.specs.Index.{Printed};
 ghost use Rattle.component.specs.Pushed.{filled, pushed, extended};
 ghost use Rattle.component.specs.Drawn.{Stored, sameStored, namesDirective, standingAt, directiveRowsOf, directiveRowsAt};
-
-// 01 writes it `-`.
-const ABSENT: u32 = 4294967295;
 
 // Whether a heading is a directive definition with the name of the card.
 fn names_directive(text: &[u8], words: &[u32], prints: &[u32], card: u32, other: u32) -> bool

@@ -1,7 +1,7 @@
 // The errors of drawing: the orphans name by name, then the schema extensions that met no definition.
-use clashes::ABSENT;
 use clashes::merging;
 use clashes::pushing;
+use definition::ABSENT;
 use definition::Tallies;
 ghost use mathlib.Core.Path.{_≡_};
 ghost use mathlib.Core.List.{[]};

@@ -1,4 +1,5 @@
 // The type extensions of a store, their owners, and the first orphan of each name.
+use definition::ABSENT;
 use entry::Entry;
 ghost use mathlib.Core.Path.{_≡_};
 ghost use lib.ListN.{length};
@@ -14,9 +15,6 @@ ghost use Rattle.extension_index.specs.Extensions.{
   OrphansAsked,
   OrphansAre,
 };
-
-// The word that stands for no card.
-const ABSENT: u32 = 4294967295;
 
 // A type extension's kind.
 pub fn is_type_extension(kind: u32) -> bool

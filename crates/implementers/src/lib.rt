@@ -1,4 +1,5 @@
 // implementers_map of schema/mod.rs: which objects and interfaces list an interface.
+use ast::kinds;
 use rows_search::Found;
 ghost use mathlib.Core.Path.{_≡_};
 ghost use mathlib.Core.Bool.{true, not};
@@ -38,7 +39,7 @@ fn collect(text: &[u8], words: &[u32], rows: &[u32], pairs: &mut [u32]) -> usize
     let mut i = 0;
     while i < count {
         let what = rows[3 * i];
-        if rows_search::is_type(what) {
+        if kinds::is_type(what) {
             owner = i;
             i += 1;
             continue;

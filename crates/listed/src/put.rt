@@ -1,5 +1,6 @@
 // What is printed is put into a buffer first, so that each output is one write. Every function here puts bytes at a place and answers the
 // next place.
+use definition::ABSENT;
 use definition::Answer;
 use definition::Drawing;
 ghost use mathlib.Core.Path.{_≡_};
@@ -8,9 +9,6 @@ ghost use Prim.Native.Nat.{_+_, _*_, _^_, _<_, _≤_};
 ghost use lib.ListN.{length, take};
 ghost use Rattle.listed.specs.Text.{Put, decimal};
 ghost use Rattle.listed.specs.Listing.{word, line, lines, counts, refused, rowsShown, errorsShown, listing, fileName};
-
-// The word that a row prints as `-`.
-const ABSENT: u32 = 4294967295;
 
 pub fn put_byte(b: u8, out: &mut [u8], at: usize) -> usize
     requires { ⌜ at < length (now out) ⌝ }

@@ -1,4 +1,6 @@
 // schema/mod.rs: the origins of the schema definition of lent rows, and the extensions among them.
+use ast::kinds;
+use definition::ABSENT;
 use rows_search::Found;
 ghost use mathlib.Core.Path.{_≡_};
 ghost use mathlib.Core.Bool.{true};
@@ -11,9 +13,6 @@ ghost use Rattle.definition.specs.LentRows.{lentRows};
 ghost use Rattle.definition.specs.Lookups.{isSchemaPart, originList, extensionList};
 ghost use Rattle.rows_search.specs.Search.{partFrom};
 ghost use Rattle.origins.specs.Extensions.{isNew};
-
-// The word that stands for no card.
-const ABSENT: u32 = 4294967295;
 
 // Directive uses and roots: the parts of the schema definition.
 fn is_schema_part(what: u32) -> bool
@@ -36,7 +35,7 @@ fn next_part(rows: &[u32], start: usize) -> Found
     let mut i = start;
     while i < count {
         let what = rows[3 * i];
-        if rows_search::is_type(what) {
+        if kinds::is_type(what) {
             return Found::Nothing;
         }
         if is_schema_part(what) {

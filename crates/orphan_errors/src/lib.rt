@@ -1,7 +1,7 @@
 // The errors of orphans, the type extensions without a definition, name by name: those of adopting them, or that they were not met.
-use clashes::ABSENT;
 use clashes::merging;
 use clashes::pushing;
+use definition::ABSENT;
 use definition::Tallies;
 ghost use mathlib.Core.Path.{_≡_};
 ghost use Prim.Native.Nat.{_-_, _≤_, _<_};

@@ -1,7 +1,7 @@
 // The errors of reading documents: what each heading gives after those before it.
-use clashes::ABSENT;
 use clashes::merging;
 use clashes::pushing;
+use definition::ABSENT;
 use definition::Tallies;
 ghost use mathlib.Core.Path.{_≡_};
 ghost use mathlib.Core.List.{[]};

@@ -1,6 +1,6 @@
 // The errors of reading a definition whose name another definition has.
-use clashes::ABSENT;
 use clashes::pushing;
+use definition::ABSENT;
 use definition::Tallies;
 ghost use mathlib.Core.Path.{_≡_};
 ghost use Prim.Native.Nat.{_<_};

@@ -1,4 +1,5 @@
 // The rows of the schema definition: its directive uses and its root operations, set or default, of schema/from_ast.rs.
+use definition::ABSENT;
 ghost use mathlib.Core.Path.{_≡_};
 ghost use Prim.Native.Nat.{_*_, _≤_, _<_};
 ghost use lib.ListN.{length, take};
@@ -9,9 +10,6 @@ ghost use Rattle.definition.specs.Store.{cardsUsed};
 ghost use Rattle.index.specs.Index.{Printed};
 ghost use Rattle.component.specs.Pushed.{filled, pushed, extended};
 ghost use Rattle.component.specs.Drawn.{Stored, sameStored, schemaCard, schemaExtensionAt, firstKind, kindNamedAt, hasDefault, anyDefault, defaultRows, setsRoot, isImplicit, schemaListAt, schemaRowsAt};
-
-// 01 writes it `-`.
-const ABSENT: u32 = 4294967295;
 
 // How the schema is made: the card of its definition, or `-`; whether orphans are adopted; and whether default roots belong to it.
 pub struct Schema {

@@ -1,4 +1,5 @@
 // schema/mod.rs: the root operations of lent rows, and meta fields, of which the query root has two.
+use definition::ABSENT;
 use definition::FieldFound;
 use definition::FieldLookup;
 use definition::OperationType;
@@ -17,9 +18,6 @@ ghost use Rattle.definition.specs.Outcomes.{partOf};
 ghost use Rattle.stored.specs.Stored.{storedParts};
 ghost use Rattle.rows_search.specs.Rows.{rowAt};
 ghost use Rattle.roots.specs.MetaFields.{isTypename};
-
-// The word that stands for no card.
-const ABSENT: u32 = 4294967295;
 
 fn root_kind(op: OperationType) -> u32
     ensures { λ r. ⌜ r ≡ rootKind op ⌝ }

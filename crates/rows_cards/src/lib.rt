@@ -1,4 +1,6 @@
 // Refusal 26, the tests of a lent row by itself, and the marks that tell a card which stands in two rows.
+use ast::kinds;
+use definition::ABSENT;
 use rows_search::Found;
 ghost use mathlib.Core.Path.{_≡_};
 ghost use mathlib.Core.Bool.{true};
@@ -10,14 +12,11 @@ ghost use Rattle.definition.specs.LentRows.{lentRows, isDefaultRoot, wantedKind
 ghost use Rattle.stored.specs.Stored.{storedParts};
 ghost use Rattle.rows_cards.specs.Passing.{originFits, isFree, marked};
 
-// The word that stands for no card.
-const ABSENT: u32 = 4294967295;
-
 // A root row whose card and origin are `-`.
 pub fn is_default_root(what: u32, card: u32, origin: u32) -> bool
     ensures { λ r. ⌜ r ≡ isDefaultRoot (row what card origin) ⌝ }
 {
-    if !rows_search::is_root(what) {
+    if !kinds::is_root(what) {
         return false;
     }
     if card != ABSENT {
@@ -30,7 +29,7 @@ pub fn is_default_root(what: u32, card: u32, origin: u32) -> bool
 pub fn wanted_kind(what: u32, origin: u32) -> u32
     ensures { λ r. ⌜ r ≡ wantedKind (row what 0 origin) ⌝ }
 {
-    if !rows_search::is_type(what) {
+    if !kinds::is_type(what) {
         return what;
     }
     if origin == ABSENT {

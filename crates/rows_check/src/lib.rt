@@ -1,4 +1,5 @@
 // Refusal 26: what it asks of a row by itself, and one walk over the rows that are lent to a lookup.
+use definition::ABSENT;
 ghost use mathlib.Core.Path.{_≡_};
 ghost use mathlib.Core.Bool.{true};
 ghost use lib.Dec.{eqb};
@@ -7,9 +8,6 @@ ghost use Rattle.definition.specs.Store.{accountIn, sound};
 ghost use Rattle.definition.specs.LentRows.{lentRows, rowsRefusal};
 ghost use Rattle.stored.specs.Stored.{storedParts};
 ghost use Rattle.rows_cards.specs.Passing.{cardFits, rowPasses};
-
-// The word that stands for no card.
-const ABSENT: u32 = 4294967295;
 
 fn card_passes(words: &[u32], what: u32, card: u32, origin: u32) -> bool
     ensures { λ r. ⌜ r ≡ cardFits (now (words .entry)) (row what card origin) ⌝ }

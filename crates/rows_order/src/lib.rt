@@ -1,4 +1,5 @@
 // Refusal 26, the order of lent rows: whether a row may follow the rows before it.
+use ast::kinds;
 ghost use mathlib.Core.Path.{_≡_};
 ghost use mathlib.Core.Bool.{true};
 ghost use Prim.Native.Nat.{_≤_};
@@ -94,7 +95,7 @@ pub fn row_fits(kind: u32, place: u32, what: u32) -> bool
     if kind == 0 {
         return what == 4;
     }
-    if rows_search::is_type(what) {
+    if kinds::is_type(what) {
         return true;
     }
     let next = row_place(kind, what);
@@ -107,7 +108,7 @@ pub fn row_fits(kind: u32, place: u32, what: u32) -> bool
     if place < next {
         return true;
     }
-    !rows_search::is_root(what)
+    !kinds::is_root(what)
 }
 
 // Where the row after one that fits stands.
@@ -121,7 +122,7 @@ pub fn stand_after(kind: u32, what: u32) -> Standing
             place: 0,
         };
     }
-    if rows_search::is_type(what) {
+    if kinds::is_type(what) {
         return Standing {
             kind: what,
             place: 0,

@@ -1,8 +1,9 @@
 // Searches over lent rows: how a row is read, the first type of a name, and under it the first part of a name.
+use ast::kinds;
 ghost use mathlib.Core.Path.{_≡_};
 ghost use mathlib.Core.Bool.{true};
 ghost use Rattle.definition.specs.Names.{sameName};
-ghost use Rattle.definition.specs.Cards.{isType, isRoot};
+ghost use Rattle.definition.specs.Cards.{isRoot};
 ghost use Rattle.definition.specs.Catalogue.{row, defaultName};
 ghost use Rattle.definition.specs.LentRows.{lentRows, isTypeRowNamed};
 ghost use Rattle.definition.specs.Lookups.{isRowOf, isPartNamed};
@@ -22,26 +23,6 @@ pub struct Located {
     pub part: Found,
 }
 
-// The kinds of type rows.
-pub fn is_type(what: u32) -> bool
-    ensures { λ r. ⌜ r ≡ isType what ⌝ }
-{
-    if what < 5 {
-        return false;
-    }
-    what <= 10
-}
-
-// The kinds of root operations.
-pub fn is_root(what: u32) -> bool
-    ensures { λ r. ⌜ r ≡ isRoot what ⌝ }
-{
-    if what < 26 {
-        return false;
-    }
-    what <= 28
-}
-
 // Whether a stored card has the name; a card that is not stored has the empty name.
 pub fn is_named(text: &[u8], words: &[u32], card: u32, name: &[u8]) -> bool
     ensures { λ r. ⌜ r ≡ sameName (now (name .entry)) (cardName (now (text .entry)) (now (words .entry)) card) ⌝ }
@@ -53,7 +34,7 @@ pub fn is_named(text: &[u8], words: &[u32], card: u32, name: &[u8]) -> bool
 pub fn is_type_named(text: &[u8], words: &[u32], what: u32, card: u32, name: &[u8]) -> bool
     ensures { λ r. ⌜ r ≡ isTypeRowNamed (storedParts (now (text .entry)) (now (words .entry))) (now (name .entry)) (row what card 0) ⌝ }
 {
-    if !is_type(what) {
+    if !kinds::is_type(what) {
         return false;
     }
     is_named(text, words, card, name)
@@ -125,7 +106,7 @@ pub fn find_part(
             owner = Found::Row(i);
             let mut j = i + 1;
             while j < count {
-                if is_type(rows[3 * j]) {
+                if kinds::is_type(rows[3 * j]) {
                     break 'search;
                 }
                 if is_part_named(text, words, rows[3 * j], rows[3 * j + 1], kind, part_name) {

@@ -1,20 +1,10 @@
 // The types of a store: the first definition of each name, found among those before by the fingerprint.
+use ast::kinds;
 ghost use mathlib.Core.Path.{_≡_};
 ghost use Prim.Native.Nat.{_<_};
 ghost use lib.ListN.{length, take};
-ghost use Rattle.definition.specs.Cards.{isType};
 ghost use Rattle.entry.specs.Entering.{Hinted};
 ghost use Rattle.type_index.specs.Types.{TypeAsked, TypeTurn, TypesAsked, TypesAre};
-
-// A type definition's kind.
-pub fn is_type(kind: u32) -> bool
-    ensures { λ r. ⌜ r ≡ isType kind ⌝ }
-{
-    if kind < 5 {
-        return false;
-    }
-    kind <= 10
-}
 
 // One heading: a definition is the first of its name, or its name's first one owns it.
 fn index_type(
@@ -32,7 +22,7 @@ fn index_type(
     ensures { λ r. ⌜ TypeTurn (now (text .entry)) (now (words .entry)) card count r (now (owners .entry)) (now (owners .exit)) (now (types .entry)) (now (types .exit)) (now («type_prints» .exit)) × Hinted (take r (now («type_prints» .exit))) (now (firsts .exit)) ⌝ }
 {
     let at = card as usize;
-    if !is_type(stored::card_kind(words, at)) {
+    if !kinds::is_type(stored::card_kind(words, at)) {
         return count;
     }
     let print = prints[at];

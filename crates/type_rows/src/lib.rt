@@ -1,4 +1,5 @@
 // The rows of types, defined or adopted: each its own row and then its lists, `collect_sticky` of schema/from_ast.rs.
+use definition::ABSENT;
 ghost use mathlib.Core.Path.{_≡_};
 ghost use mathlib.Core.List.{_∷_, []};
 ghost use Prim.Native.Nat.{_+_, _*_, _≤_, _<_};
@@ -10,9 +11,6 @@ ghost use Rattle.index.specs.Index.{Printed};
 ghost use Rattle.component.specs.Pushed.{filled, pushed};
 ghost use Rattle.component.specs.Drawn.{Stored, listAt, typeRowAt, typeRowsAt};
 ghost use Rattle.type_rows.specs.Parted.{Parted};
-
-// 01 writes it `-`.
-const ABSENT: u32 = 4294967295;
 
 // Pushes one list of a type: of a definition its own parts and then those of its extensions, of an adopted type only these.
 fn collect_sticky(
