@@ -15,9 +15,9 @@ use Rattle.definition.specs.Cards.{isRoot, isType, isPart}
 use Rattle.definition.specs.Headings.{Part, Heading, alike, isKind, isNamed, isOf, isTypeDefinition, isTypeExtension, extensionsOf, types, sameNamed, orphans, isOrphan, isMissing, definition}
 use Rattle.definition.specs.Catalogue.{Component, component, components, ownComponents, ofExtensions, alikeComponents, kept, row, componentRow, listed, block, underType, typeComponents, typeRow, typeRows, adoptedRow, adoptedRows}
 use Rattle.definition.specs.Store.{cardsUsed}
-use Rattle.stored.specs.Stored.{cardKind, cardName, cardAt, headingAt, isHead, partsFrom, storedParts}
-use Rattle.stored.proofs.Words.{stored-is, stored-inside, number-stored}
-use Rattle.index.specs.Index.{sameCards, headingNumber}
+use Rattle.store_reader.specs.Stored.{cardKind, cardName, cardAt, headingAt, isHead, partsFrom, storedParts}
+use Rattle.store_reader.proofs.Words.{stored-is, stored-inside, number-stored}
+use Rattle.from_ast_index.specs.Index.{sameCards, headingNumber}
 use Rattle.component.specs.Pushed.{alikeRows, rowsOfKind}
 use Rattle.component.specs.Drawn.{sameStored, headRows, extensionKind, isMatching, matching, extensionRowsAt, extensionRows, listRows, listAt, typeRowAt, typeRowsAt}
 use Rattle.component.proofs.Listed.{listed-sticky, kind-append, kind-flat, keep-yes, keep-no, all-keep}

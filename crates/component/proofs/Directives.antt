@@ -14,8 +14,8 @@ use Rattle.definition.specs.Headings.{Heading, isKind, isNamed, isOf, sameNamed
 use Rattle.definition.specs.Catalogue.{Row, row, directiveRow, directiveRowAt, directiveRows}
 use Rattle.definition.specs.Store.{cardsUsed}
 use Rattle.name.proofs.Laws.{same-equal, same-self}
-use Rattle.stored.specs.Stored.{cardName, builtInAt}
-use Rattle.index.specs.Index.{headingNumber}
+use Rattle.store_reader.specs.Stored.{cardName, builtInAt}
+use Rattle.from_ast_index.specs.Index.{headingNumber}
 use Rattle.component.specs.Pushed.{alikeRows}
 use Rattle.component.specs.Drawn.{sameStored, standingCard, namesDirective, standingAt, directiveRowsOf, directiveRowsAt}
 use Rattle.component.proofs.Listed.{keep-yes, keep-no, all-keep, firsts-map}

@@ -13,8 +13,8 @@ use Rattle.definition.specs.Lists.{keep, flatMap, All}
 use Rattle.definition.specs.Headings.{isOf, isKind, isNamed}
 use Rattle.definition.specs.Catalogue.{underType}
 use Rattle.definition.specs.Store.{cardsUsed}
-use Rattle.stored.specs.Stored.{cardKind}
-use Rattle.index.specs.Index.{sameCards}
+use Rattle.store_reader.specs.Stored.{cardKind}
+use Rattle.from_ast_index.specs.Index.{sameCards}
 use Rattle.component.specs.Drawn.{Stored, extensionKind, isMatching, matching, Matched, listAt, typeRowAt, typeRowsAt}
 use Rattle.component.proofs.Listed.{keep-yes, keep-no, all-keep}
 use Rattle.component.proofs.Turns.{and-false, taken-next, taken-end}

@@ -16,10 +16,10 @@ use Rattle.definition.specs.Headings.{Part, Heading, partFrom, isKind, isNamed,
 use Rattle.definition.specs.Catalogue.{Component, component, components, ownComponents, ofExtensions, kept, Row, row, componentRow, isComponentOf, listed, underSchema, defaultName, kindNamed, defaultRoot, defaultRoots, isRootComponent, unadoptedSchema, adoptedSchema, schemaComponents, schemaRows}
 use Rattle.definition.specs.Store.{cardsUsed, storedCards}
 use Rattle.definition.specs.LentRows.{cardsNamed}
-use Rattle.stored.specs.Stored.{cardKind, headingAt, isHead, isHeadCard, partsFrom, storedParts}
-use Rattle.stored.proofs.Documents.{named-drop}
-use Rattle.stored.proofs.Lists.{all-to}
-use Rattle.index.specs.Index.{headingNumber}
+use Rattle.store_reader.specs.Stored.{cardKind, headingAt, isHead, isHeadCard, partsFrom, storedParts}
+use Rattle.store_reader.proofs.DocumentsLaws.{named-drop}
+use Rattle.store_reader.proofs.Lists.{all-to}
+use Rattle.from_ast_index.specs.Index.{headingNumber}
 use Rattle.component.specs.Pushed.{alikeRows, rowsOfKind}
 use Rattle.component.specs.Drawn.{sameStored, headRows, isSchemaCard, schemaCard, schemaExtensionAt, isRanged, firstKind, kindNamedAt, hasDefault, anyDefault, defaultRows, isRootCard, setsRoot, isImplicit, schemaListRows, schemaListAt, schemaRowsAt}
 use Rattle.component.proofs.Listed.{listed-sticky, kind-append, kind-flat, keep-yes, keep-no, all-keep}

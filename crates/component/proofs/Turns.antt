@@ -14,9 +14,9 @@ use Rattle.definition.specs.Cards.{isRoot, isPart}
 use Rattle.definition.specs.Headings.{Part, isOf, isKind, isNamed}
 use Rattle.definition.specs.Catalogue.{component, components, Row, row, componentRow, isComponentOf}
 use Rattle.definition.specs.Store.{cardsUsed}
-use Rattle.index.specs.Index.{sameCards}
-use Rattle.stored.specs.Stored.{cardKind, cardAt, builtInCount, builtInAt, partsFrom, storedParts}
-use Rattle.stored.proofs.Words.{parts-next, parts-stop, parts-end}
+use Rattle.from_ast_index.specs.Index.{sameCards}
+use Rattle.store_reader.specs.Stored.{cardKind, cardAt, builtInCount, builtInAt, partsFrom, storedParts}
+use Rattle.store_reader.proofs.Words.{parts-next, parts-stop, parts-end}
 use Rattle.component.specs.Pushed.{Filled, rowAt, rowsFrom, alikeRows, pushed, extended, rowsOfKind}
 use Rattle.component.specs.Drawn.{sameStored, headRows, extensionRowsAt, extensionRows, listRows, listAt, typeRowAt, standingCard, namesDirective, standingAt, directiveRowsOf, directiveRowsAt}
 use Rattle.component.proofs.Sticky.{extended-none, extended-fresh}

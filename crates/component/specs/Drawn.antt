@@ -12,8 +12,8 @@ use Rattle.definition.specs.Names.{sameName}
 use Rattle.definition.specs.Headings.{isOf}
 use Rattle.definition.specs.Catalogue.{Row, row, components, underType, underSchema, defaultName}
 use Rattle.definition.specs.Store.{cardsUsed, storedCards}
-use Rattle.stored.specs.Stored.{cardKind, cardName, builtInAt, headingAt, isHeadCard}
-use Rattle.index.specs.Index.{sameCards}
+use Rattle.store_reader.specs.Stored.{cardKind, cardName, builtInAt, headingAt, isHeadCard}
+use Rattle.from_ast_index.specs.Index.{sameCards}
 use Rattle.component.specs.Pushed.{alikeRows, rowsOfKind}
 
 -- An array whose first n words are numbers of stored cards.

@@ -7,8 +7,8 @@ ghost use Rattle.definition.specs.Lists.{any, written};
 ghost use Rattle.definition.specs.Catalogue.{row, component};
 ghost use Rattle.definition.specs.Outcomes.{wordsOfRow};
 ghost use Rattle.definition.specs.Store.{cardsUsed};
-ghost use Rattle.stored.specs.Stored.{cardAt};
-ghost use Rattle.index.specs.Index.{Printed};
+ghost use Rattle.store_reader.specs.Stored.{cardAt};
+ghost use Rattle.from_ast_index.specs.Index.{Printed};
 ghost use Rattle.component.specs.Pushed.{filled, pushed, usedFrom, alikeRows, extended, rowsOfKind};
 ghost use Rattle.component.specs.Drawn.{sameStored, headRows};
 
@@ -37,14 +37,14 @@ fn same_stored(text: &[u8], words: &[u32], prints: &[u32], a: u32, b: u32) -> bo
     requires { ⌜ Printed (now text) (now words) (now prints) ⌝ }
     ensures { λ r. ⌜ r ≡ sameStored (now (text .entry)) (now (words .entry)) a b ⌝ }
 {
-    let n = stored::cards_used(words);
+    let n = store_reader::cards_used(words);
     if n <= a as usize {
         return false;
     }
     if n <= b as usize {
         return false;
     }
-    index::same_cards(text, words, prints, a, b)
+    from_ast_index::same_cards(text, words, prints, a, b)
 }
 
 // Whether a part is like one of the rows of its list: a root of its kind, or a part of its kind and name. Directive uses all stay.
@@ -115,7 +115,7 @@ fn extend_part(
     requires { ⌜ Printed (now text) (now words) (now prints) × (kind ≤ 28) × (3 * extended (sameStored (now text) (now words)) start (rowsOfKind kind (component origin (cardAt (now text) (now words) card) ∷ [])) (filled (now rows) used) .used ≤ length (now rows)) ⌝ }
     ensures { λ r. ⌜ filled (now (rows .exit)) r ≡ extended (sameStored (now (text .entry)) (now (words .entry))) start (rowsOfKind kind (component origin (cardAt (now (text .entry)) (now (words .entry)) card) ∷ [])) (filled (now (rows .entry)) used) ⌝ }
 {
-    if stored::card_kind(words, card as usize) != kind {
+    if store_reader::card_kind(words, card as usize) != kind {
         return used;
     }
     extend_sticky(text, words, prints, kind, card, origin, rows, start, used)
@@ -136,11 +136,11 @@ pub fn extend_ast(
     requires { ⌜ Printed (now text) (now words) (now prints) × (kind ≤ 28) × (heading < cardsUsed (now words)) × (start ≤ used) × (3 * extended (sameStored (now text) (now words)) start (headRows (now text) (now words) origin kind heading) (filled (now rows) used) .used ≤ length (now rows)) ⌝ }
     ensures { λ r. ⌜ filled (now (rows .exit)) r ≡ extended (sameStored (now (text .entry)) (now (words .entry))) start (headRows (now (text .entry)) (now (words .entry)) origin kind heading) (filled (now (rows .entry)) used) ⌝ }
 {
-    let n = stored::cards_used(words);
+    let n = store_reader::cards_used(words);
     let mut t = used;
     let mut card = heading + 1;
     while (card as usize) < n {
-        if !stored::is_part(stored::card_kind(words, card as usize)) {
+        if !store_reader::is_part(store_reader::card_kind(words, card as usize)) {
             return t;
         }
         t = extend_part(text, words, prints, kind, card, origin, rows, start, t);

@@ -1,5 +1,4 @@
 -- The laws of the definitions and, over them, demand 3. Each file comes after those that it leans on.
-
 -- Lists.
 pub mod Tests
 pub mod Lists
@@ -39,3 +38,4 @@ pub mod RowsStay
 pub mod RunPlaces
 pub mod StoreGrowth
 pub mod Demand3
+mod Runs

@@ -1,10 +1,10 @@
 // The public entries for C: a slice is a pointer and a length, an enum's answer its numbers in 01, written through lent words.
-use answers::field_card;
-use answers::field_meta;
-use answers::field_number;
-use answers::field_refusal;
-use answers::subtype_number;
-use answers::subtype_refusal;
+use api::answers::field_card;
+use api::answers::field_meta;
+use api::answers::field_number;
+use api::answers::field_refusal;
+use api::answers::subtype_number;
+use api::answers::subtype_refusal;
 use definition::Answer;
 use definition::Drawing;
 use definition::OperationType;
@@ -22,7 +22,7 @@ pub extern "C" fn gimletaspen_open(
 ) -> Answer
     ensures { λ r. ⌜ record { answer = r; text = now (text .exit); words = now (words .exit) } ≡ open-store (now (text .entry)) (now (words .entry)) (now (lent .entry)) (now (cards .entry)) ⌝ }
 {
-    collection::open(text, words, lent, cards)
+    api::open(text, words, lent, cards)
 }
 
 #[no_mangle]
@@ -34,21 +34,21 @@ pub extern "C" fn gimletaspen_add_ast(
 ) -> Answer
     ensures { λ r. ⌜ record { answer = r; text = now (text .exit); words = now (words .exit) } ≡ add-ast (now (text .entry)) (now (words .entry)) (now (lent .entry)) (now (cards .entry)) ⌝ }
 {
-    collection::add_ast(text, words, lent, cards)
+    api::add_ast(text, words, lent, cards)
 }
 
 #[no_mangle]
 pub extern "C" fn gimletaspen_adopt_orphan_extensions(text: &[u8], words: &mut [u32]) -> Answer
     ensures { λ r. ⌜ record { answer = r; text = now (text .exit); words = now (words .exit) } ≡ adopt-orphan-extensions (now (text .entry)) (now (words .entry)) ⌝ }
 {
-    collection::adopt_orphan_extensions(text, words)
+    api::adopt_orphan_extensions(text, words)
 }
 
 #[no_mangle]
 pub extern "C" fn gimletaspen_ignore_builtin_redefinitions(text: &[u8], words: &mut [u32]) -> Answer
     ensures { λ r. ⌜ record { answer = r; text = now (text .exit); words = now (words .exit) } ≡ ignore-builtin-redefinitions (now (text .entry)) (now (words .entry)) ⌝ }
 {
-    collection::ignore_builtin_redefinitions(text, words)
+    api::ignore_builtin_redefinitions(text, words)
 }
 
 #[no_mangle]
@@ -60,14 +60,14 @@ pub extern "C" fn gimletaspen_build(
 ) -> Drawing
     ensures { λ r. ⌜ record { drawing = r; rows = now (rows .exit); errors = now (errors .exit) } ≡ build (now (text .entry)) (now (words .entry)) (now (rows .entry)) (now (errors .entry)) ⌝ }
 {
-    collection::build(text, words, rows, errors)
+    api::build(text, words, rows, errors)
 }
 
 #[no_mangle]
 pub extern "C" fn gimletaspen_check_rows(text: &[u8], words: &[u32], rows: &[u32]) -> Answer
     ensures { λ r. ⌜ r ≡ check-rows (now (text .entry)) (now (words .entry)) (now (rows .entry)) ⌝ }
 {
-    collection::check_rows(text, words, rows)
+    api::check_rows(text, words, rows)
 }
 
 // Copies a name to the front of the lent bytes where it fits, and hands back its length.
@@ -77,7 +77,7 @@ fn copy_name(found: &[u8], name: &mut [u8]) -> usize
     if name.len() < found.len() {
         return found.len();
     }
-    copying::copy_text(name, found);
+    store::copying::copy_text(name, found);
     found.len()
 }
 
@@ -86,13 +86,13 @@ fn root_of<'a>(text: &'a [u8], words: &[u32], rows: &[u32], kind: u32) -> &'a [u
     ensures { λ r. ⌜ now r ≡ rootNamed (now (text .entry)) (now (words .entry)) (now (rows .entry)) kind ⌝ }
 {
     if kind == 26 {
-        return collection::root_operation(text, words, rows, OperationType::Query);
+        return api::root_operation(text, words, rows, OperationType::Query);
     }
     if kind == 27 {
-        return collection::root_operation(text, words, rows, OperationType::Mutation);
+        return api::root_operation(text, words, rows, OperationType::Mutation);
     }
     if kind == 28 {
-        return collection::root_operation(text, words, rows, OperationType::Subscription);
+        return api::root_operation(text, words, rows, OperationType::Subscription);
     }
     &text[0..0]
 }
@@ -125,7 +125,7 @@ pub extern "C" fn gimletaspen_type_field(
 ) -> u32
     ensures { λ r. ⌜ FieldNumbers (type-field (now (text .entry)) (now (words .entry)) (now (rows .entry)) (now («type_name» .entry)) (now (field .entry))) r (now (number .exit)) (now (meta .exit)) (now (card .exit)) ⌝ }
 {
-    let answer = collection::type_field(text, words, rows, type_name, field);
+    let answer = api::type_field(text, words, rows, type_name, field);
     *number = field_number(answer);
     *meta = field_meta(answer);
     *card = field_card(answer);
@@ -144,7 +144,7 @@ pub extern "C" fn gimletaspen_is_subtype(
 ) -> u32
     ensures { λ r. ⌜ SubtypeNumbers (is-subtype (now (text .entry)) (now (words .entry)) (now (rows .entry)) (now (general .entry)) (now (other .entry))) r (now (yes .exit)) ⌝ }
 {
-    let answer = collection::is_subtype(text, words, rows, general, other);
+    let answer = api::is_subtype(text, words, rows, general, other);
     *yes = subtype_number(answer);
     subtype_refusal(answer)
 }
@@ -158,7 +158,7 @@ pub extern "C" fn gimletaspen_iter_origins(
 ) -> Answer
     ensures { λ r. ⌜ record { answer = r; list = now (list .exit) } ≡ iter-origins (now (text .entry)) (now (words .entry)) (now (rows .entry)) (now (list .entry)) ⌝ }
 {
-    collection::iter_origins(text, words, rows, list)
+    api::iter_origins(text, words, rows, list)
 }
 
 #[no_mangle]
@@ -170,7 +170,7 @@ pub extern "C" fn gimletaspen_extensions(
 ) -> Answer
     ensures { λ r. ⌜ record { answer = r; list = now (list .exit) } ≡ extensions (now (text .entry)) (now (words .entry)) (now (rows .entry)) (now (list .entry)) ⌝ }
 {
-    collection::extensions(text, words, rows, list)
+    api::extensions(text, words, rows, list)
 }
 
 #[no_mangle]
@@ -182,5 +182,5 @@ pub extern "C" fn gimletaspen_implementers_map(
 ) -> Answer
     ensures { λ r. ⌜ record { answer = r; list = now (list .exit) } ≡ implementers-map (now (text .entry)) (now (words .entry)) (now (rows .entry)) (now (list .entry)) ⌝ }
 {
-    collection::implementers_map(text, words, rows, list)
+    api::implementers_map(text, words, rows, list)
 }

@@ -2,12 +2,12 @@
 mod switches;
 
 use definition::Answer;
-use filed::Filed;
-use filed::file_document;
-use input::buffers;
+use program_io::filing::Filed;
+use program_io::filing::file_document;
+use program_io::input::buffers;
 use libc::STDOUT_FILENO;
-use listed::put::put_listing;
-use listed::put::put_refusal;
+use program_io::output::put::put_listing;
+use program_io::output::put::put_refusal;
 use switches::Switches;
 use switches::SwitchesFile;
 use switches::read_switches;
@@ -79,13 +79,13 @@ fn run_document(n: usize, switches: Switches, text: &mut [u8], words: &mut [u32]
 
 fn turn_on(switches: Switches, text: &[u8], words: &mut [u32]) -> Answer {
     if switches.adopt {
-        let answer = collection::adopt_orphan_extensions(text, words);
+        let answer = api::adopt_orphan_extensions(text, words);
         if answer.number != 0 {
             return answer;
         }
     }
     if switches.ignore {
-        return collection::ignore_builtin_redefinitions(text, words);
+        return api::ignore_builtin_redefinitions(text, words);
     }
     Answer { number: 0, card: 0 }
 }
@@ -93,7 +93,7 @@ fn turn_on(switches: Switches, text: &[u8], words: &mut [u32]) -> Answer {
 fn draw(text: &[u8], words: &[u32]) {
     let mut rows = [0u32; ROWS];
     let mut errors = [0u32; ERRORS];
-    let drawing = collection::build(text, words, &mut rows, &mut errors);
+    let drawing = api::build(text, words, &mut rows, &mut errors);
     let mut out = buffers::output();
     let n = put_listing(drawing, &rows, &errors, &mut out);
     print(&out[..n]);

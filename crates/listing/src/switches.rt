@@ -1,8 +1,8 @@
 // The file `switches`: two digits, whether to adopt orphan extensions and whether to ignore redefined built-in types.
-use input::files::File;
-use input::files::is_missing;
-use input::files::read_file;
-use input::files::tell;
+use program_io::input::files::File;
+use program_io::input::files::is_missing;
+use program_io::input::files::read_file;
+use program_io::input::files::tell;
 ghost use mathlib.Core.Path.{_≡_};
 ghost use Rattle.listing.specs.Digits.{switchesOf, adoptOf, ignoreOf};
 

@@ -1,7 +1,7 @@
 -- What a case that ran counts at most.
 use mathlib.Core.Path.{_≡_}
 use Rattle.replay.specs.Counted.{Few, FewRan}
-use Rattle.held.specs.declared.report.Tally.{Tally}
+use Rattle.replay.specs.declared.expected.report.Tally.{Tally}
 use Rattle.replay.specs.declared.Case.{Case}
 use Rattle.replay.specs.declared.Case.the-variants.{Ran}
 

@@ -1,6 +1,6 @@
 -- How much a case counts at most: a line has at least one byte.
 use Prim.Native.Nat.{ℕ, _≤_}
-use Rattle.held.specs.declared.report.Tally.{Tally}
+use Rattle.replay.specs.declared.expected.report.Tally.{Tally}
 use Rattle.replay.specs.declared.Case.{Case}
 use Rattle.replay.specs.declared.Case.the-variants.{Ran, Missing}
 

@@ -1,21 +1,21 @@
 // The calls that write the store: opening, filing, turning a switch on. What is expected of one stands in its line.
-use calls::parse::read_numbers;
+use replay_calls::calls::parse::read_numbers;
 use definition::Answer;
-use filed::Filed;
-use filed::file_document;
-use held::hold::hold_answer;
-use steps::buffers;
-use steps::command::Filing;
-use steps::command::Switch;
-use steps::compare::copy_bytes;
-use steps::compare::copy_words;
-use steps::compare::first_bytes;
-use steps::compare::first_words;
-use steps::compare::same_words;
-use steps::numbers::Pair;
-use steps::numbers::read_pair;
-use steps::step::Verdict;
-use steps::step::blamed;
+use program_io::filing::Filed;
+use program_io::filing::file_document;
+use crate::expected::hold::hold_answer;
+use replay_calls::steps::buffers;
+use replay_calls::steps::command::Filing;
+use replay_calls::steps::command::Switch;
+use replay_calls::steps::compare::copy_bytes;
+use replay_calls::steps::compare::copy_words;
+use replay_calls::steps::compare::first_bytes;
+use replay_calls::steps::compare::first_words;
+use replay_calls::steps::compare::same_words;
+use replay_calls::steps::numbers::Pair;
+use replay_calls::steps::numbers::read_pair;
+use replay_calls::steps::step::Verdict;
+use replay_calls::steps::step::blamed;
 ghost use Prim.Native.Nat.{_≤_};
 ghost use lib.ListN.{length};
 
@@ -121,7 +121,7 @@ pub fn run_switch(switch: Switch, line: &[u8], text: &[u8], words: &mut [u32]) -
 
 fn turn_on(switch: Switch, text: &[u8], words: &mut [u32]) -> Answer {
     match switch {
-        Switch::AdoptOrphanExtensions => collection::adopt_orphan_extensions(text, words),
-        Switch::IgnoreBuiltinRedefinitions => collection::ignore_builtin_redefinitions(text, words),
+        Switch::AdoptOrphanExtensions => api::adopt_orphan_extensions(text, words),
+        Switch::IgnoreBuiltinRedefinitions => api::ignore_builtin_redefinitions(text, words),
     }
 }

@@ -1,17 +1,21 @@
 // Runs cases of calls: each folder 0, 1, 2 .. holds a file `calls` with one call a line and what must come of it. Every call goes through the public entries,
 // over a store, rows and errors of local arrays. A failing call is printed, and at the end how many cases, calls and failures there were.
+mod expected;
+mod builds;
+mod lookups;
+
 mod filing;
 mod lines;
 
-use held::report;
-use held::report::Tally;
-use input::files::File;
-use input::files::is_missing;
-use input::files::read_file;
-use listed::put::put_bytes;
-use listed::put::put_name;
-use steps::buffers;
-use steps::compare::first_bytes;
+use crate::expected::report;
+use crate::expected::report::Tally;
+use program_io::input::files::File;
+use program_io::input::files::is_missing;
+use program_io::input::files::read_file;
+use program_io::output::put::put_bytes;
+use program_io::output::put::put_name;
+use replay_calls::steps::buffers;
+use replay_calls::steps::compare::first_bytes;
 ghost use Rattle.replay.specs.Counted.{FewRan};
 
 // No folder is reached whose number is this.

@@ -18,11 +18,11 @@ use Rattle.store_check.proofs.Sound.{documents-held, text-held, cards-held}
 use Rattle.definition.proofs.CleanCards.{clean-part, clean-heading}
 use Rattle.store.proofs.Clean.{item-in-text, name-in-text}
 use Rattle.store_check.proofs.Checked.{SoundStore}
-use Rattle.copying.specs.Moving.{Within}
-use Rattle.filing.specs.Filing.{Fits, Opens}
-use Rattle.filing_check.specs.Room.{roomFor, lentRefusal}
-use Rattle.filing_check.proofs.Enough.{room-left, unrefused}
-use Rattle.filing.proofs.Filed.{count-cards}
+use Rattle.store.specs.Moving.{Within}
+use Rattle.store.specs.Filing.{Fits, Opens}
+use Rattle.store.specs.FilingCheckRoom.{roomFor, lentRefusal}
+use Rattle.store.proofs.Enough.{room-left, unrefused}
+use Rattle.store.proofs.Filed.{count-cards}
 
 -- ---- A document that passes 1 to 5.
 

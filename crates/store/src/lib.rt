@@ -1,7 +1,7 @@
 // Opening a store, filing documents into it and turning its switches on: SchemaBuilder's `new`, `add_ast` and its two switches.
-use card_check::CardCheck;
+use ast_check::CardCheck;
 use definition::Answer;
-use filing_check::Room;
+use crate::filing_check::Room;
 use store_check::StoreCheck;
 use store_check::TEXT_ROOM;
 use store_check::WORDS_ROOM;
@@ -10,6 +10,10 @@ ghost use Prim.Native.Nat.{_≤_};
 ghost use lib.ListN.{set};
 ghost use Rattle.definition.specs.Answers.{answer};
 ghost use Rattle.definition.specs.Outcomes.{open-store, add-ast, turned, adopt-orphan-extensions, ignore-builtin-redefinitions};
+
+pub mod filing_check;
+pub mod copying;
+pub mod filing;
 
 // Where the two switches stand among the store's words.
 const ADOPT_AT: usize = 1;
@@ -39,16 +43,16 @@ pub fn open(text: &mut [u8], words: &mut [u32], lent: &[u8], cards: &[u32]) -> A
             card: 0,
         };
     }
-    if let CardCheck::Faulty(answer) = card_check::check_document(lent, cards) {
+    if let CardCheck::Faulty(answer) = ast_check::check_document(lent, cards) {
         return answer;
     }
-    if let CardCheck::Faulty(answer) = built_in::check_built_in(lent, cards) {
+    if let CardCheck::Faulty(answer) = store_built_in::check_built_in(lent, cards) {
         return answer;
     }
-    if let Room::Refused(number) = filing_check::check_room(0, 0, lent, cards) {
+    if let Room::Refused(number) = crate::filing_check::check_room(0, 0, lent, cards) {
         return Answer { number, card: 0 };
     }
-    filing::file_built_in(text, words, lent, cards);
+    crate::filing::file_built_in(text, words, lent, cards);
     accepted()
 }
 
@@ -59,10 +63,10 @@ pub fn add_ast(text: &mut [u8], words: &mut [u32], lent: &[u8], cards: &[u32]) -
     if let StoreCheck::Refused(number) = store_check::check_store(text, words) {
         return Answer { number, card: 0 };
     }
-    if let CardCheck::Faulty(answer) = filing_check::check_filing(words, lent, cards) {
+    if let CardCheck::Faulty(answer) = crate::filing_check::check_filing(words, lent, cards) {
         return answer;
     }
-    filing::file(text, words, lent, cards);
+    crate::filing::file(text, words, lent, cards);
     accepted()
 }
 

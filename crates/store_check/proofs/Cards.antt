@@ -12,7 +12,7 @@ use Rattle.definition.specs.declared.Answer.{Answer}
 use Rattle.definition.specs.Lists.{chunks, found}
 use Rattle.definition.specs.Cards.{Card, cardFrom, cardsFrom, cardsOf, cardFault}
 use Rattle.definition.specs.Store.{StoredRow, storedRows, storedCards, documentCount, cardsUsed, cardsCounted, cardsSound}
-use Rattle.store_counts.proofs.Rows.{rowAt, rowsFrom, rows-all, rows-next, rows-none}
+use Rattle.store_check.proofs.Rows.{rowAt, rowsFrom, rows-all, rows-next, rows-none}
 use Rattle.store_check.proofs.Sound.{counted-le}
 
 -- ---- Parts of a list of cards are the cards of parts of the words.

@@ -2,3 +2,5 @@ pub mod Sound
 mod Cards
 mod Zero
 pub mod Checked
+mod CountsLaws
+pub mod Rows

@@ -15,7 +15,7 @@ use Rattle.definition.specs.Names.{bytesAt}
 use Rattle.definition.specs.Cards.{Card, isUnnamed}
 use Rattle.definition.specs.Refusals.{document, zeroFault}
 use Rattle.definition.specs.Store.{storedRows, storedCards, storedDocument, documentsFrom, accountIn, documentCount, textUsed, countsSound, rowsTouch, zeroUnignored, rowsSound, zeroSound, unmoved}
-use Rattle.store_counts.proofs.Rows.{rowAt, rowsFrom, rows-all, rows-next}
+use Rattle.store_check.proofs.Rows.{rowAt, rowsFrom, rows-all, rows-next}
 use Rattle.store_check.proofs.Sound.{counts-held, rows-held, touch-le, and-both}
 use Rattle.store_check.proofs.Cards.{cards-all, here-cards, Cleared, cleared-none, fits-here}
 

@@ -1,8 +1,8 @@
 // Whether a store is one that filing can leave: the refusals 21 and 22.
 use ast::CARD_WORDS;
-use card_check::CardCheck;
-use store_counts::ROW_WORDS;
-use store_counts::ROWS_AT;
+use ast_check::CardCheck;
+use crate::counts::ROW_WORDS;
+use crate::counts::ROWS_AT;
 ghost use mathlib.Core.Path.{_≡_};
 ghost use mathlib.Core.Bool.{true};
 ghost use Prim.Native.Nat.{_≤_};
@@ -10,6 +10,8 @@ ghost use lib.ListN.{length};
 ghost use Rattle.definition.specs.Refusals.{textRoom};
 ghost use Rattle.store_check.specs.Check.{Checked};
 ghost use Rattle.definition.specs.Store.{accountIn, storedRows, storedCards, wordsRoom, countsSound, rowsSound, cardsSound, zeroSound};
+
+pub mod counts;
 
 // The bytes that a store's text has at least.
 pub const TEXT_ROOM: usize = 65536;
@@ -41,7 +43,7 @@ fn cards_sound(text: &[u8], words: &[u32]) -> bool
         let count = words[i + 2] as usize;
         let start = CARDS_AT + CARD_WORDS * cards;
         let end = start + CARD_WORDS * count;
-        let CardCheck::Sound = card_check::check_cards(text, text_at, text_len, &words[start..end])
+        let CardCheck::Sound = ast_check::check_cards(text, text_at, text_len, &words[start..end])
         else {
             return false;
         };
@@ -58,7 +60,7 @@ fn zero_sound(text: &[u8], words: &[u32]) -> bool
 {
     let len = words[6] as usize;
     let end = CARDS_AT + CARD_WORDS * words[7] as usize;
-    let CardCheck::Sound = built_in::check_built_in(&text[..len], &words[CARDS_AT..end]) else {
+    let CardCheck::Sound = store_built_in::check_built_in(&text[..len], &words[CARDS_AT..end]) else {
         return false;
     };
     true
@@ -74,10 +76,10 @@ pub fn check_store(text: &[u8], words: &[u32]) -> StoreCheck
     if words.len() < WORDS_ROOM {
         return StoreCheck::Refused(21);
     }
-    if !store_counts::counts_sound(words) {
+    if !crate::counts::counts_sound(words) {
         return StoreCheck::Refused(22);
     }
-    if !store_counts::rows_sound(words) {
+    if !crate::counts::rows_sound(words) {
         return StoreCheck::Refused(22);
     }
     if !cards_sound(text, words) {

@@ -6,7 +6,7 @@ use lib.ListN.{length}
 use borrow.Author.Tests.{not-true, not-false}
 use Rattle.definition.specs.Cards.{isPart}
 use Rattle.definition.specs.Catalogue.{Row, component}
-use Rattle.stored.specs.Stored.{cardAt}
+use Rattle.store_reader.specs.Stored.{cardAt}
 use Rattle.component.specs.Pushed.{filled, extended, rowsOfKind}
 use Rattle.component.specs.Drawn.{sameStored, headRows}
 use Rattle.component.proofs.Sticky.{walk-room, walk-next, walk-start, walk-end}
@@ -17,9 +17,9 @@ use borrow.Author.Needs.{needs}
 use Rattle.component.proofs.extend_ast.Reads as reads
 use Rattle.component.proofs.extend_ast.Lts as lts
 use Rattle.component.proofs.extend_part.Reads as extend-part-reads
-use Rattle.stored.proofs.card_kind.Reads as card-kind-reads
-use Rattle.card_words.proofs.cards_used.Reads as cards-used-reads
-use Rattle.stored.proofs.is_part.Reads as is-part-reads
+use Rattle.store_reader.proofs.card_kind.Reads as card-kind-reads
+use Rattle.store_reader.proofs.card_words.cards_used.Reads as cards-used-reads
+use Rattle.store_reader.proofs.is_part.Reads as is-part-reads
 
 abbrev Inv-loop : tie.InvT-loop
 Inv-loop text words prints kind heading origin rows₀ start used n t₀ card₀ rows t card =

@@ -8,7 +8,7 @@ use borrow.Author.Needs.{needs}
 use Rattle.component.proofs.extend_part.Reads as reads
 use Rattle.component.proofs.extend_part.Lts as lts
 use Rattle.component.proofs.extend_sticky.Reads as extend-sticky-reads
-use Rattle.stored.proofs.card_kind.Reads as card-kind-reads
+use Rattle.store_reader.proofs.card_kind.Reads as card-kind-reads
 
 card-kind-requires : tie.Need-card-kind-requires
 card-kind-requires c κs = search needs

@@ -6,8 +6,8 @@ use Rattle.component.proofs.same_stored.Tie as tie
 use borrow.Author.Needs.{needs}
 use Rattle.component.proofs.same_stored.Reads as reads
 use Rattle.component.proofs.same_stored.Lts as lts
-use Rattle.index.proofs.same_cards.Reads as same-cards-reads
-use Rattle.card_words.proofs.cards_used.Reads as cards-used-reads
+use Rattle.from_ast_index.proofs.same_cards.Reads as same-cards-reads
+use Rattle.store_reader.proofs.card_words.cards_used.Reads as cards-used-reads
 
 cards-used-requires : tie.Need-cards-used-requires
 cards-used-requires c κs = search needs

@@ -1,6 +1,6 @@
 use mathlib.Core.Path.{sym}
 use lib.Seq.{length-take-le}
-use Rattle.listed.proofs.Text.{put-within}
+use Rattle.program_io.proofs.Text.{put-within}
 use Rattle.listing.proofs.print_refusal.Statement.{statement}
 use Rattle.listing.proofs.print_refusal.Tie as tie
 use borrow.Author.Needs.{needs}

@@ -6,7 +6,7 @@ use Rattle.replay.proofs.main.Tie as tie
 use borrow.Author.Needs.{needs}
 use Rattle.replay.proofs.main.Reads as reads
 use Rattle.replay.proofs.main.Lts as lts
-use Rattle.held.proofs.report.print_total.Reads as print-total-reads
+use Rattle.replay.proofs.expected.report.print_total.Reads as print-total-reads
 use Rattle.replay.proofs.run_case.Reads as run-case-reads
 
 abbrev Inv-loop : tie.InvT-loop

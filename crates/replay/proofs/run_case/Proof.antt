@@ -1,17 +1,17 @@
-use Rattle.input.proofs.Input.{within}
+use Rattle.program_io.proofs.InputLaws.{within}
 use borrow.Author.Needs.{needs}
 use Rattle.replay.proofs.run_case.Statement.{statement}
 use Rattle.replay.proofs.run_case.Tie as tie
 use Rattle.replay.proofs.run_case.Reads as reads
 use Rattle.replay.proofs.run_case.Lts as lts
-use Rattle.held.proofs.report.print_unread.Reads as print-unread-reads
-use Rattle.input.proofs.files.is_missing.Reads as is-missing-reads
-use Rattle.input.proofs.files.read_file.Reads as read-file-reads
-use Rattle.listed.proofs.put.put_bytes.Reads as put-bytes-reads
-use Rattle.listed.proofs.put.put_name.Reads as put-name-reads
+use Rattle.replay.proofs.expected.report.print_unread.Reads as print-unread-reads
+use Rattle.program_io.proofs.input.files.is_missing.Reads as is-missing-reads
+use Rattle.program_io.proofs.input.files.read_file.Reads as read-file-reads
+use Rattle.program_io.proofs.output.put.put_bytes.Reads as put-bytes-reads
+use Rattle.program_io.proofs.output.put.put_name.Reads as put-name-reads
 use Rattle.replay.proofs.lines.run_lines.Reads as run-lines-reads
-use Rattle.steps.proofs.buffers.file_bytes.Reads as file-bytes-reads
-use Rattle.steps.proofs.compare.first_bytes.Reads as first-bytes-reads
+use Rattle.replay_calls.proofs.steps.buffers.file_bytes.Reads as file-bytes-reads
+use Rattle.replay_calls.proofs.steps.compare.first_bytes.Reads as first-bytes-reads
 
 slice-aggregate-put-name : tie.Need-slice-aggregate-put-name
 slice-aggregate-put-name c = search needs

@@ -1,6 +1,6 @@
 use mathlib.Core.Path.{sym, ap, _∙_}
 use native.Mathlib.Omega.{arith}
-use Rattle.card_check.specs.Checks.{checkOption}
+use Rattle.ast_check.specs.Checks.{checkOption}
 use Rattle.store_check.proofs.Checked.{sound-store, refused-number, refused-store}
 use Rattle.store.proofs.Allowed.{same-refusal, fits}
 use Rattle.store.proofs.Entries.{add-unsound, add-refused, add-done}

@@ -4,7 +4,7 @@ use native.Mathlib.Nat.{add-sub-cancel-left}
 use native.Mathlib.Omega.{arith}
 use lib.ListN.{length}
 use Rattle.definition.specs.Store.{documentCount, cardsUsed}
-use Rattle.card_check.specs.Checks.{checkOption}
+use Rattle.ast_check.specs.Checks.{checkOption}
 use Rattle.store_check.proofs.Sound.{counts-held, rows-held}
 use Rattle.store_check.proofs.Cards.{Cleared, cleared-none, cleared-next, cleared-all, faulty-here, fits-here}
 use Rattle.store_check.proofs.cards_sound.Statement.{statement}

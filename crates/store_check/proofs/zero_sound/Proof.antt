@@ -2,7 +2,7 @@ use mathlib.Core.Path.{_≡_, sym, ap, _∙_}
 use native.Mathlib.Nat.{add-sub-cancel-left}
 use native.Mathlib.Omega.{arith}
 use lib.Seq.{length-take-le}
-use Rattle.card_check.specs.Checks.{checkOption}
+use Rattle.ast_check.specs.Checks.{checkOption}
 use Rattle.store_check.proofs.Zero.{zero-text, zero-cards, zero-sound, zero-faulty}
 use Rattle.store_check.proofs.zero_sound.Statement.{statement}
 use Rattle.store_check.proofs.zero_sound.Tie as tie

@@ -1,7 +1,7 @@
 use native.Mathlib.Omega.{arith}
 use mathlib.Core.Path.{sym}
 use lib.Seq.{length-take-le}
-use Rattle.input.proofs.Input.{within}
+use Rattle.program_io.proofs.InputLaws.{within}
 use Rattle.listing.proofs.switches.read_switches.Statement.{statement}
 use Rattle.listing.proofs.switches.read_switches.Tie as tie
 use borrow.Author.Needs.{needs}

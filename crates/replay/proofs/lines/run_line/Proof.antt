@@ -5,12 +5,12 @@ use Rattle.replay.proofs.lines.run_line.Statement.{statement}
 use Rattle.replay.proofs.lines.run_line.Tie as tie
 use Rattle.replay.proofs.lines.run_line.Reads as reads
 use Rattle.replay.proofs.lines.run_line.Lts as lts
-use Rattle.held.proofs.hold.hold_tallies.Reads as hold-tallies-reads
+use Rattle.replay.proofs.expected.hold.hold_tallies.Reads as hold-tallies-reads
 use Rattle.replay.proofs.lines.run_call.Reads as run-call-reads
-use Rattle.steps.proofs.change.run_change.Reads as run-change-reads
-use Rattle.steps.proofs.command.command_of.Reads as command-of-reads
-use Rattle.steps.proofs.compare.least.Reads as least-reads
-use Rattle.steps.proofs.step.told.Reads as told-reads
+use Rattle.replay_calls.proofs.steps.change.run_change.Reads as run-change-reads
+use Rattle.replay_calls.proofs.steps.command.command_of.Reads as command-of-reads
+use Rattle.replay_calls.proofs.steps.compare.least.Reads as least-reads
+use Rattle.replay_calls.proofs.steps.step.told.Reads as told-reads
 
 command-of-requires : tie.Need-command-of-requires
 command-of-requires c κs = search needs

@@ -7,14 +7,14 @@ use Rattle.replay.proofs.lines.run_lines.Statement.{statement}
 use Rattle.replay.proofs.lines.run_lines.Tie as tie
 use Rattle.replay.proofs.lines.run_lines.Reads as reads
 use Rattle.replay.proofs.lines.run_lines.Lts as lts
-use Rattle.held.proofs.report.count.Reads as count-reads
-use Rattle.held.proofs.report.count_unended.Reads as count-unended-reads
+use Rattle.replay.proofs.expected.report.count.Reads as count-reads
+use Rattle.replay.proofs.expected.report.count_unended.Reads as count-unended-reads
 use Rattle.replay.proofs.lines.line_end.Reads as line-end-reads
 use Rattle.replay.proofs.lines.run_line.Reads as run-line-reads
-use Rattle.steps.proofs.step.whole.Reads as whole-reads
-use Rattle.steps.proofs.buffers.rows.Reads as rows-reads
-use Rattle.steps.proofs.buffers.text.Reads as text-reads
-use Rattle.steps.proofs.buffers.words.Reads as words-reads
+use Rattle.replay_calls.proofs.steps.step.whole.Reads as whole-reads
+use Rattle.replay_calls.proofs.steps.buffers.rows.Reads as rows-reads
+use Rattle.replay_calls.proofs.steps.buffers.text.Reads as text-reads
+use Rattle.replay_calls.proofs.steps.buffers.words.Reads as words-reads
 
 abbrev Inv-loop : tie.InvT-loop
 Inv-loop case folder calls text₀ words₀ rows₀ lent₀ tally₀ at₀ number₀ text words rows lent tally at number =

@@ -1,0 +1,11 @@
+use borrow.Author.Needs.{needs}
+use Rattle.definition.specs.Outcomes.{undrawn}
+use Rattle.api.proofs.refusals.refused_drawing.Statement.{statement}
+use Rattle.api.proofs.refusals.refused_drawing.Tie as tie
+
+returns : tie.Need-returns
+unfolding undrawn
+returns c = search needs
+
+pub refused-drawing-spec : {M : Type 1} → statement M
+refused-drawing-spec = tie.close (tie.spec returns)

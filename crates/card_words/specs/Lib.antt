@@ -1,2 +1,0 @@
--- What code reads of a card.
-pub mod Cards

@@ -1,4 +1,0 @@
-pub mod Drawings
-pub mod Refused
-pub mod Listed
-pub mod Roots

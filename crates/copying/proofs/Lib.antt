@@ -1,2 +1,0 @@
-mod Copied
-mod Moved

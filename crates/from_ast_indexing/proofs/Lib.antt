@@ -1,0 +1,10 @@
+pub mod Prints
+pub mod Heads
+pub mod Owners
+pub mod Told
+pub mod EntrySearch
+pub mod Hints
+pub mod EntryNames
+pub mod TypesTurns
+pub mod ExtensionsTurns
+pub mod SpansWalks

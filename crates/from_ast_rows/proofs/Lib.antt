@@ -1,0 +1,4 @@
+pub mod Parts
+pub mod Catalogue
+pub mod SchemaTurns
+mod TypesParts

@@ -1,0 +1,56 @@
+use mathlib.Core.Path.{sym, ap, _∙_}
+use mathlib.Core.List.{List}
+use native.Mathlib.Omega.{arith}
+use lib.ListN.{take}
+use Rattle.definition.specs.Catalogue.{Row}
+use Rattle.component.specs.Pushed.{filled, extended}
+use Rattle.component.specs.Drawn.{sameStored}
+use Rattle.component.proofs.Turns.{no-directive, directive-row, extended-nothing}
+use Rattle.from_ast_rows.proofs.directives.directive_definition.Statement.{statement}
+use Rattle.from_ast_rows.proofs.directives.directive_definition.Tie as tie
+use borrow.Author.Needs.{needs}
+use Rattle.from_ast_rows.proofs.directives.directive_definition.Reads as reads
+use Rattle.from_ast_rows.proofs.directives.directive_definition.Lts as lts
+use Rattle.component.proofs.extend_sticky.Reads as extend-sticky-reads
+use Rattle.from_ast_rows.proofs.directives.standing_directive.Reads as standing-directive-reads
+use Rattle.store_reader.proofs.card_kind.Reads as card-kind-reads
+
+card-kind-requires : tie.Need-card-kind-requires
+card-kind-requires c κs = search needs
+
+returns : tie.Need-returns
+returns c =
+    let e = c .before .before .before .before .before .before .before .args in
+    extended-nothing (sameStored (e .text .now) (e .words .now)) (e .start) _ (filled (e .rows .now) (e .used))
+    (no-directive (e .text .now) (e .words .now) (take (e .m) (e .heads .now)) (e .card) (λ q. c .if1 .taken (c .before .card-kind .ensures ∙ q)))
+
+standing-directive-requires : tie.Need-standing-directive-requires
+standing-directive-requires c κs = search needs
+
+extend-sticky-requires : tie.Need-extend-sticky-requires
+extend-sticky-requires c κs =
+    let e = c .before .before .before .before .before .before .before .before .before .args in
+    let is = directive-row (e .text .now) (e .words .now) (take (e .m) (e .heads .now)) (e .card) (c .before .standing-directive .result) (sym (c .before .before .before .card-kind .ensures) ∙ c .before .before .if1 .left) (c .before .standing-directive .ensures) in
+    let u = ap (λ (l : List Row). extended (sameStored (e .text .now) (e .words .now)) (e .start) l (filled (e .rows .now) (e .used)) .used) is in
+    let p = c .before .before .before .before .before .before .before .before .before .pre .3 in
+    (c .before .before .before .before .before .before .before .before .before .pre .0, omega arith, omega arith)
+
+same-length : tie.Need-same-length
+same-length c = search needs
+
+returns-2 : tie.Need-returns-2
+returns-2 c =
+    let e = c .before .before .before .before .before .before .before .before .before .before .before .before .args in
+    let is = directive-row (e .text .now) (e .words .now) (take (e .m) (e .heads .now)) (e .card) (c .before .before .before .before .standing-directive .result) (sym (c .before .before .before .before .before .before .card-kind .ensures) ∙ c .before .before .before .before .before .if1 .left) (c .before .before .before .before .standing-directive .ensures) in
+    c .before .before .extend-sticky .ensures ∙ sym (ap (λ (l : List Row). extended (sameStored (e .text .now) (e .words .now)) (e .start) l (filled (e .rows .now) (e .used))) is)
+
+pub directive-definition-spec : {M : Type 1} → statement M
+directive-definition-spec =
+    tie.close
+    (tie.spec
+    card-kind-requires
+    returns
+    standing-directive-requires
+    extend-sticky-requires
+    same-length
+    returns-2)

@@ -1,4 +1,0 @@
-pub mod Prints
-pub mod Heads
-pub mod Owners
-pub mod Told

@@ -1,3 +1,0 @@
--- What is put into buffers.
-pub mod Text
-pub mod Listing

@@ -1,0 +1,11 @@
+use Prim.Native.Nat.{ℕ}
+use mathlib.Core.Path.{sym}
+use lib.ListN.{length-replicate}
+use Rattle.program_io.proofs.input.buffers.output.Statement.{statement}
+use Rattle.program_io.proofs.input.buffers.output.Tie as tie
+
+returns : tie.Need-returns
+returns c = sym (length-replicate {A = ℕ} 152100 0)
+
+pub output-spec : {M : Type 1} → statement M
+output-spec = tie.close (tie.spec returns)

@@ -1,0 +1,19 @@
+use Rattle.program_io.proofs.Text.{put-one}
+use Rattle.program_io.proofs.output.put.put_byte.Statement.{statement}
+use Rattle.program_io.proofs.output.put.put_byte.Tie as tie
+use borrow.Author.Needs.{needs}
+
+slice-write-out : tie.Need-slice-write-out
+slice-write-out c = search needs
+
+add-result : tie.Need-add-result
+add-result c = search needs
+
+same-length : tie.Need-same-length
+same-length c = search needs
+
+returns : tie.Need-returns
+returns c = put-one _ _ _ (c .pre)
+
+pub put-byte-spec : {M : Type 1} → statement M
+put-byte-spec = tie.close (tie.spec slice-write-out add-result same-length returns)

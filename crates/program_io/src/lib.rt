@@ -1,0 +1,3 @@
+pub mod output;
+pub mod input;
+pub mod filing;

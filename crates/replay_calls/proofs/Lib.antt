@@ -1,0 +1,2 @@
+pub mod CallsWords
+pub mod Compared

@@ -1,0 +1,58 @@
+use Prim.Native.Nat.{_-_, _≤_}
+use borrow.Author.Needs.{needs}
+use Rattle.replay_calls.proofs.steps.command.place_of.Statement.{statement}
+use Rattle.replay_calls.proofs.steps.command.place_of.Tie as tie
+use Rattle.replay_calls.proofs.steps.command.place_of.Reads as reads
+use Rattle.replay_calls.proofs.steps.command.place_of.Lts as lts
+use Rattle.replay_calls.proofs.calls.parse.count_words.Reads as count-words-reads
+use Rattle.replay_calls.proofs.calls.parse.word.Reads as word-reads
+use Rattle.check.proofs.same.Reads as same-reads
+
+abbrev Inv-loop : tie.InvT-loop
+Inv-loop name names n k₀ k = k ≤ n
+
+abbrev μ-loop : tie.MeasureT-loop
+μ-loop name names n k₀ k = n - k
+
+count-words-requires : tie.Need-count-words-requires Inv-loop μ-loop
+count-words-requires c κs = search needs
+
+loop-holds : tie.Need-loop-holds Inv-loop μ-loop
+loop-holds c = search needs
+
+word-requires : tie.Need-word-requires Inv-loop μ-loop
+word-requires c κs = search needs
+
+same-requires : tie.Need-same-requires Inv-loop μ-loop
+same-requires c κs = search needs
+
+returns : tie.Need-returns Inv-loop μ-loop
+returns c = search needs
+
+add-k : tie.Need-add-k Inv-loop μ-loop
+add-k c = search needs
+
+loop-less : tie.Need-loop-less Inv-loop μ-loop
+loop-less c = search needs
+
+loop-again : tie.Need-loop-again Inv-loop μ-loop
+loop-again c = search needs
+
+returns-2 : tie.Need-returns-2 Inv-loop μ-loop
+returns-2 c = search needs
+
+pub place-of-spec : {M : Type 1} → statement M
+place-of-spec =
+    tie.close
+    (tie.spec
+    Inv-loop
+    μ-loop
+    count-words-requires
+    loop-holds
+    word-requires
+    same-requires
+    returns
+    add-k
+    loop-less
+    loop-again
+    returns-2)

@@ -1,2 +1,0 @@
--- The arrays that the rows are read from.
-pub mod Arrays

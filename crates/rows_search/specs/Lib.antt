@@ -1,3 +1,0 @@
--- What the searches over lent rows find.
-pub mod Rows
-pub mod Search

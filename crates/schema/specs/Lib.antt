@@ -1,0 +1,7 @@
+pub mod MetaFields
+pub mod Answers
+pub mod Extensions
+pub mod Owners
+-- Gather: which interfaces count, as a walk over the rows finds them. Groups: groups over them.
+pub mod Gather
+pub mod Groups

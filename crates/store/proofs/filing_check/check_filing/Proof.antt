@@ -1,0 +1,73 @@
+use mathlib.Core.Path.{sym, ap, _∙_}
+use Rattle.definition.specs.Store.{documentCount, textUsed, cardsUsed}
+use Rattle.ast_check.specs.Checks.{checkOption}
+use Rattle.store.specs.FilingCheckRoom.{roomOption}
+use Rattle.store.proofs.Enough.{lent-faulty, lent-full, lent-room}
+use Rattle.store.proofs.filing_check.check_filing.Statement.{statement}
+use Rattle.store.proofs.filing_check.check_filing.Tie as tie
+use borrow.Author.Needs.{needs}
+
+check-document-requires : tie.Need-check-document-requires
+check-document-requires c κs = search needs
+
+enum-known-answer : tie.Need-enum-known-answer
+enum-known-answer c = search needs
+
+returns : tie.Need-returns
+returns c = lent-faulty _ _ _ _ (sym (ap checkOption (c .before .answer .given .1)) ∙ c .before .before .before .check-document .ensures)
+
+enum-told : tie.Need-enum-told
+enum-told c = search needs
+
+shared-slice-read-if1 : tie.Need-shared-slice-read-if1
+shared-slice-read-if1 c = search needs
+
+returns-2 : tie.Need-returns-2
+unfolding documentCount
+returns-2 c = lent-full _ _ _ (sym (ap checkOption (c .before .before .enum-told .given .1)) ∙ c .before .before .before .before .check-document .ensures) (c .if1 .taken)
+
+shared-slice-read-check-room : tie.Need-shared-slice-read-check-room
+shared-slice-read-check-room c = search needs
+
+shared-slice-read-check-room-2 : tie.Need-shared-slice-read-check-room-2
+shared-slice-read-check-room-2 c = search needs
+
+check-room-requires : tie.Need-check-room-requires
+unfolding textUsed cardsUsed
+check-room-requires c κs = (c .before .before .before .before .before .before .before .before .before .before .pre .1, c .before .before .before .before .before .before .before .before .before .before .pre .2)
+
+enum-known-number : tie.Need-enum-known-number
+enum-known-number c = search needs
+
+returns-3 : tie.Need-returns-3
+unfolding documentCount textUsed cardsUsed
+returns-3 c =
+    lent-room _ _ _ (sym (ap checkOption (c .before .before .before .before .before .before .before .before .enum-told .given .1)) ∙ c .before .before .before .before .before .before .before .before .before .before .check-document .ensures) _ (c .before .before .before .before .before .before .if1 .left)
+    (sym (ap roomOption (c .before .number .given .1)) ∙ c .before .before .before .check-room .ensures)
+
+enum-told-2 : tie.Need-enum-told-2
+enum-told-2 c = search needs
+
+returns-4 : tie.Need-returns-4
+unfolding documentCount textUsed cardsUsed
+returns-4 c =
+    lent-room _ _ _ (sym (ap checkOption (c .before .before .before .before .before .before .before .enum-told .given .1)) ∙ c .before .before .before .before .before .before .before .before .before .check-document .ensures) _ (c .before .before .before .before .before .if1 .left)
+    (sym (ap roomOption (c .enum-told2 .given .1)) ∙ c .before .before .check-room .ensures)
+
+pub check-filing-spec : {M : Type 1} → statement M
+check-filing-spec =
+    tie.close
+    (tie.spec
+    check-document-requires
+    enum-known-answer
+    returns
+    enum-told
+    shared-slice-read-if1
+    returns-2
+    shared-slice-read-check-room
+    shared-slice-read-check-room-2
+    check-room-requires
+    enum-known-number
+    returns-3
+    enum-told-2
+    returns-4)

@@ -1,0 +1,3 @@
+pub mod FilingCheckRoom
+pub mod Moving
+pub mod Filing

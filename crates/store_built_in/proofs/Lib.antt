@@ -1,0 +1,3 @@
+mod Searches
+mod Alone
+pub mod Fails

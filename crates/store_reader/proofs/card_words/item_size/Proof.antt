@@ -1,0 +1,18 @@
+-- Word 2 of the card.
+use Rattle.store_reader.specs.Cards.{itemSize}
+use Rattle.store_reader.proofs.card_words.item_size.Statement.{statement}
+use Rattle.store_reader.proofs.card_words.item_size.Tie as tie
+use borrow.Author.Needs.{needs}
+
+card-word-requires : tie.Need-card-word-requires
+card-word-requires c κs = search needs
+
+cast-result : tie.Need-cast-result
+cast-result c = search needs
+
+returns : tie.Need-returns
+unfolding itemSize
+returns c = c .card-word .ensures
+
+pub item-size-spec : {M : Type 1} → statement M
+item-size-spec = tie.close (tie.spec card-word-requires cast-result returns)

@@ -1,0 +1,91 @@
+// What a store's words say of a card by its number. Nothing here trusts them: what lies past the slices reads as 0 or as empty.
+ghost use mathlib.Core.Path.{_≡_};
+ghost use Prim.Native.Nat.{_<_};
+ghost use lib.ListN.{getD};
+ghost use Rattle.definition.specs.Store.{cardsUsed};
+ghost use Rattle.store_reader.specs.Cards.{cardWord, cardKind, itemStart, itemSize, cardItem, nameStart, nameSize, cardName, nextCard};
+
+// The word at a position.
+pub fn word(words: &[u32], i: usize) -> u32
+    ensures { λ r. ⌜ r ≡ getD (now (words .entry)) i 0 ⌝ }
+{
+    if i < words.len() {
+        return words[i];
+    }
+    0
+}
+
+// How many cards the store says it has.
+pub fn cards_used(words: &[u32]) -> usize
+    ensures { λ r. ⌜ r ≡ cardsUsed (now (words .entry)) ⌝ }
+{
+    word(words, 4) as usize
+}
+
+// Word k of the card n.
+pub fn card_word(words: &[u32], n: usize, k: usize) -> u32
+    requires { ⌜ k < 5 ⌝ }
+    ensures { λ r. ⌜ r ≡ cardWord (now (words .entry)) n k ⌝ }
+{
+    let used = word(words, 4) as usize;
+    if n < used {
+        return word(words, 261 + 5 * n + k);
+    }
+    0
+}
+
+// What a reader asks of the card n.
+pub fn kind_of(words: &[u32], n: usize) -> u32
+    ensures { λ r. ⌜ r ≡ cardKind (now (words .entry)) n ⌝ }
+{
+    card_word(words, n, 0)
+}
+
+// Where the item of a card begins in the store's text, and how long it is.
+fn item_start(words: &[u32], n: usize) -> usize
+    ensures { λ r. ⌜ r ≡ itemStart (now (words .entry)) n ⌝ }
+{
+    card_word(words, n, 1) as usize
+}
+
+fn item_size(words: &[u32], n: usize) -> usize
+    ensures { λ r. ⌜ r ≡ itemSize (now (words .entry)) n ⌝ }
+{
+    card_word(words, n, 2) as usize
+}
+
+// Where the name of a card begins in the store's text, and how long it is.
+pub fn name_start(words: &[u32], n: usize) -> usize
+    ensures { λ r. ⌜ r ≡ nameStart (now (words .entry)) n ⌝ }
+{
+    card_word(words, n, 3) as usize
+}
+
+pub fn name_size(words: &[u32], n: usize) -> usize
+    ensures { λ r. ⌜ r ≡ nameSize (now (words .entry)) n ⌝ }
+{
+    card_word(words, n, 4) as usize
+}
+
+pub fn item_of<'a>(text: &'a [u8], words: &[u32], n: usize) -> &'a [u8]
+    ensures { λ r. ⌜ now r ≡ cardItem (now (text .entry)) (now (words .entry)) n ⌝ }
+{
+    name::bytes_at(text, item_start(words, n), item_size(words, n))
+}
+
+pub fn name_of<'a>(text: &'a [u8], words: &[u32], n: usize) -> &'a [u8]
+    ensures { λ r. ⌜ now r ≡ cardName (now (text .entry)) (now (words .entry)) n ⌝ }
+{
+    name::bytes_at(text, name_start(words, n), name_size(words, n))
+}
+
+// The position after n, and at the end the number of cards.
+pub fn card_after(words: &[u32], n: usize) -> usize
+    ensures { λ r. ⌜ r ≡ nextCard (now (words .entry)) n ⌝ }
+{
+    let used = cards_used(words);
+    if used <= n {
+        return used;
+    }
+    n + 1
+}

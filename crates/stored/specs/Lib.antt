@@ -1,2 +1,0 @@
--- What code reads of a store, in the definitions' terms.
-pub mod Stored

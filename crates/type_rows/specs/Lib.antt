@@ -1,2 +1,0 @@
--- The parts of all extensions that the rows of defined types are read from.
-pub mod Parted
