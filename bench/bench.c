@@ -9,6 +9,9 @@
 #define FILE_BYTES (1 << 20)
 #define BATCH 50000.0
 #define MOST_BATCHES 100000
+#define MOST_QUESTIONS 65536
+/* A row is three words, as the header says. */
+#define WORDS_OF_ROW 3
 
 static uint8_t text[GIMLETASPEN_TEXT_BYTES];
 static uint32_t words[GIMLETASPEN_STORE_WORDS];
@@ -18,7 +21,7 @@ static uint32_t list[GIMLETASPEN_GROUP_WORDS];
 static size_t rows_length;
 
 static uint8_t document[FILE_BYTES];
-static uint32_t cards[FILE_BYTES / 4];
+static uint32_t cards[FILE_BYTES / sizeof(uint32_t)];
 static char questions[FILE_BYTES];
 
 #define STORE text, sizeof text, words, GIMLETASPEN_STORE_WORDS
@@ -49,9 +52,10 @@ static void file_documents(const char *folder) {
         long card_bytes = read_file(folder, name, cards);
         if (size < 0 || card_bytes < 0)
             return;
+        size_t card_words = (size_t)card_bytes / sizeof *cards;
         struct gimletaspen_answer answer = number == 0
-            ? gimletaspen_open(STORE, document, (size_t)size, cards, (size_t)card_bytes / 4)
-            : gimletaspen_add_ast(STORE, document, (size_t)size, cards, (size_t)card_bytes / 4);
+            ? gimletaspen_open(STORE, document, (size_t)size, cards, card_words)
+            : gimletaspen_add_ast(STORE, document, (size_t)size, cards, card_words);
         if (answer.number)
             fail("a document was refused");
     }
@@ -62,7 +66,7 @@ __attribute__((noinline)) static void draw(void) {
     struct gimletaspen_drawing drawing = gimletaspen_build(STORE, rows, GIMLETASPEN_ROW_WORDS, errors, GIMLETASPEN_ERROR_WORDS);
     if (drawing.number)
         fail("the drawing was refused");
-    rows_length = 3 * (size_t)drawing.rows;
+    rows_length = WORDS_OF_ROW * (size_t)drawing.rows;
 }
 
 /* One question, as the harness's folders have them; the line's kind was matched before. */
@@ -92,7 +96,7 @@ static void ask(char *const *line) {
     }
 }
 
-static char *asked[65536][3];
+static char *asked[MOST_QUESTIONS][3];
 static size_t asked_count;
 
 static void ask_all(void) {
@@ -143,7 +147,7 @@ static void choose(const char *kind, const char *all) {
         char *fields[3] = {strsep(&line, " "), NULL, NULL};
         fields[1] = strsep(&line, " ");
         fields[2] = strsep(&line, " ");
-        if (strcmp(fields[0], kind) == 0 && asked_count < 65536)
+        if (strcmp(fields[0], kind) == 0 && asked_count < MOST_QUESTIONS)
             memcpy(asked[asked_count++], fields, sizeof fields);
     }
 }

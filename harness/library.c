@@ -1,11 +1,17 @@
-/* The library itself, for harness/compare: run in a case folder, `library list` prints its listing and `library ask` the answers to its questions, in the
- * oracle's form (README.md). All of it goes through the entries for C. */
+/* The library itself, for harness/run/compare.py: run in a case folder, `library list` prints its listing and `library ask` the answers to its questions,
+ * in the oracle's form (README.md). All of it goes through the entries for C. Sizes and refusals are the header's; how many words a card has is nothing
+ * to this program. */
 #include "gimletaspen.h"
 #include <stdio.h>
 #include <stdlib.h>
 #include <string.h>
 
 #define FILE_BYTES (1 << 20)
+
+/* What the header says in words: a row is three words, so is what stands before a group's cards, and these are the numbers of a field's answer. */
+#define WORDS_OF_ROW 3
+#define GROUP_CARDS 3
+enum { NO_TYPE = 2, NO_FIELD = 3 };
 
 static uint8_t text[GIMLETASPEN_TEXT_BYTES];
 static uint32_t words[GIMLETASPEN_STORE_WORDS];
@@ -15,14 +21,14 @@ static uint32_t list[GIMLETASPEN_GROUP_WORDS];
 static struct gimletaspen_drawing drawing;
 
 static uint8_t document[FILE_BYTES];
-static uint32_t cards[FILE_BYTES / 4];
+static uint32_t cards[FILE_BYTES / sizeof(uint32_t)];
 static char lines[FILE_BYTES];
 
 /* Before which document each switch is turned on; 0 is never. */
 static int adopt_turn, ignore_turn;
 
 #define STORE text, sizeof text, words, GIMLETASPEN_STORE_WORDS
-#define DRAWN STORE, rows, 3 * (size_t)drawing.rows
+#define DRAWN STORE, rows, WORDS_OF_ROW * (size_t)drawing.rows
 
 static void fail(const char *what) {
     fprintf(stderr, "library: %s\n", what);
@@ -31,7 +37,7 @@ static void fail(const char *what) {
 
 /* A refusal is the whole answer. */
 static void stop_if_refused(uint32_t number, size_t card) {
-    if (number == 0)
+    if (number == GIMLETASPEN_ACCEPTED)
         return;
     printf("refused %u %zu\n", number, card);
     exit(0);
@@ -85,10 +91,12 @@ static void file_documents(void) {
         long card_bytes = read_file(name, cards, sizeof cards);
         if (size < 0 || card_bytes < 0)
             return;
-        stop_if_refused(card_bytes % 4 != 0, 0);
+        size_t card_words = (size_t)card_bytes / sizeof *cards;
+        if ((size_t)card_bytes % sizeof *cards)
+            stop_if_refused(GIMLETASPEN_CARDS_BROKEN, 0);
         struct gimletaspen_answer answer = held == 0
-            ? gimletaspen_open(STORE, document, (size_t)size, cards, (size_t)card_bytes / 4)
-            : gimletaspen_add_ast(STORE, document, (size_t)size, cards, (size_t)card_bytes / 4);
+            ? gimletaspen_open(STORE, document, (size_t)size, cards, card_words)
+            : gimletaspen_add_ast(STORE, document, (size_t)size, cards, card_words);
         stop_if_refused(answer.number, answer.card);
     }
 }
@@ -106,9 +114,9 @@ static void print_word(const char *before, uint32_t word) {
 }
 
 static void print_rows(const uint32_t *from, size_t count) {
-    for (size_t i = 0; i < 3 * count; i++) {
-        print_word(i % 3 ? " " : "", from[i]);
-        if (i % 3 == 2)
+    for (size_t i = 0; i < WORDS_OF_ROW * count; i++) {
+        print_word(i % WORDS_OF_ROW ? " " : "", from[i]);
+        if ((i + 1) % WORDS_OF_ROW == 0)
             putchar('\n');
     }
 }
@@ -124,9 +132,9 @@ static void answer_field(const char *owner, const char *field) {
     uint32_t number, meta, card;
     uint32_t refusal = gimletaspen_type_field(DRAWN, (const uint8_t *)owner, strlen(owner), (const uint8_t *)field, strlen(field), &number, &meta, &card);
     stop_if_refused(refusal, 0);
-    if (number == 2)
+    if (number == NO_TYPE)
         puts("no type");
-    else if (number == 3)
+    else if (number == NO_FIELD)
         printf("no field %u\n", card);
     else if (meta == 0)
         printf("found %u\n", card);
@@ -161,7 +169,7 @@ static void answer_implementers(void) {
     printf("%zu", answer.card);
     const uint32_t *group = list;
     for (size_t i = 0; i < answer.card; i++) {
-        size_t size = 3 + (size_t)group[1] + group[2];
+        size_t size = GROUP_CARDS + (size_t)group[1] + group[2];
         for (size_t j = 0; j < size; j++)
             print_word(j ? " " : " : ", group[j]);
         group += size;

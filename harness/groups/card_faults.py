@@ -1,5 +1,6 @@
 """Refusals 1 to 5 of lent cards, clause by clause, at opening and at filing. All expected answers are by hand from 01; None means that the cards pass."""
-from model import NONE
+from lib.cards import BY_HAND
+from lib.sizes import NONE
 
 INT = 'scalar Int'
 PASSES = (0, 0)
@@ -37,7 +38,7 @@ def whole_cards(new):
 
 def kinds(new):
     table(new, '2: kinds that are none', *[(INT, [kind, 0, 10, 7, 3], (2, 0)) for kind in (0, 18, 19, 29, 30, 127, 255, HIGH, NONE)])
-    table(new, '2: a kind is a whole word', *[(INT, [kind, 0, 10, 7, 3], (2, 0)) for kind in (256 + 5, 65536 + 5, 2 ** 24 + 5, HIGH + 5, 256 + 20)])
+    table(new, '2: a kind is a whole word', *[(INT, [kind, 0, 10, 7, 3], (2, 0)) for kind in (256 + 5, 2 ** 16 + 5, 2 ** 24 + 5, HIGH + 5, 256 + 20)])
     heading, field = [6, 0, 4, 0, 1], [22, 1, 1, 1, 1]
     table(new, '2: at a later card', ('ABCD', heading + [18, 1, 1, 1, 1], (2, 1)), ('ABCD', heading + field + [0, 2, 1, 2, 1], (2, 2)),
           ('ABCD', heading + field + [22, 2, 1, 2, 1, 29, 3, 1, 3, 1], (2, 3)), ('ABCDE', heading + [19, 4, 1, 4, 1], (2, 1)))
@@ -163,10 +164,10 @@ def which(new):
     case.file(INT, 'type A{n:Int}')
     for number, faulty in ((2, [29, 3, 1, 3, 1]), (3, [5, 3, 2, 3, 1]), (4, [5, 3, 1, 3, 0])):
         for before in range(4):
-            case.add(case.doc('ABCD', good[:5 * before] + faulty), (number, before))
+            case.add(case.doc('ABCD', good[:BY_HAND * before] + faulty), (number, before))
     for before in range(4):
         inside = max(before - 1, 0)
-        case.add(case.doc('ABCD', good[:5 * before] + [24, inside, 1, inside, 1]), (5, before))
+        case.add(case.doc('ABCD', good[:BY_HAND * before] + [24, inside, 1, inside, 1]), (5, before))
     case.build()
 
 

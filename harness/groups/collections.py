@@ -1,28 +1,22 @@
-"""Collections that harness/random makes from a stated seed, with lookups; and the type language's own introspection types as document 0."""
-import os
-import struct
+"""Collections that the generator makes from a stated seed, with lookups; and the type language's own introspection types as document 0."""
 import tempfile
 
-import model
-from case import Case, HERE, load, spread
+import loader
+from lib import folders, generator
+from lib.cards import in_words
+from lib.case import Case, spread
+from lib.sizes import ADOPT, IGNORE, in_rows
 
 SEED = 20240501
-random = load('random_collections', 'random')
-INTROSPECTION = model.read(os.path.join(HERE, 'introspection.txt'))
+INTROSPECTION = folders.read(loader.INTROSPECTION)
 
 
 def generated(case, number, mode):
     """The files of one random folder: documents, before which of them each switch is turned on, questions."""
     with tempfile.TemporaryDirectory() as folder:
-        random.make(SEED, number, folder, mode)
-        documents = []
-        while os.path.exists(os.path.join(folder, f'd{len(documents)}.crd')):
-            at = len(documents)
-            data = model.read(os.path.join(folder, f'd{at}.crd'))
-            data = data[:len(data) - len(data) % 4]
-            documents.append(case.doc(model.read(os.path.join(folder, f'd{at}.txt')), struct.unpack(f'<{len(data) // 4}I', data)))
-        questions = model.read(os.path.join(folder, 'questions')).split(b'\n')[:-1]
-        return documents, model.switch_turns(folder), questions
+        generator.make(SEED, number, folder, mode)
+        documents = [case.lent_doc(text, in_words(data)) for text, data in folders.documents(folder)]
+        return documents, folders.switch_turns(folder), folders.questions(folder)
 
 
 def filed(case, documents, turns):
@@ -30,7 +24,7 @@ def filed(case, documents, turns):
     if case.open(documents[0], None) != (0, 0):
         return False
     for held, document in enumerate(documents[1:] + [None], 1):
-        for switch in (1, 2):
+        for switch in (ADOPT, IGNORE):
             if turns.get(switch) == held:
                 case.turn_on(switch, (0, 0))
         if document is not None:
@@ -49,7 +43,7 @@ def asked(case, questions):
 
 def all_pairs(case, most):
     """is_subtype over pairs of all names that the rows have, types, interfaces and members."""
-    rows = model.in_rows(case.lent_rows())
+    rows = in_rows(case.lent_rows())
     names = list(dict.fromkeys(case.held.name(card) for what, card, _ in rows if 5 <= what <= 10 or what in (21, 23)))
     for general, other in spread([(general, other) for general in names for other in names], most):
         case.subtype(general, other)

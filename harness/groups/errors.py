@@ -1,5 +1,8 @@
 """Each error number, while reading documents and, those that can, while drawing. Error rows are by hand and by the oracle."""
+from collections import Counter
+
 from groups.examples import INT
+from lib.sizes import NONE, tallies_of
 
 CALLED = {1: 'an executable definition', 2: 'a second schema definition', 3: 'a second directive definition', 4: 'a second type definition',
           5: 'a built-in scalar defined again', 6: 'a schema extension without schema', 7: 'an extension without type', 8: 'an extension of another kind',
@@ -12,10 +15,10 @@ def errors_in(case, texts, switches, counts, errors):
     """Opens anew, draws, and holds the errors against those by hand: counts of both sides, then rows."""
     case.file(*texts, switches=switches)
     drawn = case.build()
-    told = [list(map(lambda word: 4294967295 if word == '-' else int(word), row.split(' '))) for row in errors]
+    told = [[NONE if word == '-' else int(word) for word in row.split(' ')] for row in errors]
     assert [list(error) for error in drawn['errors']] == told, (texts, drawn['errors'], told)
     assert (drawn['reading'], len(told) - drawn['reading']) == counts, (texts, drawn['reading'])
-    case.tallies([sum(error[0] == number for error in told) for number in range(1, 17)] + [len(told)])
+    case.tallies(tallies_of(Counter(number for number, _, _ in told)))
 
 
 def single(new, number, *rows):

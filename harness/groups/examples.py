@@ -1,5 +1,7 @@
 """P1 to P10 as 01 prints them, by hand, each also under the other switches; then the examples of the readings."""
-from model import NONE
+from collections import Counter
+
+from lib.sizes import NONE, tallies_of
 
 INT = 'scalar Int'
 FIRST = '4 - -, 5 0 -'
@@ -45,9 +47,9 @@ READINGS = [
 
 
 def tallied(listing):
-    """The 16 tallies and the total, counted in a listing."""
+    """The tallies and the total, counted in a listing."""
     lines = listing.split('\nerrors ')[1].split('\n')[1:-1]
-    return [sum(line.split(' ')[0] == str(number) for line in lines) for number in range(1, 17)] + [len(lines)]
+    return tallies_of(Counter(int(line.split(' ')[0]) for line in lines))
 
 
 def drawn(case, texts, switches, listing):
@@ -65,7 +67,7 @@ def make(new):
     case.open(case.doc(INT, [5, 0, 10, 7, 3]))
     case.add(case.doc(TABLE[0][1][1], P1_CARDS))
     case.build(listing=TABLE[0][2]['00'])
-    case.tallies([0] * 11 + [1] + [0] * 4 + [1])
+    case.tallies(tallies_of({12: 1}))
     case.field('A', 'n', (0, 1, 0, 2))
     case.field('A', 'm', (0, 1, 0, 5))
     case.field('A', '__typename', (0, 1, 1, NONE))

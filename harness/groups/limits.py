@@ -1,6 +1,6 @@
 """64 documents, 65,536 bytes, 2,300 cards, and one more of each; the fullest rows, errors, groups and lists; long names. Refusals are by hand."""
-from model import CARDS, DOCUMENTS, NONE, TEXT
 from groups.examples import INT, listed
+from lib.sizes import CARDS, DOCUMENTS, GROUPS_LENT, HELD, NONE, ORIGINS_LENT, ROWS, TEXT, tallies_of
 
 ONE = [5, 0, 1, 0, 1]
 LETTERS = 'ABCDEFGHIJKLMNOPQRSTUVWXYZabcdefghijklmnopqrstuvwxyz'
@@ -48,9 +48,9 @@ def documents(new):
     case.adopt()
     case.ignore()
     case.build(listing=listed('4 - -, 5 0 -'))
-    case.put(0, DOCUMENTS + 1)
+    case.put(HELD, DOCUMENTS + 1)
     case.one_refuses(22)
-    case.put(0, DOCUMENTS - 1)
+    case.put(HELD, DOCUMENTS - 1)
     case.add(empty)
     case.add(empty, (23, 0))
     case.open(empty)
@@ -141,8 +141,8 @@ def fullest(new):
     case.open(case.doc('', []))
     case.add(case.doc(*headings(6, names(CARDS - 3) + roots)))
     drawn = case.build()
-    assert len(drawn['rows']) == 2304
-    case.tallies([0] * 17)
+    assert len(drawn['rows']) == ROWS
+    case.tallies(tallies_of({}))
     case.look(8)
     case.roots(*roots)
     case.field(names(CARDS - 3)[-1], 'n', (0, 3, NONE, CARDS - 4))
@@ -151,20 +151,20 @@ def fullest(new):
     case.add(case.doc(*one_letter(CARDS, 1)))
     drawn = case.build()
     assert len(drawn['errors']) == CARDS
-    case.tallies([CARDS] + [0] * 15 + [CARDS])
+    case.tallies(tallies_of({1: CARDS}))
     case.look(4)
     case = new('2,299 errors while drawing, on one side of the switch')
     case.open(case.doc(INT))
     case.add(case.doc(*one_letter(CARDS - 1, 13)))
     case.build()
-    case.tallies([0] * 6 + [CARDS - 1] + [0] * 9 + [CARDS - 1])
+    case.tallies(tallies_of({7: CARDS - 1}))
     case.adopt()
     case.build(listing=listed('4 - -, 5 0 -, 6 1 1'))
     case = new('2,299 groups: the fullest map of implementers')
     case.open(case.doc('', []))
     case.add(case.doc(*under(6, 21, names(CARDS - 1))))
     case.build()
-    case.implementers(9199, (7, 0))
+    case.implementers(GROUPS_LENT - 1, (7, 0))
     case.implementers()
     case.subtype('AAA', 'T')
     case = new('one group of 1,149 objects and interfaces')
@@ -184,7 +184,7 @@ def fullest(new):
     case.open(case.doc('', []))
     case.add(case.doc(*under(4, 20, names(CARDS - 1))))
     case.build()
-    case.origins(2303, (7, 0))
+    case.origins(ORIGINS_LENT - 1, (7, 0))
     case.origins()
     case.extensions(want=[0, 0])
     case.implementers(want=[0, 0])

@@ -1,6 +1,6 @@
 """Each lookup by hand, over drawn rows and over rows that no drawing made."""
-from model import NONE
 from groups.examples import INT, listed
+from lib.sizes import NONE
 
 FOUND, NO_TYPE = 1, (0, 2, NONE, NONE)
 

@@ -1,9 +1,9 @@
 """The order of refusals, where two or more hold: 21, 22, 26, 7, 1, the first faulty card, 6, 23, 24, 25. All by hand."""
-from model import CARDS, DOCUMENTS, NONE, TEXT, WORDS
 from groups.examples import INT, listed
 from groups.limits import ONE, one_letter
+from lib.sizes import ADOPT, CARDS, DOCUMENTS, ERRORS_LENT, GROUPS_LENT, HELD, NONE, ORIGINS_LENT, ROWS_LENT, TEXT, TEXT_USED, WORDS
 
-SHORT_ROWS, SHORT_LIST, SHORT_GROUPS = 6911, 2303, 9199
+SHORT_ROWS, SHORT_LIST, SHORT_GROUPS = ROWS_LENT - 1, ORIGINS_LENT - 1, GROUPS_LENT - 1
 CATALOGUE = listed('4 - -, 26 - -, 5 0 -, 6 1 -, 22 2 -')
 
 
@@ -20,17 +20,17 @@ def store_first(new):
         if number == 21:
             case.lend_store(TEXT - 1, WORDS)
         else:
-            case.put(3, 0)
+            case.put(TEXT_USED, 0)
         case.all_refuse(number)
         for lent in (SHORT_LIST, 0):
             case.origins(lent, (number, 0))
             case.extensions(lent, (number, 0))
             case.implementers(lent, (number, 0))
-        for rows, errors in ((SHORT_ROWS, 6900), (6912, 6899), (0, 0)):
+        for rows, errors in ((SHORT_ROWS, ERRORS_LENT), (ROWS_LENT, ERRORS_LENT - 1), (0, 0)):
             case.build(rows, errors, number)
     case = new('21 before 22')
     sound(case)
-    case.put(0, 0)
+    case.put(HELD, 0)
     for text, words in ((TEXT - 1, WORDS), (TEXT, WORDS - 1), (0, 0)):
         case.lend_store(text, words)
         case.all_refuse(21)
@@ -43,7 +43,7 @@ def rows_first(new):
     sound(case)
     for rows in ([(5, 0, NONE)], [(4, NONE, NONE), (5, 1, NONE)], []):
         case.put_rows(rows)
-        for lent in (0, 1, SHORT_LIST, 2304, SHORT_GROUPS, 9200):
+        for lent in (0, 1, SHORT_LIST, ORIGINS_LENT, SHORT_GROUPS, GROUPS_LENT):
             case.origins(lent, (26, 0))
             case.extensions(lent, (26, 0))
             case.implementers(lent, (26, 0))
@@ -51,7 +51,7 @@ def rows_first(new):
     case.origins(SHORT_LIST, (7, 0))
     case.extensions(SHORT_LIST, (7, 0))
     case.implementers(SHORT_GROUPS, (7, 0))
-    case.build(SHORT_ROWS, 6900, 7)
+    case.build(SHORT_ROWS, ERRORS_LENT, 7)
     case.lend_rows(3)
     case.origins(want=[0, 0])
 
@@ -90,12 +90,12 @@ def full_store(new):
     one = case.doc('A', ONE)
     for held, last, want in ((DOCUMENTS, one, (23, 0)), (DOCUMENTS, empty, (23, 0)), (DOCUMENTS - 1, one, (24, 0)),
                              (DOCUMENTS - 1, case.doc('x', []), (24, 0))):
-        case.put(0, held)
+        case.put(HELD, held)
         for document, refusal in lent:
             case.add(document, refusal)
         case.add(last, want)
     case.keep()
-    case.put(1, 2)
+    case.put(ADOPT, 2)
     for document in [document for document, _ in lent] + [one, empty]:
         case.add(document, (22, 0))
     case.restore()

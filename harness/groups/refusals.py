@@ -1,6 +1,6 @@
 """Refusals 6, 7 and 21 in each entry that can answer them, by hand from 01."""
-from model import NONE, ROWS_LENT, ERRORS_LENT, GROUPS_LENT, ORIGINS_LENT, TEXT, WORDS
 from groups.examples import INT, listed
+from lib.sizes import CARDS, ERRORS_LENT, FIRST_CARD, GROUPS_LENT, NONE, ORIGINS_LENT, ROWS_LENT, TEXT, WORDS, card_at, tallies_of
 
 KEYWORD = {1: 'query{a}', 2: 'fragment f on A{a}', 4: 'schema{query:A}', 11: 'extend schema{query:A}', 12: 'extend scalar A@d', 13: 'extend type A{n:Int}',
            14: 'extend interface A{n:Int}', 15: 'extend union A=B', 16: 'extend enum A{a}', 17: 'extend input A{n:Int}'}
@@ -57,9 +57,9 @@ def too_short_to_write(new):
     for rows, errors in ((ROWS_LENT - 1, ERRORS_LENT), (ROWS_LENT, ERRORS_LENT - 1), (ROWS_LENT - 1, ERRORS_LENT - 1), (0, 0), (0, ERRORS_LENT),
                          (ROWS_LENT, 0), (15, 0), (1, 1), (ROWS_LENT - 3, ERRORS_LENT), (ROWS_LENT, ERRORS_LENT - 3), (ERRORS_LENT, ROWS_LENT - 12)):
         case.build(rows, errors, 7)
-        case.tallies([0] * 17)
+        case.tallies(tallies_of({}))
     case.build(listing=listed('4 - -, 26 - -, 5 0 -, 6 1 -, 22 2 -'))
-    case.tallies([0] * 17)
+    case.tallies(tallies_of({}))
     case.build(ROWS_LENT - 1, ERRORS_LENT, 7)
     case.lend_rows(15)
     case.check_rows(0)
@@ -104,7 +104,8 @@ def store_too_short(new):
     case = new('21: lengths that other things have')
     case.file(INT)
     case.build()
-    for text, words in ((WORDS, WORDS), (TEXT, 65536 // 8), (TEXT, 2300), (TEXT, 261), (TEXT, 11500), (11761, 11761), (10, 266), (65535, 11761)):
+    for text, words in ((WORDS, WORDS), (TEXT, TEXT // 8), (TEXT, CARDS), (TEXT, FIRST_CARD), (TEXT, WORDS - FIRST_CARD), (WORDS, WORDS), (10, card_at(1)),
+                        (TEXT - 1, WORDS)):
         case.lend_store(text, words)
         for _ in range(3):
             case.one_refuses(21)

@@ -1,6 +1,7 @@
 """Refusal 26: rows that a drawing does not make. Clause by clause by hand, in every lookup; then drawn rows damaged word by word, where 26 is told twice."""
-from model import NONE, DEFAULT_ROOTS
 from groups.examples import INT, listed
+from lib.model import DEFAULT_ROOTS
+from lib.sizes import CARDS, CARDS_USED, NONE, ROW, ROWS_LENT
 
 # Cards are called by these names in the rows below.
 TEXTS = (INT, 'type A{n:Int}', 'extend schema{query:A}extend type A{m:Int}extend type A{o:Int}', 'type Query{a:Int}interface Query{a:Int}',
@@ -54,7 +55,7 @@ def clauses(new):
     case = new('26: the whole slice after a drawing, zeros and all')
     case.file(INT, 'type A{n:Int}')
     case.build(listing=listed('4 - -, 5 0 -, 6 1 -, 22 2 -'))
-    for length in (6912, 15, 13, 14):
+    for length in (ROWS_LENT, 15, 13, 14):
         case.lend_rows(length)
         case.all_refuse(26)
     case.lend_rows(12)
@@ -103,7 +104,7 @@ def cards(new):
           (26, '4 schema -', '6 a -', '22 n -', '6 object -', '22 n extension'))
     table(new, '26: a card that is not stored', (26, '4 - -', '5 32 -'), (26, '4 - -', '6 32 -'), (26, '4 - -', '5 4294967294 -'), (26, '4 32 -'),
           (26, '4 - -', '26 32 -'),
-          (26, '4 - -', '3 2300 -'), (26, '4 - -', '6 a -', '22 2299 -'), (0, '4 - -', '6 a -', '22 orphan_field orphan_interface'),
+          (26, '4 - -', f'3 {CARDS} -'), (26, '4 - -', '6 a -', f'22 {CARDS - 1} -'), (0, '4 - -', '6 a -', '22 orphan_field orphan_interface'),
           (26, '4 - -', '6 65537 -'))
     table(new, '26: - only in row 4 and a default root', (26, '4 - -', '5 - -'), (26, '4 - -', '6 - -'), (26, '4 - -', '6 - extension'),
           (26, '4 - -', '3 - -'),
@@ -173,20 +174,20 @@ def damaged(new):
             case = new(f'26: row {row} of a drawing damaged, word by word ({number + 1})')
             case.file(*documents, switches='10' if number else '00')
             drawn = case.build()['rows']
-            held = case.held.words[4]
+            held = case.held.words[CARDS_USED]
             for at, own in enumerate(drawn[row]):
                 kinds = [0, 1, 2, 3, 4, 5, 6, 7, 8, 9, 10, 11, 20, 21, 22, 23, 24, 25, 26, 27, 28, 29, own + 256, NONE]
                 for value in dict.fromkeys(kinds if at == 0 else list(range(held + 1)) + [NONE - 1, NONE]):
                     if value == own:
                         continue
-                    case.put_row(3 * row + at, value)
+                    case.put_row(ROW * row + at, value)
                     refused = case.rows_refusal()
                     if refused:
                         case.look_up_one()
                     else:
                         case.check_rows()
                         case.lists()
-                    case.put_row(3 * row + at, own)
+                    case.put_row(ROW * row + at, own)
             case.check_rows(0)
 
 

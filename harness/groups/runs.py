@@ -1,7 +1,10 @@
 """Runs: many calls on one store, several drawings, refused calls and openings between. Some by hand, then random ones from the seed."""
-from model import CARD_WORDS, NONE, TEXT, WORDS
-from groups.collections import SEED, random
+from groups.collections import SEED
 from groups.examples import INT, TABLE, listed
+from lib import generator
+from lib.cards import words_of
+from lib.sizes import (
+    ADOPT, CARDS, CARDS_USED, COUNTS, DOCUMENTS, ERRORS_LENT, HELD, IGNORE, NONE, ROWS_LENT, TEXT, WORDS, card_at, document_at, tallies_of)
 
 PLAIN = listed('4 - -, 5 0 -, 6 1 -, 22 2 -')
 
@@ -11,7 +14,7 @@ def refused_between(case, *documents):
     for document, want in documents:
         case.add(document, want)
     case.open(case.doc('scalar A scalar A'), (6, 1))
-    case.build(6911, 6900, 7)
+    case.build(ROWS_LENT - 1, ERRORS_LENT, 7)
     case.lend_store(TEXT, WORDS - 1)
     case.adopt((21, 0))
     case.ignore((21, 0))
@@ -31,7 +34,7 @@ def by_hand(new):
     case.add(case.doc(TABLE[0][1][1]))
     refused_between(case, *faulty)
     case.build(listing=TABLE[0][2]['00'])
-    case.tallies([0] * 11 + [1] + [0] * 4 + [1])
+    case.tallies(tallies_of({12: 1}))
     refused_between(case, *faulty)
     case.adopt()
     case.build(listing=TABLE[0][2]['00'])
@@ -61,7 +64,7 @@ def by_hand(new):
     case.build()
     case.open(case.doc('scalar S'))
     case.build(listing=listed('4 - -, 5 0 -'))
-    case.tallies([0] * 17)
+    case.tallies(tallies_of({}))
     case.field('A', 'a', (0, 2, NONE, NONE))
     case.add(case.doc('type A{a:Int}'))
     case.build(listing=PLAIN)
@@ -131,7 +134,7 @@ def damage_between(new):
     case.file(INT, 'type A{n:Int}')
     case.build(listing=PLAIN)
     case.keep()
-    for at, value in ((0, 0), (4, 2), (CARD_WORDS + 5, 99), (5, 1), (1, 7)):
+    for at, value in ((HELD, 0), (CARDS_USED, 2), (card_at(1), 99), (document_at(0), 1), (ADOPT, 7)):
         case.put(at, value)
         case.all_refuse(22)
         case.restore()
@@ -142,7 +145,7 @@ def damage_between(new):
         case.restore()
     case = new('opening a damaged store')
     case.file(INT, 'type A{n:Int}')
-    for at in range(5):
+    for at in range(COUNTS):
         case.put(at, NONE)
     case.lend_rows(0)
     case.all_refuse(22)
@@ -170,15 +173,15 @@ class Run:
 
     def __init__(self, case, draws):
         self.case, self.draws = case, draws
-        collection = random.Collection(draws, False)
+        collection = generator.Collection(draws, False)
         collection.fill()
         writers = collection.documents
-        self.documents = [case.doc(bytes(writer.text), [word for card in writer.cards for word in card]) for writer in writers]
+        self.documents = [case.lent_doc(bytes(writer.text), words_of(writer.cards)) for writer in writers]
         for writer in writers[:3]:
-            words = [word for card in writer.cards for word in card]
+            words = words_of(writer.cards)
             if words:
-                words[draws.below(len(words))] = draws.pick([0, 1, 4, 19, 22, 65536, NONE])
-                self.documents.append(case.doc(bytes(writer.text), words))
+                words[draws.below(len(words))] = draws.pick([0, 1, 4, 19, 22, TEXT, NONE])
+                self.documents.append(case.lent_doc(bytes(writer.text), words))
         self.questions = [line.split(' ') for line in collection.questions()]
 
     def name(self):
@@ -196,7 +199,7 @@ class Run:
         if shape < 7:
             case.add(draws.pick(self.documents), None)
         elif shape == 7:
-            case.turn_on(draws.between(1, 2), None)
+            case.turn_on(draws.between(ADOPT, IGNORE), None)
         elif shape == 8:
             case.open(draws.pick(self.documents), None)
         elif shape < 14:
@@ -204,7 +207,7 @@ class Run:
                 case.tallies()
         elif shape == 14:
             kept = case.rows_lent
-            case.build(draws.pick([6911, 6912, 0]), draws.pick([6899, 0]), None)
+            case.build(draws.pick([ROWS_LENT - 1, ROWS_LENT, 0]), draws.pick([ERRORS_LENT - 1, 0]), None)
             case.lend_rows(kept)
         elif shape == 15:
             case.lend_store(*draws.pick([(TEXT - 1, WORDS), (TEXT, WORDS - 1)]))
@@ -228,10 +231,10 @@ class Run:
 
     def damage_store(self):
         case, draws = self.case, self.draws
-        used = list(range(5 + 4 * min(case.held.words[0], 64))) + list(range(CARD_WORDS, CARD_WORDS + 5 * min(case.held.words[4], 2300)))
-        at = draws.pick(used)
+        documents, cards = min(case.held.words[HELD], DOCUMENTS), min(case.held.words[CARDS_USED], CARDS)
+        at = draws.pick(list(range(document_at(documents))) + list(range(card_at(0), card_at(cards))))
         case.keep()
-        case.put(at, draws.pick([0, 1, 2, case.held.words[at] + 1, max(case.held.words[at] - 1, 0), 20, 65536, NONE]))
+        case.put(at, draws.pick([0, 1, 2, case.held.words[at] + 1, max(case.held.words[at] - 1, 0), 20, TEXT, NONE]))
         if case.held.refusal():
             case.one_refuses(22, self.documents[0])
         else:
@@ -255,7 +258,7 @@ def make(new):
     growth(new)
     damage_between(new)
     for number in range(24):
-        draws = random.Draws(SEED, 1000 + number)
+        draws = generator.Draws(SEED, 1000 + number)
         case = new(f'random run {number} (seed {SEED})')
         run = Run(case, draws)
         run.start()

@@ -1,13 +1,14 @@
 """Refusal 22: stores that filing can't leave. A small store is damaged word by word and byte by byte; which values pass is said by hand."""
-from model import CARD_WORDS, DOCUMENT_ROWS, NONE, TEXT, WORDS
-from groups.examples import INT, TABLE, P1_CARDS, listed
+from groups.examples import INT, TABLE, listed
+from lib.cards import in_full
+from lib.sizes import ADOPT, CARDS, IGNORE, NONE, TEXT, WORDS, card_at, document_at
 
 HIGH = 2 ** 31
 TEXTS = (INT, 'type A{n:Int}', '', 'schema{query:A}')
-# The small store, as 01 lays it out: five words, a row for each document (ignore is turned on before the third), five words for each card.
+# The small store, as 01 lays it out: five words, a row for each document (ignore is turned on before the third), the words of each card.
 COUNTS = [4, 0, 1, 38, 5]
 ROWS = [[0, 10, 1, 0], [10, 13, 2, 0], [23, 0, 0, 1], [23, 15, 2, 1]]
-CARDS = [[5, 0, 10, 7, 3], [6, 10, 13, 15, 1], [22, 17, 5, 17, 1], [4, 23, 15, 0, 0], [26, 30, 7, 36, 1]]
+STORED = [[5, 0, 10, 7, 3], [6, 10, 13, 15, 1], [22, 17, 5, 17, 1], [4, 23, 15, 0, 0], [26, 30, 7, 36, 1]]
 LISTING = listed('4 3 -, 26 4 -, 5 0 -, 6 1 -, 22 2 -')
 
 # Which other values each word may have, alone; all else is 22.
@@ -38,7 +39,7 @@ def small(case, is_built=True):
 
 def values(own, is_kind):
     near = [own + step for step in (-5, -4, -3, -2, -1, 1, 2, 3, 4, 5)]
-    far = [0, 1, 2, 10, 23, 38, own + 256, own + 65536, own + HIGH, NONE, 2 ** 32 - 2]
+    far = [0, 1, 2, 10, 23, 38, own + 256, own + 2 ** 16, own + HIGH, NONE, 2 ** 32 - 2]
     kinds = list(range(0, 31)) if is_kind else []
     return [value for value in dict.fromkeys(near + far + kinds) if 0 <= value <= NONE and value != own]
 
@@ -67,12 +68,12 @@ def small_store(new):
         case = new(f'22: the row of document {document} damaged')
         small(case)
         for at, own in enumerate(row):
-            damage(case, DOCUMENT_ROWS + 4 * document + at, own, PASSING_ROWS[document][at])
-    for number, card in enumerate(CARDS):
+            damage(case, document_at(document, at), own, PASSING_ROWS[document][at])
+    for number, card in enumerate(STORED):
         case = new(f'22: the stored card {number} damaged')
         small(case)
         for at, own in enumerate(card):
-            damage(case, CARD_WORDS + 5 * number + at, own, PASSING_CARDS[number][at], at == 0)
+            damage(case, card_at(number, at), own, PASSING_CARDS[number][at], at == 0)
 
 
 def stored_bytes(new):
@@ -89,7 +90,7 @@ def stored_bytes(new):
             case.restore()
     case = new('22: bytes outside names may be anything')
     small(case)
-    for at in (0, 6, 10, 14, 16, 18, 22, 23, 29, 37, 38, 65535):
+    for at in (0, 6, 10, 14, 16, 18, 22, 23, 29, 37, 38, TEXT - 1):
         case.put_byte(at, 255)
     case.build(listing=LISTING)
     case.root(0, 'A')
@@ -117,11 +118,11 @@ def whole_stores(new):
     case.check_rows(0)
     case = new('a store written by hand, word by word')
     text = INT + TABLE[0][1][1]
-    moved = [word + (10 if at % 5 in (1, 3) else 0) for at, word in enumerate(P1_CARDS)]
     for at, byte in enumerate(text.encode()):
         case.put_byte(at, byte)
     words = {0: 2, 3: len(text), 4: 6, 6: 10, 7: 1, 9: 10, 10: len(text) - 10, 11: 5}
-    words.update({CARD_WORDS + at: word for at, word in enumerate([5, 0, 10, 7, 3] + moved)})
+    cards = [5, 0, 10, 7, 3, 6, 10, 19, 15, 1, 22, 17, 5, 17, 1, 22, 23, 5, 23, 1, 13, 29, 20, 41, 1, 22, 43, 5, 43, 1]
+    words.update({card_at(0, at): word for at, word in enumerate(in_full(cards))})
     case.lend_rows(0)
     for number, (at, word) in enumerate(words.items()):
         if word and number % 6 == 0:
@@ -131,7 +132,7 @@ def whole_stores(new):
     case.add(case.doc('extend type A{o:Int}'))
     case.build(listing=listed('4 - -, 5 0 -, 6 1 -, 22 2 -, 22 5 4, 22 7 6', '1 0', '12 3 2'))
     case = new('what lies in the unused part does not matter')
-    for at in list(range(0, 30)) + list(range(CARD_WORDS, CARD_WORDS + 40)) + [WORDS - 1]:
+    for at in list(range(0, 30)) + list(range(card_at(0), card_at(8))) + [WORDS - 1]:
         case.put(at, NONE - at)
     for at in list(range(0, 40)) + [TEXT - 1]:
         case.put_byte(at, 200)
@@ -141,8 +142,8 @@ def whole_stores(new):
     case.build(listing=LISTING)
     case.add(case.doc('extend type A{m:Int}'))
     case.build(listing=listed('4 3 -, 26 4 -, 5 0 -, 6 1 -, 22 2 -, 22 6 5'))
-    case.put(DOCUMENT_ROWS + 4 * 5, 7)
-    case.put(CARD_WORDS + 5 * 7, 99)
+    case.put(document_at(5), 7)
+    case.put(card_at(7), 99)
     case.put_byte(60, 0)
     case.build(listing=listed('4 3 -, 26 4 -, 5 0 -, 6 1 -, 22 2 -, 22 6 5'))
     case.look()
@@ -154,22 +155,22 @@ def switches(new):
     case.keep()
     for bits in range(32):
         switch, flags = bits & 1, [bits >> shift & 1 for shift in (1, 2, 3, 4)]
-        case.put(2, switch)
+        case.put(IGNORE, switch)
         for document, flag in enumerate(flags):
-            case.put(DOCUMENT_ROWS + 4 * document + 3, flag)
+            case.put(document_at(document, 3), flag)
         if flags[0] == 0 and flags == sorted(flags) and flags[-1] <= switch:
             case.build()
         else:
             case.one_refuses(22)
         case.restore()
     for document in range(4):
-        case.put(2, 1)
-        case.put(DOCUMENT_ROWS + 4 * document + 3, 2)
+        case.put(IGNORE, 1)
+        case.put(document_at(document, 3), 2)
         case.one_refuses(22)
         case.restore()
     case = new('22: a switch of 2 or more')
     small(case)
-    for at in (1, 2):
+    for at in (ADOPT, IGNORE):
         for value in (2, 3, 256, 257, 65537, HIGH, HIGH + 1, NONE):
             case.put(at, value)
             case.one_refuses(22, 1)
@@ -189,7 +190,7 @@ def changed(case, want, *changes):
 
 
 def sums(new):
-    row = lambda document, at: DOCUMENT_ROWS + 4 * document + at
+    row = document_at
     case = new('22: sums that agree only when wrapped at 32 bits')
     small(case)
     changed(case, 22, (row(1, 1), NONE), (row(2, 0), 9), (row(3, 0), 9), (3, 24))
@@ -206,7 +207,7 @@ def sums(new):
     changed(case, 22, (row(1, 2), 3), (row(3, 2), 1))
     changed(case, 22, (row(2, 2), 1), (row(3, 2), 1))
     changed(case, 22, (row(0, 1), 9), (row(1, 0), 9), (row(1, 1), 14))
-    changed(case, 0, (row(0, 1), 11), (row(1, 0), 11), (row(1, 1), 12), (CARD_WORDS + 5 + 1, 11), (CARD_WORDS + 5 + 2, 12))
+    changed(case, 0, (row(0, 1), 11), (row(1, 0), 11), (row(1, 1), 12), (card_at(1, 1), 11), (card_at(1, 2), 12))
     changed(case, 22, (row(0, 1), 11), (row(1, 0), 11), (row(1, 1), 12))
     changed(case, 0, (row(3, 1), 20), (3, 43))
     changed(case, 0, (0, 5), (row(4, 0), 38), (row(4, 3), 1))
@@ -224,13 +225,13 @@ def sums(new):
     changed(case, 22, (row(3, 1), NONE - 23), (3, NONE))
     case = new('22: more cards than there is room for')
     small(case)
-    for count in (2301, 2302, NONE):
+    for count in (CARDS + 1, CARDS + 2, NONE):
         changed(case, 22, (row(3, 2), count - 3), (4, count))
         changed(case, 22, (4, count))
 
 
 def spans(new):
-    card = lambda number, at: CARD_WORDS + 5 * number + at
+    card = card_at
     case = new('22: stored cards against their own document\'s text')
     small(case)
     # Items and names that lie in the store's text but in another document's.

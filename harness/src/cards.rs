@@ -22,6 +22,13 @@ use std::sync::OnceLock;
 /// The word that is printed as `-`.
 pub const NONE: u32 = u32::MAX;
 
+/// How many words a card has. The first is its kind, the second and third are its item's offset and length, the fourth and fifth its name's; nothing
+/// is built from what follows them.
+const CARD_WORDS: usize = 5;
+const WORD_BYTES: usize = 4;
+
+type Card = [u32; CARD_WORDS];
+
 const MOST_DOCUMENTS: usize = 64;
 const MOST_TEXT: usize = 65_536;
 const MOST_CARDS: usize = 2_300;
@@ -95,15 +102,15 @@ impl Folder {
 
     fn add(&mut self, document: usize, text: &[u8], bytes: &[u8]) -> Result<(), String> {
         let file = if document == 0 { FileId::BUILT_IN } else { FileId::new() };
-        if bytes.len() % 20 != 0 {
+        if bytes.len() % (CARD_WORDS * WORD_BYTES) != 0 {
             return Err(undecided(document, 0, "not in whole cards"));
         }
-        let words = bytes.chunks(4).map(|word| u32::from_le_bytes(word.try_into().unwrap()));
+        let words = bytes.chunks(WORD_BYTES).map(|word| u32::from_le_bytes(word.try_into().unwrap()));
         let words: Vec<u32> = words.collect();
-        let cards: Vec<[u32; 5]> = words.chunks(5).map(|card| card.try_into().unwrap()).collect();
+        let cards: Vec<Card> = words.chunks(CARD_WORDS).map(|card| card.try_into().unwrap()).collect();
         let reader = Reader { document, file, text, cards: &cards, first: self.kinds.len() };
         let definitions = reader.definitions()?;
-        self.kinds.extend(cards.iter().map(|card| card[0]));
+        self.kinds.extend((0..cards.len()).map(|card| reader.kind(card)));
         if document == 0 {
             self.definitions = definitions;
             self.cards_of_document_0 = cards.len();
@@ -170,48 +177,55 @@ struct Reader<'a> {
     document: usize,
     file: FileId,
     text: &'a [u8],
-    cards: &'a [[u32; 5]],
+    cards: &'a [Card],
     first: usize,
 }
 
 impl Reader<'_> {
+    fn kind(&self, card: usize) -> u32 {
+        self.cards[card][0]
+    }
+
+    /// Offset and length of a card's name; both 0 where it has none.
+    fn name_span(&self, card: usize) -> (u32, u32) {
+        (self.cards[card][3], self.cards[card][4])
+    }
+
     fn definitions(&self) -> Result<Vec<Definition>, String> {
         let mut definitions = Vec::new();
         let mut heading = 0;
         while heading < self.cards.len() {
-            let is_part = |card: &[u32; 5]| (20..=28).contains(&card[0]);
-            let rest = &self.cards[heading + 1..];
-            let count = rest.iter().position(|card| !is_part(card)).unwrap_or(rest.len());
-            let parts = heading + 1..heading + 1 + count;
+            let is_part = |&card: &usize| (20..=28).contains(&self.kind(card));
+            let end = (heading + 1..self.cards.len()).find(|card| !is_part(card)).unwrap_or(self.cards.len());
+            let parts = heading + 1..end;
             self.check(heading, parts.clone())?;
-            definitions.push(self.definition(heading, parts.clone()));
-            heading = parts.end;
+            definitions.push(self.definition(heading, parts));
+            heading = end;
         }
         Ok(definitions)
     }
 
     /// Asks only what a definition can't be made without.
     fn check(&self, heading: usize, parts: Range<usize>) -> Result<(), String> {
-        let kind = self.cards[heading][0];
+        let kind = self.kind(heading);
         if !(1..=17).contains(&kind) {
             return Err(undecided(self.document, heading, "no heading"));
         }
         let mut place = 0;
         for card in parts.clone() {
             let order = places(kind);
-            let own = order.iter().position(|kinds| kinds.contains(&self.cards[card][0]));
+            let own = order.iter().position(|kinds| kinds.contains(&self.kind(card)));
             match own {
                 Some(own) if own >= place => place = own,
                 _ => return Err(undecided(self.document, card, "a part out of place")),
             }
         }
         for card in heading..parts.end {
-            let [kind, _, _, start, length] = self.cards[card];
-            let absent = (start, length) == (0, 0);
-            let named = match kind {
+            let absent = self.name_span(card) == (0, 0);
+            let named = match self.kind(card) {
                 4 | 11 => absent,
-                1 => absent || self.str_at(start, length).is_some(),
-                _ => self.str_at(start, length).is_some(),
+                1 => absent || self.name_text(card).is_some(),
+                _ => self.name_text(card).is_some(),
             };
             if !named {
                 return Err(undecided(self.document, card, "no Name"));
@@ -220,7 +234,9 @@ impl Reader<'_> {
         Ok(())
     }
 
-    fn str_at(&self, start: u32, length: u32) -> Option<&str> {
+    /// A card's name, if it is one in its text.
+    fn name_text(&self, card: usize) -> Option<&str> {
+        let (start, length) = self.name_span(card);
         let end = (start as usize).checked_add(length as usize)?;
         let bytes = self.text.get(start as usize..end)?;
         let text = std::str::from_utf8(bytes).ok()?;
@@ -232,10 +248,8 @@ impl Reader<'_> {
     }
 
     fn name(&self, card: usize) -> Name {
-        let [_, _, _, start, length] = self.cards[card];
-        let text = self.str_at(start, length).unwrap();
-        let name = Name::new(text).unwrap();
-        name.with_location(self.span(2 * (self.first + card) + 1, length))
+        let name = Name::new(self.name_text(card).unwrap()).unwrap();
+        name.with_location(self.span(2 * (self.first + card) + 1, self.name_span(card).1))
     }
 
     fn node<T>(&self, card: usize, value: T) -> Node<T> {
@@ -243,7 +257,7 @@ impl Reader<'_> {
     }
 
     fn of_kinds(&self, parts: &Range<usize>, kinds: Range<u32>) -> impl Iterator<Item = usize> + '_ {
-        parts.clone().filter(move |&card| kinds.contains(&self.cards[card][0]))
+        parts.clone().filter(move |&card| kinds.contains(&self.kind(card)))
     }
 
     fn directives(&self, parts: &Range<usize>) -> ast::DirectiveList {
@@ -293,7 +307,7 @@ impl Reader<'_> {
 
     fn roots(&self, parts: &Range<usize>) -> Vec<Node<(OperationType, Name)>> {
         let root = |card: usize| {
-            let operation = match self.cards[card][0] {
+            let operation = match self.kind(card) {
                 26 => OperationType::Query,
                 27 => OperationType::Mutation,
                 _ => OperationType::Subscription,
@@ -306,7 +320,7 @@ impl Reader<'_> {
     /// What a card doesn't tell (descriptions, arguments, types, values, selections) is left empty or is the same everywhere.
     fn definition(&self, heading: usize, parts: Range<usize>) -> Definition {
         let parts = &parts;
-        match self.cards[heading][0] {
+        match self.kind(heading) {
             1 => self.operation(heading),
             2 => self.fragment(heading),
             3 => self.directive(heading),
@@ -326,7 +340,7 @@ impl Reader<'_> {
     fn operation(&self, heading: usize) -> Definition {
         let operation = ast::OperationDefinition {
             operation_type: OperationType::Query,
-            name: (self.cards[heading][3..] != [0, 0]).then(|| self.name(heading)),
+            name: (self.name_span(heading) != (0, 0)).then(|| self.name(heading)),
             variables: Vec::new(),
             directives: ast::DirectiveList::new(),
             selection_set: Vec::new(),
@@ -354,7 +368,7 @@ impl Reader<'_> {
         let description = None;
         let name = self.name(heading);
         let directives = self.directives(parts);
-        match self.cards[heading][0] {
+        match self.kind(heading) {
             5 => {
                 let scalar = ast::ScalarTypeDefinition { description, name, directives };
                 self.node(heading, scalar).into()
@@ -397,7 +411,7 @@ impl Reader<'_> {
     fn type_extension(&self, heading: usize, parts: &Range<usize>) -> Definition {
         let name = self.name(heading);
         let directives = self.directives(parts);
-        match self.cards[heading][0] {
+        match self.kind(heading) {
             12 => {
                 let scalar = ast::ScalarTypeExtension { name, directives };
                 self.node(heading, scalar).into()

@@ -30,9 +30,12 @@ pub struct Drawn {
     pub reading: usize,
 }
 
+/// The one refusal that the builder can tell: document 0 has a barred kind, or it alone gives an error.
+const NOT_BUILT_IN: u32 = 6;
+
 /// Why nothing was drawn.
 pub enum Stop {
-    /// Document 0 is refused: it holds a barred kind, or it alone gives an error. The number is the card's.
+    /// Document 0 is refused; the number is the card's.
     Refused(u32),
     Undecided(String),
 }
@@ -41,7 +44,7 @@ impl Stop {
     /// What is printed, or what is told as an error.
     pub fn told(self) -> Result<String, String> {
         match self {
-            Stop::Refused(card) => Ok(format!("refused 6 {card}\n")),
+            Stop::Refused(card) => Ok(format!("refused {NOT_BUILT_IN} {card}\n")),
             Stop::Undecided(why) => Err(why),
         }
     }

@@ -1,7 +1,9 @@
-pub mod Drawings
-pub mod Refused
-pub mod Listed
-pub mod Roots
-pub mod RefusalsListed
-pub mod RefusalsRefused
-pub mod RefusalsRoom
+-- The numbers that the entries refuse with, return by return, and what holds where they refuse nothing.
+pub mod LookupRefusal
+pub mod ListRefusal
+pub mod BuildRefusal
+-- The entries' outcomes by that one number.
+pub mod LookupOutcomes
+pub mod ListOutcomes
+pub mod BuildOutcomes
+pub mod RootOutcomes

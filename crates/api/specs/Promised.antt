@@ -8,7 +8,8 @@ use Rattle.definition.specs.declared.Drawing.{Drawing}
 use Rattle.definition.specs.declared.OperationType.{OperationType}
 use Rattle.definition.specs.declared.FieldLookup.{FieldLookup}
 use Rattle.definition.specs.declared.SubtypeLookup.{SubtypeLookup}
-use Rattle.definition.specs.Outcomes.{StoreOutcome, DrawOutcome, ListOutcome, open-store, add-ast, adopt-orphan-extensions, ignore-builtin-redefinitions, build}
+use Rattle.definition.specs.Outcomes.{StoreOutcome, BuildOutcome, ListOutcome, open-store, add-ast, adopt-orphan-extensions}
+use Rattle.definition.specs.Outcomes.{ignore-builtin-redefinitions, build}
 use Rattle.definition.specs.Outcomes.{check-rows, root-operation, type-field, is-subtype, iter-origins, extensions, implementers-map}
 
 -- ---- The calls that write the store.
@@ -28,7 +29,7 @@ Ignores text words r text' words' = _≡_ {A = StoreOutcome} (record { answer = 
 -- ---- Drawing.
 
 abbrev pub Builds : List ℕ → List ℕ → List ℕ → List ℕ → Drawing → List ℕ → List ℕ → Type 0
-Builds text words rows errors r rows' errors' = _≡_ {A = DrawOutcome} (record { drawing = r; rows = rows'; errors = errors' }) (build text words rows errors)
+Builds text words rows errors r rows' errors' = _≡_ {A = BuildOutcome} (record { drawing = r; rows = rows'; errors = errors' }) (build text words rows errors)
 
 -- ---- Lookups that only read.
 

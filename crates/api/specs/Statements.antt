@@ -8,9 +8,9 @@ use Rattle.definition.specs.declared.Drawing.{Drawing}
 use Rattle.definition.specs.declared.OperationType.{OperationType}
 use Rattle.definition.specs.declared.FieldLookup.{FieldLookup}
 use Rattle.definition.specs.declared.SubtypeLookup.{SubtypeLookup}
-use Rattle.definition.specs.Outcomes.{DrawOutcome, RootName, ListOutcome}
-use Rattle.definition.specs.Account.{Call, opening, filing, adopting, ignoring, drawing, checking, rootAsked, fieldAsked, subtypeAsked, originsAsked, extensionsAsked, implementersAsked}
-use Rattle.definition.specs.Account.{Reply, answered, drawn, named, fielded, subtyped, listed, Store, store, leaves, stepStore}
+use Rattle.definition.specs.Outcomes.{BuildOutcome, RootName, ListOutcome}
+use Rattle.definition.specs.Calls.{Call, opening, filing, adopting, ignoring, building, checking, rootAsked, fieldAsked, subtypeAsked, originsAsked, extensionsAsked, implementersAsked}
+use Rattle.definition.specs.Calls.{Reply, answered, built, named, fielded, subtyped, listed, Store, store, leaves, stepStore}
 use Rattle.api.specs.Promised.{Opens, Files, Adopts, Ignores, Builds, ChecksRows, NamesRoot, FindsField, TellsSubtype, ListsOrigins, ListsExtensions, MapsImplementers}
 
 -- The call leaves this store and this reply.
@@ -40,9 +40,9 @@ module _ (text words : List ℕ) where
   -- ---- Drawing.
 
   pub build-steps : (rows errors : List ℕ) (r : Drawing) (rows' errors' : List ℕ) → Builds text words rows errors r rows' errors' →
-      Steps text words (drawing rows errors) text words (drawn (record { drawing = r; rows = rows'; errors = errors' }))
+      Steps text words (building rows errors) text words (built (record { drawing = r; rows = rows'; errors = errors' }))
   unfolding stepStore store
-  build-steps rows errors r rows' errors' e = ap (λ (o : DrawOutcome). (store text words, drawn o)) e
+  build-steps rows errors r rows' errors' e = ap (λ (o : BuildOutcome). (store text words, built o)) e
 
   -- ---- Lookups.
 

@@ -5,27 +5,26 @@ use definition::Drawing;
 use definition::FieldLookup;
 use definition::OperationType;
 use definition::SubtypeLookup;
-ghost use Rattle.api.specs.Promised.{Opens, Files, Adopts, Ignores, Builds, ChecksRows, NamesRoot, FindsField, TellsSubtype, ListsOrigins, ListsExtensions, MapsImplementers};
+use definition::layout::GROUPS_CAPACITY;
+use definition::layout::ORIGINS_CAPACITY;
+ghost use Rattle.api.specs.Promised.{Opens, Files, Adopts, Ignores, Builds};
+ghost use Rattle.api.specs.Promised.{ChecksRows, NamesRoot, FindsField, TellsSubtype, ListsOrigins, ListsExtensions, MapsImplementers};
 
-pub mod refusals;
 pub mod answers;
-
-// The words that 7 asks of a slice for groups.
-const GROUPS_ROOM: usize = 9200;
-
-// The words that 7 asks of a slice for origins or extensions.
-const ORIGINS_ROOM: usize = 2304;
+pub mod refusals;
 
 // Files document 0 with both switches off, over whatever the store held.
 pub fn open(text: &mut [u8], words: &mut [u32], lent: &[u8], cards: &[u32]) -> Answer
-    ensures { λ r. ⌜ Opens (now (text .entry)) (now (words .entry)) (now (lent .entry)) (now (cards .entry)) r (now (text .exit)) (now (words .exit)) ⌝ }
+    ensures { λ r. ⌜ Opens (now (text .entry)) (now (words .entry)) (now (lent .entry)) (now (cards .entry)) r (now (text .exit))
+        (now (words .exit)) ⌝ }
 {
     store::open(text, words, lent, cards)
 }
 
 // Files a document after those held.
 pub fn add_ast(text: &mut [u8], words: &mut [u32], lent: &[u8], cards: &[u32]) -> Answer
-    ensures { λ r. ⌜ Files (now (text .entry)) (now (words .entry)) (now (lent .entry)) (now (cards .entry)) r (now (text .exit)) (now (words .exit)) ⌝ }
+    ensures { λ r. ⌜ Files (now (text .entry)) (now (words .entry)) (now (lent .entry)) (now (cards .entry)) r (now (text .exit))
+        (now (words .exit)) ⌝ }
 {
     store::add_ast(text, words, lent, cards)
 }
@@ -46,9 +45,10 @@ pub fn ignore_builtin_redefinitions(text: &[u8], words: &mut [u32]) -> Answer
 
 // Draws the store's documents: rows and errors, with their counts and tallies.
 pub fn build(text: &[u8], words: &[u32], rows: &mut [u32], errors: &mut [u32]) -> Drawing
-    ensures { λ r. ⌜ Builds (now (text .entry)) (now (words .entry)) (now (rows .entry)) (now (errors .entry)) r (now (rows .exit)) (now (errors .exit)) ⌝ }
+    ensures { λ r. ⌜ Builds (now (text .entry)) (now (words .entry)) (now (rows .entry)) (now (errors .entry)) r (now (rows .exit))
+        (now (errors .exit)) ⌝ }
 {
-    let number = crate::refusals::draw_refusal(text, words, rows.len(), errors.len());
+    let number = crate::refusals::build_refusal(text, words, rows.len(), errors.len());
     if number != 0 {
         return crate::refusals::refused_drawing(number);
     }
@@ -60,7 +60,7 @@ pub fn check_rows(text: &[u8], words: &[u32], rows: &[u32]) -> Answer
     ensures { λ r. ⌜ ChecksRows (now (text .entry)) (now (words .entry)) (now (rows .entry)) r ⌝ }
 {
     Answer {
-        number: crate::refusals::refusal(text, words, rows),
+        number: crate::refusals::lookup_refusal(text, words, rows),
         card: 0,
     }
 }
@@ -74,7 +74,7 @@ pub fn root_operation<'a>(
 ) -> &'a [u8]
     ensures { λ r. ⌜ NamesRoot (now (text .entry)) (now (words .entry)) (now (rows .entry)) op (now r) ⌝ }
 {
-    if crate::refusals::refusal(text, words, rows) != 0 {
+    if crate::refusals::lookup_refusal(text, words, rows) != 0 {
         return &text[0..0];
     }
     schema::roots::root_operation(text, words, rows, op)
@@ -88,9 +88,10 @@ pub fn type_field(
     type_name: &[u8],
     field: &[u8],
 ) -> FieldLookup
-    ensures { λ r. ⌜ FindsField (now (text .entry)) (now (words .entry)) (now (rows .entry)) (now («type_name» .entry)) (now (field .entry)) r ⌝ }
+    ensures { λ r. ⌜ FindsField (now (text .entry)) (now (words .entry)) (now (rows .entry)) (now («type_name» .entry))
+        (now (field .entry)) r ⌝ }
 {
-    let number = crate::refusals::refusal(text, words, rows);
+    let number = crate::refusals::lookup_refusal(text, words, rows);
     if number != 0 {
         return FieldLookup::Refused(number);
     }
@@ -105,9 +106,10 @@ pub fn is_subtype(
     general: &[u8],
     other: &[u8],
 ) -> SubtypeLookup
-    ensures { λ r. ⌜ TellsSubtype (now (text .entry)) (now (words .entry)) (now (rows .entry)) (now (general .entry)) (now (other .entry)) r ⌝ }
+    ensures { λ r. ⌜ TellsSubtype (now (text .entry)) (now (words .entry)) (now (rows .entry)) (now (general .entry))
+        (now (other .entry)) r ⌝ }
 {
-    let number = crate::refusals::refusal(text, words, rows);
+    let number = crate::refusals::lookup_refusal(text, words, rows);
     if number != 0 {
         return SubtypeLookup::Refused(number);
     }
@@ -116,9 +118,10 @@ pub fn is_subtype(
 
 // Writes the origin of each part of the schema definition.
 pub fn iter_origins(text: &[u8], words: &[u32], rows: &[u32], list: &mut [u32]) -> Answer
-    ensures { λ r. ⌜ ListsOrigins (now (text .entry)) (now (words .entry)) (now (rows .entry)) (now (list .entry)) r (now (list .exit)) ⌝ }
+    ensures { λ r. ⌜ ListsOrigins (now (text .entry)) (now (words .entry)) (now (rows .entry)) (now (list .entry)) r
+        (now (list .exit)) ⌝ }
 {
-    let number = crate::refusals::list_refusal(text, words, rows, ORIGINS_ROOM, list.len());
+    let number = crate::refusals::list_refusal(text, words, rows, ORIGINS_CAPACITY, list.len());
     if number != 0 {
         return Answer { number, card: 0 };
     }
@@ -131,9 +134,10 @@ pub fn iter_origins(text: &[u8], words: &[u32], rows: &[u32], list: &mut [u32]) 
 
 // Writes the extensions that added to the schema definition, each once.
 pub fn extensions(text: &[u8], words: &[u32], rows: &[u32], list: &mut [u32]) -> Answer
-    ensures { λ r. ⌜ ListsExtensions (now (text .entry)) (now (words .entry)) (now (rows .entry)) (now (list .entry)) r (now (list .exit)) ⌝ }
+    ensures { λ r. ⌜ ListsExtensions (now (text .entry)) (now (words .entry)) (now (rows .entry)) (now (list .entry)) r
+        (now (list .exit)) ⌝ }
 {
-    let number = crate::refusals::list_refusal(text, words, rows, ORIGINS_ROOM, list.len());
+    let number = crate::refusals::list_refusal(text, words, rows, ORIGINS_CAPACITY, list.len());
     if number != 0 {
         return Answer { number, card: 0 };
     }
@@ -146,9 +150,10 @@ pub fn extensions(text: &[u8], words: &[u32], rows: &[u32], list: &mut [u32]) ->
 
 // The types that implement each interface, group by group. How many groups there are is answered.
 pub fn implementers_map(text: &[u8], words: &[u32], rows: &[u32], list: &mut [u32]) -> Answer
-    ensures { λ r. ⌜ MapsImplementers (now (text .entry)) (now (words .entry)) (now (rows .entry)) (now (list .entry)) r (now (list .exit)) ⌝ }
+    ensures { λ r. ⌜ MapsImplementers (now (text .entry)) (now (words .entry)) (now (rows .entry)) (now (list .entry)) r
+        (now (list .exit)) ⌝ }
 {
-    let number = crate::refusals::list_refusal(text, words, rows, GROUPS_ROOM, list.len());
+    let number = crate::refusals::list_refusal(text, words, rows, GROUPS_CAPACITY, list.len());
     if number != 0 {
         return Answer { number, card: 0 };
     }

@@ -1,19 +1,17 @@
 // What the entries refuse before they draw or look up: each refusal's number in the fixed order, 0 where nothing is refused.
 use definition::Drawing;
 use definition::Tallies;
+use definition::build_error::ERROR_NUMBERS;
+use definition::layout::ERRORS_CAPACITY;
+use definition::layout::ROWS_CAPACITY;
+use definition::refusal;
 use store_check::StoreCheck;
 ghost use mathlib.Core.Path.{_≡_};
 ghost use mathlib.Core.List.{[]};
 ghost use Rattle.definition.specs.Store.{storeRefusal};
-ghost use Rattle.definition.specs.Outcomes.{undrawn};
-ghost use Rattle.api.specs.Refused.{lookupRefusal, listRefusal};
-ghost use Rattle.api.specs.RefusalsRoom.{drawRefusal};
-
-// The words that 7 asks of a slice for rows.
-const ROWS_ROOM: usize = 6912;
-
-// The words that 7 asks of a slice for errors.
-const ERRORS_ROOM: usize = 6900;
+ghost use Rattle.definition.specs.Outcomes.{unbuilt};
+ghost use Rattle.api.specs.LookupRefusal.{lookupRefusal, listRefusal};
+ghost use Rattle.api.specs.BuildRefusal.{buildRefusal};
 
 // 21 and 22, which every call but opening asks first. 0 where neither holds.
 fn store_refusal(text: &[u8], words: &[u32]) -> u32
@@ -26,28 +24,28 @@ fn store_refusal(text: &[u8], words: &[u32]) -> u32
 }
 
 // 21 and 22, and then 7 where a slice to be drawn into is too short. 0 where none holds.
-pub fn draw_refusal(text: &[u8], words: &[u32], rows: usize, errors: usize) -> u32
-    ensures { λ r. ⌜ r ≡ drawRefusal (now (text .entry)) (now (words .entry)) rows errors ⌝ }
+pub fn build_refusal(text: &[u8], words: &[u32], rows: usize, errors: usize) -> u32
+    ensures { λ r. ⌜ r ≡ buildRefusal (now (text .entry)) (now (words .entry)) rows errors ⌝ }
 {
     let unsound = store_refusal(text, words);
     if unsound != 0 {
         return unsound;
     }
-    if rows < ROWS_ROOM {
-        return 7;
+    if rows < ROWS_CAPACITY {
+        return refusal::SLICE_TOO_SHORT;
     }
-    if errors < ERRORS_ROOM {
-        return 7;
+    if errors < ERRORS_CAPACITY {
+        return refusal::SLICE_TOO_SHORT;
     }
     0
 }
 
 // The answer of a drawing that is refused: all counts and tallies are 0.
 pub fn refused_drawing(number: u32) -> Drawing
-    ensures { λ r. ⌜ r ≡ undrawn [] [] number .drawing ⌝ }
+    ensures { λ r. ⌜ r ≡ unbuilt [] [] number .drawing ⌝ }
 {
     let tallies = Tallies {
-        counts: [0u32; 16],
+        counts: [0u32; ERROR_NUMBERS],
         total: 0,
     };
     Drawing {
@@ -60,7 +58,7 @@ pub fn refused_drawing(number: u32) -> Drawing
 }
 
 // 21, 22 and 26: what every lookup asks first. 0 where none holds.
-pub fn refusal(text: &[u8], words: &[u32], rows: &[u32]) -> u32
+pub fn lookup_refusal(text: &[u8], words: &[u32], rows: &[u32]) -> u32
     ensures { λ r. ⌜ r ≡ lookupRefusal (now (text .entry)) (now (words .entry)) (now (rows .entry)) ⌝ }
 {
     let number = store_refusal(text, words);
@@ -68,21 +66,21 @@ pub fn refusal(text: &[u8], words: &[u32], rows: &[u32]) -> u32
         return number;
     }
     if !schema_rows::check_lent_rows(text, words, rows) {
-        return 26;
+        return refusal::ROWS_UNSOUND;
     }
     0
 }
 
 // What a lookup that fills a slice asks first: the same, and then 7, that the slice has the room.
-pub fn list_refusal(text: &[u8], words: &[u32], rows: &[u32], room: usize, len: usize) -> u32
-    ensures { λ r. ⌜ r ≡ listRefusal (now (text .entry)) (now (words .entry)) (now (rows .entry)) room len ⌝ }
+pub fn list_refusal(text: &[u8], words: &[u32], rows: &[u32], capacity: usize, len: usize) -> u32
+    ensures { λ r. ⌜ r ≡ listRefusal (now (text .entry)) (now (words .entry)) (now (rows .entry)) capacity len ⌝ }
 {
-    let earlier = refusal(text, words, rows);
+    let earlier = lookup_refusal(text, words, rows);
     if earlier != 0 {
         return earlier;
     }
-    if len < room {
-        return 7;
+    if len < capacity {
+        return refusal::SLICE_TOO_SHORT;
     }
     0
 }

@@ -8,7 +8,7 @@ use borrow.Author.Tests.{eq-eqb, ne-eqb, eqb-true, eqb-false, le-leb, lt-leb, le
 use lib.Dec.{eqb, leb}
 use lib.ListN.{length}
 use Rattle.definition.specs.Lists.{any}
-use Rattle.definition.specs.Cards.{isRoot, extended, partOrder, placeIn}
+use Rattle.definition.specs.Cards.{isRoot, definitionOf, partOrder, placeIn}
 
 -- ---- Ranges of kinds.
 
@@ -18,17 +18,17 @@ within-low lo hi k h = simp (lt-leb lo k h)
 pub within-high : (lo hi k : ℕ) → lo ≤ k → (leb lo k && leb k hi) ≡ leb k hi
 within-high lo hi k h = simp (le-leb lo k h)
 
-pub extended-extension : (k : ℕ) → 11 ≤ k → extended k ≡ k - 7
-unfolding extended
-extended-extension k h = simp (le-leb 11 k h)
+pub definition-of-extension : (k : ℕ) → 11 ≤ k → definitionOf k ≡ k - 7
+unfolding definitionOf
+definition-of-extension k h = simp (le-leb 11 k h)
 
-pub extended-other : (k : ℕ) → k < 11 → k < 4 → extended k ≡ 0
-unfolding extended
-extended-other k h l = simp (lt-leb 11 k h, lt-leb 4 k l)
+pub definition-of-other : (k : ℕ) → k < 11 → k < 4 → definitionOf k ≡ 0
+unfolding definitionOf
+definition-of-other k h l = simp (lt-leb 11 k h, lt-leb 4 k l)
 
-pub extended-definition : (k : ℕ) → k < 11 → 4 ≤ k → extended k ≡ k
-unfolding extended
-extended-definition k h l = simp (lt-leb 11 k h, le-leb 4 k l)
+pub definition-of-definition : (k : ℕ) → k < 11 → 4 ≤ k → definitionOf k ≡ k
+unfolding definitionOf
+definition-of-definition k h l = simp (lt-leb 11 k h, le-leb 4 k l)
 
 -- ---- The place of a kind in an order.
 
@@ -61,7 +61,8 @@ roots-any k = go (eqb k 26) refl (eqb k 27) refl (eqb k 28) refl
       where
         out : (t : Bool) → leb 26 k ≡ t → (leb 26 k && leb k 28) ≡ false
         out false e = simp e
-        out true e = within-high 26 28 k (leb-true 26 k e) ∙ lt-leb k 28 (omega (arith, leb-true 26 k e, eqb-false k 26 ea, eqb-false k 27 eb, eqb-false k 28 ec))
+        out true e =
+            within-high 26 28 k (leb-true 26 k e) ∙ lt-leb k 28 (omega (arith, leb-true 26 k e, eqb-false k 26 ea, eqb-false k 27 eb, eqb-false k 28 ec))
 
 -- ---- The place of the part k in the order of each definition.
 module _ (k : ℕ) where

@@ -1,8 +1,11 @@
 // The kinds of cards and where parts may stand. Headings follow `ast::Definition`, in its order.
 ghost use mathlib.Core.Path.{_≡_};
 ghost use mathlib.Core.List.{[], _∷_};
+ghost use mathlib.Core.Bool.{_&&_};
+ghost use Prim.Native.Nat.{_+_, _≤_};
+ghost use lib.Dec.{eqb, leb};
 ghost use lib.ListN.{length};
-ghost use Rattle.definition.specs.Cards.{isHeading, isPart, isRoot, isType, isExtension, extended, partOrder, placeIn};
+ghost use Rattle.definition.specs.Cards.{isHeading, isPart, isRoot, isType, isExtension, definitionOf, partOrder, placeIn};
 
 pub const OPERATION_DEFINITION: u32 = 1;
 
@@ -104,9 +107,39 @@ pub fn is_extension(kind: u32) -> bool
     kind <= INPUT_OBJECT_TYPE_EXTENSION
 }
 
+pub fn is_type_extension(kind: u32) -> bool
+    ensures { λ r. ⌜ r ≡ (leb 12 kind && leb kind 17) ⌝ }
+{
+    if kind < SCALAR_TYPE_EXTENSION {
+        return false;
+    }
+    kind <= INPUT_OBJECT_TYPE_EXTENSION
+}
+
+// The kind of the extensions of what a definition of the kind defines.
+pub fn extension_of(kind: u32) -> u32
+    requires { ⌜ kind ≤ 17 ⌝ }
+    ensures { λ r. ⌜ r ≡ kind + 7 ⌝ }
+{
+    kind + EXTENSION_STEP
+}
+
+// Whether the first kind is that of the extensions of what a definition of the second kind defines.
+pub fn is_extension_of(kind: u32, definition: u32) -> bool
+    ensures { λ r. ⌜ r ≡ eqb kind (definition + 7) ⌝ }
+{
+    if kind < EXTENSION_STEP {
+        return false;
+    }
+    if kind - EXTENSION_STEP == definition {
+        return true;
+    }
+    false
+}
+
 // The definition's kind of what a heading defines or extends; 0 for operations, fragments and directives.
-pub fn extended(kind: u32) -> u32
-    ensures { λ r. ⌜ r ≡ extended kind ⌝ }
+pub fn definition_of(kind: u32) -> u32
+    ensures { λ r. ⌜ r ≡ definitionOf kind ⌝ }
 {
     if SCHEMA_EXTENSION <= kind {
         return kind - EXTENSION_STEP;
@@ -171,9 +204,9 @@ fn place_after_directives(part: u32, own: u32) -> u32
 
 // The place of a part's kind in the order under a heading, from 0; as many as `places_under` has where it has none.
 pub fn place_of(heading: u32, part: u32) -> u32
-    ensures { λ r. ⌜ r ≡ placeIn (partOrder (extended heading)) part ⌝ }
+    ensures { λ r. ⌜ r ≡ placeIn (partOrder (definitionOf heading)) part ⌝ }
 {
-    let definition = extended(heading);
+    let definition = definition_of(heading);
     if definition == SCHEMA_DEFINITION {
         return place_in_schema(part);
     }
@@ -200,9 +233,9 @@ pub fn place_of(heading: u32, part: u32) -> u32
 
 // How many places there are for parts under a heading.
 pub fn places_under(heading: u32) -> u32
-    ensures { λ r. ⌜ r ≡ length (partOrder (extended heading)) ⌝ }
+    ensures { λ r. ⌜ r ≡ length (partOrder (definitionOf heading)) ⌝ }
 {
-    let definition = extended(heading);
+    let definition = definition_of(heading);
     if definition < SCHEMA_DEFINITION {
         return 0;
     }

@@ -1,4 +1,5 @@
-// ast/: cards and their kinds. A card is one parsed item, in five words.
+// ast/: cards and their kinds. A card is one parsed item, in `CARD_WORDS` words.
+use definition::layout::CARD_WORDS;
 ghost use mathlib.Core.Path.{_≡_};
 ghost use Prim.Native.Nat.{_*_};
 ghost use lib.ListN.{getD, drop};
@@ -7,8 +8,16 @@ ghost use Rattle.ast.specs.Cards.{cardOf};
 
 pub mod kinds;
 
-// How many words a card has.
-pub const CARD_WORDS: usize = 5;
+// Which word of a card is which. specs/Cards.antt has the same numbers.
+pub const CARD_KIND: usize = 0;
+
+pub const CARD_ITEM_AT: usize = 1;
+
+pub const CARD_ITEM_LEN: usize = 2;
+
+pub const CARD_NAME_AT: usize = 3;
+
+pub const CARD_NAME_LEN: usize = 4;
 
 // A card's words. An item and a name are spans of the text.
 pub struct Card {
@@ -20,7 +29,7 @@ pub struct Card {
 }
 
 // The word at an index; a missing one counts as 0.
-fn word_at(words: &[u32], i: usize) -> u32
+pub fn word(words: &[u32], i: usize) -> u32
     ensures { λ r. ⌜ r ≡ getD (now (words .entry)) i 0 ⌝ }
 {
     if i < words.len() {
@@ -44,11 +53,11 @@ pub fn card_at(cards: &[u32], i: usize) -> Card
     }
     let at = CARD_WORDS * i;
     Card {
-        kind: word_at(cards, at),
-        item_at: word_at(cards, at + 1),
-        item_len: word_at(cards, at + 2),
-        name_at: word_at(cards, at + 3),
-        name_len: word_at(cards, at + 4),
+        kind: word(cards, at + CARD_KIND),
+        item_at: word(cards, at + CARD_ITEM_AT),
+        item_len: word(cards, at + CARD_ITEM_LEN),
+        name_at: word(cards, at + CARD_NAME_AT),
+        name_len: word(cards, at + CARD_NAME_LEN),
     }
 }
 

@@ -9,7 +9,9 @@ use borrow.Author.Tests.{eq-eqb, ne-eqb, lt-ltb, le-ltb, ltb-true, ltb-false}
 use lib.Dec.{eqb, ltb}
 use lib.ListN.{length}
 use Rattle.definition.specs.Names.{isName, bytesAt}
-use Rattle.definition.specs.Cards.{Card, Place, isHeading, isPart, isUnnamed, itemEnd, nameEnd, unknownKind, itemOutsideText, itemBeforeSiblingEnd, itemOutsideHeading, nameAmiss, nameOutsideItem, nameNoName, nameNotItem, misplacedUnder, misplaced, partOrder, extended, placeIn}
+use Rattle.definition.specs.Cards.{Card, Place, isHeading, isPart, isUnnamed, itemEnd, nameEnd, unknownKind, itemOutsideText}
+use Rattle.definition.specs.Cards.{itemBeforeSiblingEnd, itemOutsideHeading, nameAmiss, nameOutsideItem, nameNoName, nameNotItem}
+use Rattle.definition.specs.Cards.{misplacedUnder, misplaced, partOrder, definitionOf, placeIn}
 
 -- `size` bytes from `base` on end before e where fewer than `size` lie between.
 past : (base size e : ℕ) → base ≤ e → ltb size (e - base) ≡ ltb (base + size) e
@@ -97,7 +99,8 @@ module _ (p : Place) (c : Card) where
   unfolding nameNoName
   bytes-absent e = simp e
 
-  pub bytes-name : (text ns : List ℕ) (b : Bool) → p .bytes ≡ text → isUnnamed c ≡ false → ns ≡ bytesAt text (c .nameAt) (c .nameLen) → b ≡ isName ns → not b ≡ nameNoName p c
+  pub bytes-name : (text ns : List ℕ) (b : Bool) → p .bytes ≡ text → isUnnamed c ≡ false → ns ≡ bytesAt text (c .nameAt) (c .nameLen) →
+      b ≡ isName ns → not b ≡ nameNoName p c
   unfolding nameNoName
   bytes-name text ns b t e f g = simp (t, e, f, g)
 
@@ -119,7 +122,8 @@ module _ (p : Place) (c : Card) where
   unfolding nameNotItem
   starts-equal e n = simp (e, eq-eqb (c .nameAt) (c .itemAt) n)
 
-  module _ (h : Card) (at places : ℕ) (ea : at ≡ placeIn (partOrder (extended (h .kind))) (c .kind)) (ep : places ≡ length (partOrder (extended (h .kind)))) where
+  module _ (h : Card) (at places : ℕ) (ea : at ≡ placeIn (partOrder (definitionOf (h .kind))) (c .kind))
+      (ep : places ≡ length (partOrder (definitionOf (h .kind)))) where
     pub no-place-under : places ≤ at → misplacedUnder p c h ≡ true
     unfolding misplacedUnder
     no-place-under l = simp (← ea, ← ep, le-ltb at places l)
@@ -128,7 +132,8 @@ module _ (p : Place) (c : Card) where
     unfolding misplacedUnder
     first-under l e = simp (← ea, ← ep, lt-ltb at places l, e)
 
-    pub after-under : (s : Card) (b : ℕ) → at < places → p .sibling ≡ some s → b ≡ placeIn (partOrder (extended (h .kind))) (s .kind) → ltb at b ≡ misplacedUnder p c h
+    pub after-under : (s : Card) (b : ℕ) → at < places → p .sibling ≡ some s → b ≡ placeIn (partOrder (definitionOf (h .kind))) (s .kind) →
+        ltb at b ≡ misplacedUnder p c h
     unfolding misplacedUnder
     after-under s b l e f = simp (← ea, ← ep, lt-ltb at places l, e, ← f)
 

@@ -2,7 +2,9 @@
 use ast::Card;
 use ast::kinds;
 ghost use mathlib.Core.Path.{_≡_};
-ghost use Rattle.definition.specs.Cards.{Place, itemEnd, nameEnd, isUnnamed, unknownKind, emptyItem, itemOutsideText, itemBeforeSiblingEnd, itemOutsideHeading, nameAmiss, nameOutsideItem, nameNoName, nameNotItem, misplacedUnder, misplaced};
+ghost use Rattle.definition.specs.Cards.{Place, itemEnd, nameEnd, isUnnamed, unknownKind, emptyItem};
+ghost use Rattle.definition.specs.Cards.{itemOutsideText, itemBeforeSiblingEnd, itemOutsideHeading};
+ghost use Rattle.definition.specs.Cards.{nameAmiss, nameOutsideItem, nameNoName, nameNotItem, misplacedUnder, misplaced};
 ghost use Rattle.ast.specs.Cards.{cardOf};
 ghost use Rattle.ast_check.specs.Neighbours.{neighbourOf};
 
@@ -158,7 +160,9 @@ fn misplaced_under(heading: Card, sibling: Neighbour, card: Card) -> bool
 }
 
 pub fn misplaced(near: Neighbours, card: Card) -> bool
-    ensures { λ r. ⌜ ((p : Place) → p .heading ≡ neighbourOf (near .heading) → p .sibling ≡ neighbourOf (near .sibling) → r ≡ misplaced p (cardOf card)) ⌝ }
+    ensures { λ r. ⌜ ((p : Place) → p .heading ≡ neighbourOf (near .heading)
+        → p .sibling ≡ neighbourOf (near .sibling)
+        → r ≡ misplaced p (cardOf card)) ⌝ }
 {
     if !kinds::is_part(card.kind) {
         return false;

@@ -1,15 +1,15 @@
 // The check of a document's cards: the lowest fault of each card among its neighbours, and the first faulty card.
-use ast::CARD_WORDS;
+use crate::faults::Neighbour;
+use crate::faults::Neighbours;
 use ast::Card;
 use ast::kinds;
 use definition::Answer;
-use crate::faults::Neighbour;
-use crate::faults::Neighbours;
+use definition::layout::CARD_WORDS;
+use definition::refusal;
 ghost use mathlib.Core.Path.{_≡_};
-ghost use Rattle.definition.specs.Cards.{faults, faultAmong, placeAfter, cardsOf, cardFault, documentFault};
+ghost use Rattle.definition.specs.Cards.{faults, faultAmong, cardsOf, cardFault, documentFault};
 ghost use Rattle.ast.specs.Cards.{cardOf};
-ghost use Rattle.ast_check.specs.Neighbours.{neighbourOf};
-ghost use Rattle.ast_check.specs.Checks.{placeOf, judgedOf, nextOf, checkOption};
+ghost use Rattle.ast_check.specs.Checks.{placeOf, placeWith, judgedOf, nextOf, checkOption};
 
 pub mod faults;
 
@@ -57,41 +57,41 @@ fn fault_among(text: &[u8], base: usize, size: usize, near: Neighbours, card: Ca
     let heading = near.heading;
     let sibling = near.sibling;
     if crate::faults::unknown_kind(card) {
-        return 2;
+        return refusal::UNKNOWN_KIND;
     }
     if crate::faults::empty_item(card) {
-        return 3;
+        return refusal::ITEM_MISPLACED;
     }
     if crate::faults::item_outside_text(base, size, card) {
-        return 3;
+        return refusal::ITEM_MISPLACED;
     }
     if crate::faults::item_before_sibling_end(sibling, card) {
-        return 3;
+        return refusal::ITEM_MISPLACED;
     }
     if crate::faults::item_outside_heading(heading, card) {
-        return 3;
+        return refusal::ITEM_MISPLACED;
     }
     if crate::faults::name_amiss(card) {
-        return 4;
+        return refusal::NAME_FAULTY;
     }
     if crate::faults::name_outside_item(card) {
-        return 4;
+        return refusal::NAME_FAULTY;
     }
     if crate::faults::name_no_name(text, card) {
-        return 4;
+        return refusal::NAME_FAULTY;
     }
     if crate::faults::name_not_item(card) {
-        return 4;
+        return refusal::NAME_FAULTY;
     }
     if crate::faults::misplaced(near, card) {
-        return 5;
+        return refusal::PART_MISPLACED;
     }
     0
 }
 
 // The lowest number of a card's faults, with the heading and the part that stand before it.
 fn fault_after(text: &[u8], base: usize, size: usize, before: Neighbours, card: Card) -> u32
-    ensures { λ r. ⌜ r ≡ faultAmong (placeAfter (now (text .entry)) base size (neighbourOf (before .heading)) (neighbourOf (before .sibling)) (cardOf card)) (cardOf card) faults ⌝ }
+    ensures { λ r. ⌜ r ≡ faultAmong (placeWith (now (text .entry)) base size before card) (cardOf card) faults ⌝ }
 {
     fault_among(text, base, size, judged(before, card), card)
 }
@@ -124,7 +124,10 @@ pub fn check_document(text: &[u8], cards: &[u32]) -> CardCheck
     ensures { λ r. ⌜ checkOption r ≡ documentFault (now (text .entry)) (now (cards .entry)) ⌝ }
 {
     if cards.len() % CARD_WORDS != 0 {
-        return CardCheck::Faulty(Answer { number: 1, card: 0 });
+        return CardCheck::Faulty(Answer {
+            number: refusal::CARDS_NOT_WHOLE,
+            card: 0,
+        });
     }
     check_cards(text, 0, text.len(), cards)
 }

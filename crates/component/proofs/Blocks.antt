@@ -2,80 +2,51 @@
 use mathlib.Core.Path.{_≡_, refl, sym, ap, _∙_}
 use mathlib.Core.Bool.{Bool, true, false, _&&_, _||_, not}
 use mathlib.Core.List.{List, [], _∷_, _++_, map}
-use mathlib.Core.Option.{some}
 use Prim.Native.Nat.{ℕ, zero, suc, _+_, _-_, _≤_, _<_}
 use native.Mathlib.Omega.{arith}
 use borrow.Author.Tests.{eqb-true, leb-true, lt-ltb, le-leb, lt-leb}
 use lib.Dec.{eqb, leb}
-use lib.ListN.{drop, getElem?}
-use Rattle.definition.specs.Lists.{choose, keep, any, before, flatMap, firsts, All}
+use lib.ListN.{drop}
+use Rattle.definition.specs.Lists.{choose, filter, takeUntil, flatMap, firsts, All}
 use Rattle.definition.specs.Names.{sameName}
 use Rattle.definition.specs.Answers.{absent}
-use Rattle.definition.specs.Cards.{isRoot, isType, isPart}
-use Rattle.definition.specs.Headings.{Part, Heading, alike, isKind, isNamed, isOf, isTypeDefinition, isTypeExtension, extensionsOf, types, sameNamed, orphans, isOrphan, isMissing, definition}
-use Rattle.definition.specs.Catalogue.{Component, component, components, ownComponents, ofExtensions, alikeComponents, kept, row, componentRow, listed, block, underType, typeComponents, typeRow, typeRows, adoptedRow, adoptedRows}
+use Rattle.definition.specs.Cards.{isRoot, isType, isPart, definitionOf}
+use Rattle.definition.specs.Headings.{NamedCard, Heading, alike, isKind, isNamed, isOf, isTypeDefinition, isTypeExtension, extensionsOf, definedTypes}
+use Rattle.definition.specs.Headings.{sameNamed, orphans, isOrphan, isMissing, definition}
+use Rattle.definition.specs.Catalogue.{Component, component, components, ownComponents, ofExtensions, alikeComponents, kept, row, componentRow}
+use Rattle.definition.specs.Catalogue.{listOfKind, block, underType, typeComponents, typeRow, typeRows, adoptedRow, adoptedRows}
 use Rattle.definition.specs.Store.{cardsUsed}
-use Rattle.store_reader.specs.Stored.{cardKind, cardName, cardAt, headingAt, isHead, partsFrom, storedParts}
+use Rattle.store_reader.specs.Stored.{cardKind, cardName, cardAt, headingAt, isHeadingItem, partsFrom, storedParts}
 use Rattle.store_reader.proofs.Words.{stored-is, stored-inside, number-stored}
-use Rattle.from_ast_index.specs.Index.{sameCards, headingNumber}
+use Rattle.definition.proofs.Tests.{and-true}
+use Rattle.definition.proofs.Lists.{filter-yes, filter-no}
+use Rattle.definition.proofs.All.{all-append, all-filter, all-firsts, all-map, all-flatMap, all-to, all-with, filter-pass}
+use Rattle.from_ast_index.specs.Index.{sameCards, headingNumber, isTypeExtensionKind}
+use Rattle.from_ast_index.proofs.Lists.{filter-map, get-all}
 use Rattle.component.specs.Pushed.{alikeRows, rowsOfKind}
-use Rattle.component.specs.Drawn.{sameStored, headRows, extensionKind, isMatching, matching, extensionRowsAt, extensionRows, listRows, listAt, typeRowAt, typeRowsAt}
-use Rattle.component.proofs.Listed.{listed-sticky, kind-append, kind-flat, keep-yes, keep-no, all-keep}
-use Rattle.component.proofs.Matching.{extension-adopted, extension-defined}
+use Rattle.component.specs.RowsByCards.{sameStored, headRows, extensionKind, isMatching, matching, extensionRowsAt, extensionRows, listRows}
+use Rattle.component.specs.RowsByCards.{listAt, typeRowAt, typeRowsAt}
+use Rattle.component.proofs.Listed.{listed-sticky, kind-append, kind-flat}
+use Rattle.component.proofs.Matching.{extended-kind, defined-kind, extension-adopted, extension-defined}
 
 -- ---- What holds of each element.
 
 module _ {ℓ} {A : Type ℓ} (P : A → Type 0) where
-  all-get : (xs : List A) → ((i : ℕ) (x : A) → getElem? xs i ≡ some x → P x) → All P xs
-  all-get [] h = tt
-  all-get (x ∷ xs) h = (h 0 x refl, all-get xs (λ i y e. h (suc i) y e))
-
   all-drop : (i : ℕ) (xs : List A) → All P xs → All P (drop i xs)
   all-drop zero xs h = h
   all-drop (suc i) [] h = h
   all-drop (suc i) (x ∷ xs) h = all-drop i xs (h .1)
 
-  all-before : (p : A → Bool) (xs : List A) → All P xs → All P (before p xs)
-  unfolding before
+  all-before : (p : A → Bool) (xs : List A) → All P xs → All P (takeUntil p xs)
+  unfolding takeUntil
   all-before p [] h = tt
   all-before p (x ∷ xs) h = go (p x) (all-before p xs (h .1))
     where
-      go : (b : Bool) → All P (before p xs) → All P (choose b [] (x ∷ before p xs))
+      go : (b : Bool) → All P (takeUntil p xs) → All P (choose b [] (x ∷ takeUntil p xs))
       go true k = tt
       go false k = (h .0, k)
 
-  pub all-append : (xs ys : List A) → All P xs → All P ys → All P (xs ++ ys)
-  all-append [] ys h k = k
-  all-append (x ∷ xs) ys h k = (h .0, all-append xs ys (h .1) k)
-
-  pub all-firsts : (same : A → A → Bool) (seen xs : List A) → All P xs → All P (firsts same seen xs)
-  unfolding firsts
-  all-firsts same seen [] h = tt
-  all-firsts same seen (x ∷ xs) h = go (any (same x) seen) (all-firsts same seen xs (h .1)) (all-firsts same (seen ++ (x ∷ [])) xs (h .1))
-    where
-      go : (b : Bool) → All P (firsts same seen xs) → All P (firsts same (seen ++ (x ∷ [])) xs) → All P (choose b (firsts same seen xs) (x ∷ firsts same (seen ++ (x ∷ [])) xs))
-      go true k l = k
-      go false k l = (h .0, l)
-
-module _ {ℓ κ} {A : Type ℓ} {B : Type κ} (P : B → Type 0) where
-  pub all-flat : (f : A → List B) (Q : A → Type 0) → ((x : A) → Q x → All P (f x)) → (xs : List A) → All Q xs → All P (flatMap f xs)
-  unfolding flatMap
-  all-flat f Q g [] h = tt
-  all-flat f Q g (x ∷ xs) h = all-append P (f x) (flatMap f xs) (g x (h .0)) (all-flat f Q g xs (h .1))
-
-  pub all-map : (f : A → B) (Q : A → Type 0) → ((x : A) → Q x → P (f x)) → (xs : List A) → All Q xs → All P (map f xs)
-  all-map f Q g [] h = tt
-  all-map f Q g (x ∷ xs) h = (g x (h .0), all-map f Q g xs (h .1))
-
 -- ---- The elements that pass a test, one by one.
-
-and-left : (a b : Bool) → (a && b) ≡ true → a ≡ true
-and-left true b e = refl
-and-left false b e = e
-
-and-right : (a b : Bool) → (a && b) ≡ true → b ≡ true
-and-right true b e = e
-and-right false b e = let q : false ≡ true = e in cc
 
 pub flat-same {ℓ κ} : {A : Type ℓ} {B : Type κ} (f g : A → List B) → ((x : A) → f x ≡ g x) → (xs : List A) → flatMap f xs ≡ flatMap g xs
 unfolding flatMap
@@ -83,45 +54,31 @@ flat-same f g h [] = refl
 flat-same f g h (x ∷ xs) = λ i. h x i ++ flat-same f g h xs i
 
 -- those that pass one test are among those that pass another
-pub keep-keep {ℓ} : {A : Type ℓ} (p q : A → Bool) → ((x : A) → q x ≡ true → p x ≡ true) → (xs : List A) → keep q (keep p xs) ≡ keep q xs
-unfolding keep
-keep-keep p q sub [] = refl
-keep-keep p q sub (x ∷ xs) = go (q x) refl (p x) refl (keep-keep p q sub xs)
+pub filter-filter {ℓ} : {A : Type ℓ} (p q : A → Bool) → ((x : A) → q x ≡ true → p x ≡ true) → (xs : List A) → filter q (filter p xs) ≡ filter q xs
+unfolding filter
+filter-filter p q sub [] = refl
+filter-filter p q sub (x ∷ xs) = go (q x) refl (p x) refl (filter-filter p q sub xs)
   where
-    go : (b : Bool) → q x ≡ b → (a : Bool) → p x ≡ a → keep q (keep p xs) ≡ keep q xs → keep q (keep p (x ∷ xs)) ≡ keep q (x ∷ xs)
-    go true e a d h = ap (keep q) (keep-yes p x xs (sub x e)) ∙ keep-yes q x (keep p xs) e ∙ ap (λ (l : List _). x ∷ l) h ∙ sym (keep-yes q x xs e)
-    go false e true d h = ap (keep q) (keep-yes p x xs d) ∙ keep-no q x (keep p xs) e ∙ h ∙ sym (keep-no q x xs e)
-    go false e false d h = ap (keep q) (keep-no p x xs d) ∙ h ∙ sym (keep-no q x xs e)
+    go : (b : Bool) → q x ≡ b → (a : Bool) → p x ≡ a → filter q (filter p xs) ≡ filter q xs → filter q (filter p (x ∷ xs)) ≡ filter q (x ∷ xs)
+    go true e a d h = ap (filter q) (filter-yes p x xs (sub x e)) ∙ filter-yes q x (filter p xs) e ∙ ap (λ (l : List _). x ∷ l) h ∙ sym (filter-yes q x xs e)
+    go false e true d h = ap (filter q) (filter-yes p x xs d) ∙ filter-no q x (filter p xs) e ∙ h ∙ sym (filter-no q x xs e)
+    go false e false d h = ap (filter q) (filter-no p x xs d) ∙ h ∙ sym (filter-no q x xs e)
 
-module _ {ℓ κ} {A : Type ℓ} {B : Type κ} (P : A → Type 0) (q : A → Bool) (number : A → ℕ) (f : ℕ → List B) (g : A → List B) (is : (x : A) → P x → f (number x) ≡ choose (q x) (g x) []) where
-  pub flat-picked : (xs : List A) → All P xs → flatMap f (map number xs) ≡ flatMap g (keep q xs)
-  unfolding flatMap keep
+module _ {ℓ κ} {A : Type ℓ} {B : Type κ} (P : A → Type 0) (q : A → Bool) (number : A → ℕ) (f : ℕ → List B) (g : A → List B) (is : (x : A) → P x →
+    f (number x) ≡ choose (q x) (g x) []) where
+  pub flat-picked : (xs : List A) → All P xs → flatMap f (map number xs) ≡ flatMap g (filter q xs)
+  unfolding flatMap filter
   flat-picked [] h = refl
   flat-picked (x ∷ xs) h = go (q x) refl (flat-picked xs (h .1))
     where
-      go : (b : Bool) → q x ≡ b → flatMap f (map number xs) ≡ flatMap g (keep q xs) → f (number x) ++ flatMap f (map number xs) ≡ flatMap g (keep q (x ∷ xs))
-      go true e k = rw (keep-yes q x xs e, is x (h .0), e) (ap (λ (l : List B). g x ++ l) k)
-      go false e k = rw (keep-no q x xs e, is x (h .0), e) k
+      go : (b : Bool) → q x ≡ b → flatMap f (map number xs) ≡ flatMap g (filter q xs) →
+          f (number x) ++ flatMap f (map number xs) ≡ flatMap g (filter q (x ∷ xs))
+      go true e k = rw (filter-yes q x xs e, is x (h .0), e) (ap (λ (l : List B). g x ++ l) k)
+      go false e k = rw (filter-no q x xs e, is x (h .0), e) k
 
--- the same by numbers, where a test of numbers agrees
-module _ {ℓ} {A : Type ℓ} (P : A → Type 0) (p : ℕ → Bool) (q : A → Bool) (number : A → ℕ) (is : (x : A) → P x → p (number x) ≡ q x) where
-  keep-numbered : (xs : List A) → All P xs → keep p (map number xs) ≡ map number (keep q xs)
-  unfolding keep
-  keep-numbered [] h = refl
-  keep-numbered (x ∷ xs) h = go (q x) refl (keep-numbered xs (h .1))
-    where
-      go : (b : Bool) → q x ≡ b → keep p (map number xs) ≡ map number (keep q xs) → keep p (number x ∷ map number xs) ≡ map number (keep q (x ∷ xs))
-      go true e k = keep-yes p (number x) (map number xs) (is x (h .0) ∙ e) ∙ ap (λ (l : List ℕ). number x ∷ l) k ∙ ap (map number) (sym (keep-yes q x xs e))
-      go false e k = keep-no p (number x) (map number xs) (is x (h .0) ∙ e) ∙ k ∙ ap (map number) (sym (keep-no q x xs e))
-
-pub keep-passes {ℓ} : {A : Type ℓ} (P : A → Type 0) (q : A → Bool) (xs : List A) → All P xs → All (λ x. P x × (q x ≡ true)) (keep q xs)
-unfolding keep
-keep-passes P q [] h = tt
-keep-passes P q (x ∷ xs) h = go (q x) refl (keep-passes P q xs (h .1))
-  where
-    go : (b : Bool) → q x ≡ b → All (λ x. P x × (q x ≡ true)) (keep q xs) → All (λ x. P x × (q x ≡ true)) (choose b (x ∷ keep q xs) (keep q xs))
-    go true e k = ((h .0, e), k)
-    go false e k = k
+pub filter-passes {ℓ} : {A : Type ℓ} (P : A → Type 0) (q : A → Bool) (xs : List A) → All P xs → All (λ x. P x × (q x ≡ true)) (filter q xs)
+filter-passes P q xs h =
+    all-with P (λ x. q x ≡ true) (λ x. P x × (q x ≡ true)) (λ x a b. (a, b)) (filter q xs) (all-filter P q xs h) (filter-pass q xs)
 
 pub flat-numbered {ℓ κ} : {A : Type ℓ} {B : Type κ} (P : A → Type 0) (number : A → ℕ) (f : ℕ → List B) (g : A → List B)
     → ((x : A) → P x → f (number x) ≡ g x) → (xs : List A) → All P xs → flatMap f (map number xs) ≡ flatMap g xs
@@ -141,13 +98,14 @@ module _ (text words : List ℕ) where
   unfolding sameStored sameCards
   same-names a b h k = rw (lt-ltb a (cardsUsed words) h, lt-ltb b (cardsUsed words) k)
 
-  pub agree : (c d : Component) → Found c → Found d → alikeComponents c d ≡ alikeRows (sameStored text words) (componentRow c) (componentRow d)
+  pub agree : (c d : Component) → Found c → Found d → alikeRows (sameStored text words) (componentRow c) (componentRow d) ≡ alikeComponents c d
   unfolding alikeComponents alike alikeRows componentRow
-  agree c d f g = go (eqb (c .part .kind) (d .part .kind)) refl (isRoot (c .part .kind)) refl
+  agree c d f g = sym (go (eqb (c .part .kind) (d .part .kind)) refl (isRoot (c .part .kind)) refl)
     where
       go : (a : Bool) → eqb (c .part .kind) (d .part .kind) ≡ a → (b : Bool) → isRoot (c .part .kind) ≡ b
           → (eqb (c .part .kind) (d .part .kind) && (isRoot (c .part .kind) || (not (eqb (c .part .kind) 20) && sameName (c .part .name) (d .part .name))))
-          ≡ (eqb (c .part .kind) (d .part .kind) && (isRoot (c .part .kind) || (not (eqb (c .part .kind) 20) && sameStored text words (c .part .number) (d .part .number))))
+          ≡ (eqb (c .part .kind) (d .part .kind) && (isRoot (c .part .kind) ||
+          (not (eqb (c .part .kind) 20) && sameStored text words (c .part .number) (d .part .number))))
       go false e b r = rw e
       go true e true r = rw (e, r)
       go true e false r =
@@ -155,19 +113,20 @@ module _ (text words : List ℕ) where
           rw (e, r, same-names (c .part .number) (d .part .number) (f .stored r) (g .stored q), f .named r, g .named q)
 
   -- The parts of a heading.
-  abbrev OfCard : Part → Type 0
+  abbrev OfCard : NamedCard → Type 0
   OfCard p = (p .number < cardsUsed words) × (p ≡ cardAt text words (p .number))
 
   all-parts : (i : ℕ) → All OfCard (partsFrom (storedParts text words) i)
   unfolding partsFrom
-  all-parts i = all-before OfCard isHead (drop i (storedParts text words)) (all-drop OfCard i (storedParts text words) (all-get OfCard (storedParts text words) (λ j p e.
+  all-parts i = all-before OfCard isHeadingItem (drop i (storedParts text words))
+      (all-drop OfCard i (storedParts text words) (get-all OfCard (storedParts text words) (λ j p e.
       let n = number-stored text words j p e in
       let h = stored-inside text words j p e in
       (omega arith, stored-is text words j p e ∙ ap (cardAt text words) (sym n)))))
 
-  part-found : (o : ℕ) (p : Part) → OfCard p → Found (component o p)
+  part-found : (o : ℕ) (p : NamedCard) → OfCard p → Found (component o p)
   unfolding component
-  part-found o p h = record { stored = λ r. h .0; named = λ r. ap (λ (q : Part). q .name) (h .1) }
+  part-found o p h = record { stored = λ r. h .0; named = λ r. ap (λ (q : NamedCard). q .name) (h .1) }
 
   abbrev pub At : Heading → Type 0
   At h = (h .number < cardsUsed words) × (isPart (cardKind words (h .number)) ≡ false) × (h ≡ headingAt text words (h .number))
@@ -175,42 +134,51 @@ module _ (text words : List ℕ) where
   pub components-found : (o : ℕ) (h : Heading) → At h → All Found (components o h)
   unfolding components
   components-found o h a =
-      all-map Found (component o) OfCard (part-found o) (h .parts)
-      (let e : h .parts ≡ partsFrom (storedParts text words) (h .number + 1) = ap (λ (g : Heading). g .parts) (a .2) in rw e (all-parts (h .number + 1)))
+      let e : h .parts ≡ partsFrom (storedParts text words) (h .number + 1) = ap (λ (g : Heading). g .parts) (a .2) in
+      all-map Found (component o) (h .parts) (all-to OfCard (λ p. Found (component o p)) (part-found o) (h .parts) (rw e (all-parts (h .number + 1))))
+
+  -- The cards of all type extensions.
+  abbrev extensionsIn : List Heading → List ℕ
+  extensionsIn hs = map headingNumber (filter isTypeExtension hs)
 
   -- The extensions of a kind and a name, among all type extensions.
   module _ (ext owner k : ℕ) where
     of-extension : 12 ≤ ext → ext ≤ 17 → (h : Heading) → isOf ext (cardName text words owner) h ≡ true → isTypeExtension h ≡ true
     unfolding isOf isKind isTypeExtension
     of-extension least most h e =
-        let q = eqb-true (h .kind) ext (and-left (eqb (h .kind) ext) (isNamed (cardName text words owner) h) e) in
+        let q = eqb-true (h .kind) ext (and-true (eqb (h .kind) ext) (isNamed (cardName text words owner) h) e .0) in
         rw (q, le-leb 12 ext least, le-leb ext 17 most)
 
     matching-cards : (hs : List Heading) → All At hs → 12 ≤ ext → ext ≤ 17
-        → keep (isMatching text words ext owner) (map headingNumber (keep isTypeExtension hs)) ≡ map headingNumber (extensionsOf ext (cardName text words owner) hs)
+        → filter (isMatching text words ext owner) (extensionsIn hs)
+        ≡ map headingNumber (extensionsOf ext (cardName text words owner) hs)
     unfolding isMatching extensionsOf headingNumber
     matching-cards hs a least most =
-        keep-numbered At (isMatching text words ext owner) (isOf ext (cardName text words owner)) (λ (h : Heading). h .number)
-        (λ h b. ap (isOf ext (cardName text words owner)) (sym (b .2))) (keep isTypeExtension hs) (all-keep isTypeExtension At hs a)
-        ∙ ap (map (λ (h : Heading). h .number)) (keep-keep isTypeExtension (isOf ext (cardName text words owner)) (of-extension least most) hs)
+        filter-map (λ (h : Heading). h .number) (isOf ext (cardName text words owner)) (isMatching text words ext owner) (filter isTypeExtension hs)
+        (all-to At (λ h. isMatching text words ext owner (h .number) ≡ isOf ext (cardName text words owner) h)
+        (λ h b. ap (isOf ext (cardName text words owner)) (sym (b .2))) (filter isTypeExtension hs) (all-filter At isTypeExtension hs a))
+        ∙ ap (map (λ (h : Heading). h .number)) (filter-filter isTypeExtension (isOf ext (cardName text words owner)) (of-extension least most) hs)
 
     rows-at : (h : Heading) → At h → extensionRowsAt text words k (h .number) ≡ rowsOfKind k (ownComponents h)
     unfolding extensionRowsAt headRows ownComponents
     rows-at h a = ap (λ (g : Heading). rowsOfKind k (components (h .number) g)) (sym (a .2))
 
     pub extension-rows : (hs : List Heading) → All At hs → 12 ≤ ext → ext ≤ 17
-        → extensionRows text words k (keep (isMatching text words ext owner) (map headingNumber (keep isTypeExtension hs))) ≡ rowsOfKind k (ofExtensions (extensionsOf ext (cardName text words owner) hs))
+        → extensionRows text words k (filter (isMatching text words ext owner) (extensionsIn hs))
+        ≡ rowsOfKind k (ofExtensions (extensionsOf ext (cardName text words owner) hs))
     unfolding extensionRows ofExtensions extensionsOf headingNumber
     extension-rows hs a least most =
         ap (flatMap (extensionRowsAt text words k)) (matching-cards hs a least most)
         ∙ flat-numbered At (λ (h : Heading). h .number) (extensionRowsAt text words k) (λ h. rowsOfKind k (ownComponents h)) rows-at
-        (keep (isOf ext (cardName text words owner)) hs) (all-keep (isOf ext (cardName text words owner)) At hs a)
-        ∙ sym (kind-flat k ownComponents (keep (isOf ext (cardName text words owner)) hs))
+        (filter (isOf ext (cardName text words owner)) hs) (all-filter At (isOf ext (cardName text words owner)) hs a)
+        ∙ sym (kind-flat k ownComponents (filter (isOf ext (cardName text words owner)) hs))
 
     pub extensions-found : (hs : List Heading) → All At hs → All Found (ofExtensions (extensionsOf ext (cardName text words owner) hs))
     unfolding ofExtensions extensionsOf ownComponents
     extensions-found hs a =
-        all-flat Found ownComponents At (λ h b. components-found (h .number) h b) (keep (isOf ext (cardName text words owner)) hs) (all-keep (isOf ext (cardName text words owner)) At hs a)
+        let es = filter (isOf ext (cardName text words owner)) hs in
+        all-flatMap Found ownComponents es
+        (all-to At (λ h. All Found (ownComponents h)) (λ h b. components-found (h .number) h b) es (all-filter At (isOf ext (cardName text words owner)) hs a))
 
   pub at-kind : (h : Heading) → At h → cardKind words (h .number) ≡ h .kind
   at-kind h a = sym (ap (λ (g : Heading). g .kind) (a .2))
@@ -220,10 +188,11 @@ module _ (text words : List ℕ) where
 
   module _ (hs : List Heading) (all : All At hs) (d : Heading) (a : At d) where
     taken-rows : (k ext : ℕ) → extensionKind words (d .number) ≡ ext → 12 ≤ ext → ext ≤ 17
-        → extensionRows text words k (matching text words (map headingNumber (keep isTypeExtension hs)) (d .number)) ≡ rowsOfKind k (ofExtensions (extensionsOf ext (d .name) hs))
+        → extensionRows text words k (matching text words (extensionsIn hs) (d .number))
+        ≡ rowsOfKind k (ofExtensions (extensionsOf ext (d .name) hs))
     unfolding matching
     taken-rows k ext e least most =
-        ap (λ (x : ℕ). extensionRows text words k (keep (isMatching text words x (d .number)) (map headingNumber (keep isTypeExtension hs)))) e
+        ap (λ (x : ℕ). extensionRows text words k (filter (isMatching text words x (d .number)) (extensionsIn hs))) e
         ∙ extension-rows ext (d .number) k hs all least most
         ∙ ap (λ (n : List ℕ). rowsOfKind k (ofExtensions (extensionsOf ext n hs))) (at-name d a)
 
@@ -231,16 +200,25 @@ module _ (text words : List ℕ) where
 
     type-range : isTypeDefinition d ≡ true → (5 ≤ d .kind) × (d .kind ≤ 10)
     unfolding isTypeDefinition isType
-    type-range e = (leb-true 5 (d .kind) (and-left (leb 5 (d .kind)) (leb (d .kind) 10) e), leb-true (d .kind) 10 (and-right (leb 5 (d .kind)) (leb (d .kind) 10) e))
+    type-range e =
+        let b = and-true (leb 5 (d .kind)) (leb (d .kind) 10) e in
+        (leb-true 5 (d .kind) (b .0), leb-true (d .kind) 10 (b .1))
 
-    defined-list : isTypeDefinition d ≡ true → (k : ℕ) → listRows text words (matching text words (map headingNumber (keep isTypeExtension hs)) (d .number)) (d .number) k ≡ rowsOfKind k (typeComponents hs d)
+    type-unextended : isTypeDefinition d ≡ true → isTypeExtensionKind (cardKind words (d .number)) ≡ false
+    unfolding isTypeExtensionKind
+    type-unextended e = let r = type-range e in let q = at-kind d a in rw (lt-leb 12 (cardKind words (d .number)) (omega arith))
+
+    defined-list : isTypeDefinition d ≡ true → (k : ℕ) → listRows text words
+        (matching text words (extensionsIn hs) (d .number)) (d .number) k ≡ rowsOfKind k (typeComponents hs d)
     unfolding listRows headRows typeComponents
     defined-list e k =
         let r = type-range e in
         let q = at-kind d a in
-        let n : leb 12 (cardKind words (d .number)) ≡ false = lt-leb 12 (cardKind words (d .number)) (omega arith) in
-        let own : rowsOfKind k (components absent (headingAt text words (d .number))) ≡ rowsOfKind k (components absent d) = ap (λ (g : Heading). rowsOfKind k (components absent g)) (sym (a .2)) in
-        let more = taken-rows k (d .kind + 7) (extension-defined words (d .number) (omega arith) ∙ ap (λ (m : ℕ). m + 7) q) (omega arith) (omega arith) in
+        let n = type-unextended e in
+        let own : rowsOfKind k (components absent (headingAt text words (d .number))) ≡ rowsOfKind k (components absent d) =
+        ap (λ (g : Heading). rowsOfKind k (components absent g)) (sym (a .2)) in
+        let more = taken-rows k (d .kind + 7) (extension-defined words (d .number) (omega arith) (omega arith) ∙ ap (λ (m : ℕ). m + 7) q) (omega arith)
+        (omega arith) in
         rw (n, own, more) (sym (kind-append k (components absent d) (ofExtensions (extensionsOf (d .kind + 7) (d .name) hs))))
 
     defined-found : All Found (typeComponents hs d)
@@ -249,60 +227,79 @@ module _ (text words : List ℕ) where
         all-append Found (components absent d) (ofExtensions (extensionsOf (d .kind + 7) (d .name) hs)) (components-found absent d a)
         (rw (← at-name d a) (extensions-found (d .kind + 7) (d .number) 0 hs all))
 
-    pub type-rows : isTypeDefinition d ≡ true → typeRowsAt text words (map headingNumber (keep isTypeExtension hs)) (d .number) ≡ typeRows hs d
+    pub type-rows : isTypeDefinition d ≡ true → typeRowsAt text words (extensionsIn hs) (d .number) ≡ typeRows hs d
     unfolding typeRowsAt typeRows block typeRowAt typeRow listAt
     type-rows e =
         let r = type-range e in
         let q = at-kind d a in
-        let n : leb 12 (cardKind words (d .number)) ≡ false = lt-leb 12 (cardKind words (d .number)) (omega arith) in
-        let lists : flatMap (λ k. firsts (alikeRows (sameStored text words)) [] (listRows text words (matching text words (map headingNumber (keep isTypeExtension hs)) (d .number)) (d .number) k)) underType ≡ flatMap (listed (kept (typeComponents hs d))) underType =
-        flat-same _ _ (λ k. ap (firsts (alikeRows (sameStored text words)) []) (defined-list e k) ∙ sym (listed-sticky (sameStored text words) Found agree (typeComponents hs d) k defined-found)) underType in
-        rw (n) (λ i. row (q i) (d .number) absent ∷ lists i)
+        let n = type-unextended e in
+        let what : definitionOf (cardKind words (d .number)) ≡ d .kind = defined-kind (cardKind words (d .number)) (omega arith) (omega arith) ∙ q in
+        let lists : flatMap (λ k. firsts (alikeRows (sameStored text words)) []
+        (listRows text words (matching text words (extensionsIn hs) (d .number)) (d .number) k)) underType
+        ≡ flatMap (listOfKind (kept (typeComponents hs d))) underType =
+        flat-same _ _ (λ k. ap (firsts (alikeRows (sameStored text words)) []) (defined-list e k)
+        ∙ sym (listed-sticky (sameStored text words) Found agree (typeComponents hs d) k defined-found)) underType in
+        rw (n) (λ i. row (what i) (d .number) absent ∷ lists i)
 
     -- ---- An adopted one.
 
     adopted-range : isTypeExtension d ≡ true → (12 ≤ d .kind) × (d .kind ≤ 17)
     unfolding isTypeExtension
-    adopted-range e = (leb-true 12 (d .kind) (and-left (leb 12 (d .kind)) (leb (d .kind) 17) e), leb-true (d .kind) 17 (and-right (leb 12 (d .kind)) (leb (d .kind) 17) e))
+    adopted-range e =
+        let b = and-true (leb 12 (d .kind)) (leb (d .kind) 17) e in
+        (leb-true 12 (d .kind) (b .0), leb-true (d .kind) 17 (b .1))
 
-    adopted-list : isTypeExtension d ≡ true → (k : ℕ) → listRows text words (matching text words (map headingNumber (keep isTypeExtension hs)) (d .number)) (d .number) k ≡ rowsOfKind k (ofExtensions (extensionsOf (d .kind) (d .name) hs))
+    adopted-extended : isTypeExtension d ≡ true → isTypeExtensionKind (cardKind words (d .number)) ≡ true
+    unfolding isTypeExtensionKind isTypeExtension
+    adopted-extended e = ap (λ (k : ℕ). leb 12 k && leb k 17) (at-kind d a) ∙ e
+
+    adopted-list : isTypeExtension d ≡ true → (k : ℕ) → listRows text words (matching text words (extensionsIn hs) (d .number))
+        (d .number) k ≡ rowsOfKind k (ofExtensions (extensionsOf (d .kind) (d .name) hs))
     unfolding listRows
     adopted-list e k =
         let r = adopted-range e in
         let q = at-kind d a in
-        let n : leb 12 (cardKind words (d .number)) ≡ true = le-leb 12 (cardKind words (d .number)) (omega arith) in
-        rw n (taken-rows k (d .kind) (extension-adopted words (d .number) (omega arith) ∙ q) (omega arith) (omega arith))
+        rw (adopted-extended e) (taken-rows k (d .kind) (extension-adopted words (d .number) (omega arith) ∙ q) (omega arith) (omega arith))
 
     adopted-found : All Found (ofExtensions (extensionsOf (d .kind) (d .name) hs))
     adopted-found = rw (← at-name d a) (extensions-found (d .kind) (d .number) 0 hs all)
 
-    pub adopted-rows : isTypeExtension d ≡ true → typeRowsAt text words (map headingNumber (keep isTypeExtension hs)) (d .number) ≡ adoptedRows hs d
+    pub adopted-rows : isTypeExtension d ≡ true → typeRowsAt text words (extensionsIn hs) (d .number) ≡ adoptedRows hs d
     unfolding typeRowsAt adoptedRows block typeRowAt adoptedRow listAt
     adopted-rows e =
         let r = adopted-range e in
         let q = at-kind d a in
-        let n : leb 12 (cardKind words (d .number)) ≡ true = le-leb 12 (cardKind words (d .number)) (omega arith) in
-        let lists : flatMap (λ k. firsts (alikeRows (sameStored text words)) [] (listRows text words (matching text words (map headingNumber (keep isTypeExtension hs)) (d .number)) (d .number) k)) underType ≡ flatMap (listed (kept (ofExtensions (extensionsOf (d .kind) (d .name) hs)))) underType =
-        flat-same _ _ (λ k. ap (firsts (alikeRows (sameStored text words)) []) (adopted-list e k) ∙ sym (listed-sticky (sameStored text words) Found agree (ofExtensions (extensionsOf (d .kind) (d .name) hs)) k adopted-found)) underType in
-        rw (n) (λ i. row (q i - 7) (d .number) (d .number) ∷ lists i)
+        let n = adopted-extended e in
+        let what : definitionOf (cardKind words (d .number)) ≡ d .kind - 7 =
+        extended-kind (cardKind words (d .number)) (omega arith) ∙ ap (λ (k : ℕ). k - 7) q in
+        let lists : flatMap (λ k. firsts (alikeRows (sameStored text words)) []
+        (listRows text words (matching text words (extensionsIn hs) (d .number)) (d .number) k)) underType
+        ≡ flatMap (listOfKind (kept (ofExtensions (extensionsOf (d .kind) (d .name) hs)))) underType =
+        flat-same _ _ (λ k. ap (firsts (alikeRows (sameStored text words)) []) (adopted-list e k)
+        ∙ sym (listed-sticky (sameStored text words) Found agree (ofExtensions (extensionsOf (d .kind) (d .name) hs)) k adopted-found)) underType in
+        rw (n) (λ i. row (what i) (d .number) (d .number) ∷ lists i)
 
   -- ---- All of them.
 
   module _ (hs : List Heading) (all : All At hs) where
-    pub types-rows : flatMap (typeRowsAt text words (map headingNumber (keep isTypeExtension hs))) (map headingNumber (types hs)) ≡ flatMap (typeRows hs) (types hs)
-    unfolding types headingNumber
+    pub types-rows : flatMap (typeRowsAt text words (extensionsIn hs)) (map headingNumber (definedTypes hs))
+        ≡ flatMap (typeRows hs) (definedTypes hs)
+    unfolding definedTypes headingNumber
     types-rows =
-        flat-numbered (λ d. At d × (isTypeDefinition d ≡ true)) (λ (h : Heading). h .number) (typeRowsAt text words (map headingNumber (keep isTypeExtension hs))) (typeRows hs)
-        (λ d h. type-rows hs all d (h .0) (h .1)) (firsts sameNamed [] (keep isTypeDefinition hs))
-        (all-firsts (λ d. At d × (isTypeDefinition d ≡ true)) sameNamed [] (keep isTypeDefinition hs) (keep-passes At isTypeDefinition hs all))
+        flat-numbered (λ d. At d × (isTypeDefinition d ≡ true)) (λ (h : Heading). h .number)
+        (typeRowsAt text words (extensionsIn hs)) (typeRows hs)
+        (λ d h. type-rows hs all d (h .0) (h .1)) (firsts sameNamed [] (filter isTypeDefinition hs))
+        (all-firsts (λ d. At d × (isTypeDefinition d ≡ true)) sameNamed [] (filter isTypeDefinition hs) (filter-passes At isTypeDefinition hs all))
 
     orphan-extends : (h : Heading) → isOrphan hs h ≡ true → isTypeExtension h ≡ true
     unfolding isOrphan
-    orphan-extends h e = and-left (isTypeExtension h) (isMissing (definition (h .name) hs)) e
+    orphan-extends h e = and-true (isTypeExtension h) (isMissing (definition (h .name) hs)) e .0
 
-    pub orphans-rows : flatMap (typeRowsAt text words (map headingNumber (keep isTypeExtension hs))) (map headingNumber (firsts sameNamed [] (orphans hs))) ≡ flatMap (adoptedRows hs) (firsts sameNamed [] (orphans hs))
+    pub orphans-rows : flatMap (typeRowsAt text words (extensionsIn hs)) (map headingNumber (firsts sameNamed [] (orphans hs)))
+        ≡ flatMap (adoptedRows hs) (firsts sameNamed [] (orphans hs))
     unfolding orphans headingNumber
     orphans-rows =
-        flat-numbered (λ d. At d × (isOrphan hs d ≡ true)) (λ (h : Heading). h .number) (typeRowsAt text words (map headingNumber (keep isTypeExtension hs))) (adoptedRows hs)
-        (λ d h. adopted-rows hs all d (h .0) (orphan-extends d (h .1))) (firsts sameNamed [] (keep (isOrphan hs) hs))
-        (all-firsts (λ d. At d × (isOrphan hs d ≡ true)) sameNamed [] (keep (isOrphan hs) hs) (keep-passes At (isOrphan hs) hs all))
+        flat-numbered (λ d. At d × (isOrphan hs d ≡ true)) (λ (h : Heading). h .number)
+        (typeRowsAt text words (extensionsIn hs)) (adoptedRows hs)
+        (λ d h. adopted-rows hs all d (h .0) (orphan-extends d (h .1))) (firsts sameNamed [] (filter (isOrphan hs) hs))
+        (all-firsts (λ d. At d × (isOrphan hs d ≡ true)) sameNamed [] (filter (isOrphan hs) hs) (filter-passes At (isOrphan hs) hs all))

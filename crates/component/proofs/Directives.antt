@@ -1,64 +1,43 @@
 -- The rows of directive definitions by the numbers of cards are those of the definition.
 use mathlib.Core.Path.{_≡_, refl, sym, ap, _∙_}
-use mathlib.Core.Bool.{Bool, true, false, _&&_, not}
+use mathlib.Core.Bool.{Bool, true, false, _&&_}
 use mathlib.Core.List.{List, [], _∷_, _++_, map, append-assoc}
 use mathlib.Core.Option.{Option, none, some}
-use Prim.Native.Nat.{ℕ, _+_, _-_, _<_}
+use Prim.Native.Nat.{ℕ, _<_}
 use native.Mathlib.Omega.{arith}
 use lib.Dec.{eqb}
-use Rattle.definition.specs.Lists.{choose, found, keep, any, flatMap, firsts, All}
+use Rattle.definition.specs.Lists.{choose, found, filter, any, flatMap, firsts, All}
 use Rattle.definition.specs.Names.{sameName}
 use Rattle.definition.specs.Answers.{absent}
 use Rattle.definition.specs.Cards.{isRoot}
 use Rattle.definition.specs.Headings.{Heading, isKind, isNamed, isOf, sameNamed, directives, directiveNamed, standing, numberOf}
 use Rattle.definition.specs.Catalogue.{Row, row, directiveRow, directiveRowAt, directiveRows}
 use Rattle.definition.specs.Store.{cardsUsed}
+use Rattle.definition.proofs.Lists.{filter-yes, filter-no}
+use Rattle.definition.proofs.All.{all-filter, all-firsts, all-every, all-to}
 use Rattle.name.proofs.Laws.{same-equal, same-self}
 use Rattle.store_reader.specs.Stored.{cardName, builtInAt}
 use Rattle.from_ast_index.specs.Index.{headingNumber}
+use Rattle.from_ast_index.proofs.Lists.{chosen-both, filter-map, filter-both, firsts-map}
 use Rattle.component.specs.Pushed.{alikeRows}
-use Rattle.component.specs.Drawn.{sameStored, standingCard, namesDirective, standingAt, directiveRowsOf, directiveRowsAt}
-use Rattle.component.proofs.Listed.{keep-yes, keep-no, all-keep, firsts-map}
-use Rattle.component.proofs.Blocks.{At, at-kind, at-name, all-firsts, flat-picked, keep-passes, same-names}
+use Rattle.component.specs.RowsByCards.{sameStored, standingCard, namesDirective, standingAt, directiveRowsOf, directiveRowsAt}
+use Rattle.component.proofs.Blocks.{At, at-kind, at-name, flat-picked, filter-passes, same-names}
 
 -- ---- Lists.
 
-both : (a b : Bool) → (a && b) ≡ true → (a ≡ true) × (b ≡ true)
-both true b e = (refl, e)
-both false b e = let q : false ≡ true = e in (q, cc)
-
-keep-both {ℓ} : {A : Type ℓ} (p q : A → Bool) (xs : List A) → keep q (keep p xs) ≡ keep (λ x. p x && q x) xs
-unfolding keep
-keep-both p q [] = refl
-keep-both p q (x ∷ xs) = go (p x) refl (keep-both p q xs)
-  where
-    go : (b : Bool) → p x ≡ b → keep q (keep p xs) ≡ keep (λ y. p y && q y) xs → keep q (keep p (x ∷ xs)) ≡ keep (λ y. p y && q y) (x ∷ xs)
-    go true e h = rw (e, h)
-    go false e h = rw (e, h)
-
-keep-numbered {ℓ} : {A : Type ℓ} (P : A → Type 0) (number : A → ℕ) (p : ℕ → Bool) (q : A → Bool) → ((x : A) → P x → p (number x) ≡ q x)
-    → (xs : List A) → All P xs → keep p (map number xs) ≡ map number (keep q xs)
-unfolding keep
-keep-numbered P number p q is [] h = refl
-keep-numbered P number p q is (x ∷ xs) h = go (q x) refl (keep-numbered P number p q is xs (h .1))
-  where
-    go : (b : Bool) → q x ≡ b → keep p (map number xs) ≡ map number (keep q xs) → keep p (number x ∷ map number xs) ≡ map number (keep q (x ∷ xs))
-    go true e k = rw (is x (h .0), e, k)
-    go false e k = rw (is x (h .0), e, k)
+filter-and {ℓ} : {A : Type ℓ} (p q : A → Bool) (xs : List A) → filter q (filter p xs) ≡ filter (λ x. p x && q x) xs
+filter-and p q xs = filter-both p q (λ x. p x && q x) xs (all-every (λ x. choose (p x) (q x) false ≡ (p x && q x)) (λ x. chosen-both (p x) (q x)) xs)
 
 flat-single {ℓ κ} : {A : Type ℓ} {B : Type κ} (f : A → B) (xs : List A) → flatMap (λ x. f x ∷ []) xs ≡ map f xs
 unfolding flatMap
 flat-single f [] = refl
 flat-single f (x ∷ xs) = ap (λ (l : List _). f x ∷ l) (flat-single f xs)
 
-flat-one {ℓ κ} : {A : Type ℓ} {B : Type κ} (P : A → Type 0) (f : A → List B) (g : A → B) → ((x : A) → P x → f x ≡ g x ∷ []) → (xs : List A) → All P xs → flatMap f xs ≡ map g xs
+flat-one {ℓ κ} : {A : Type ℓ} {B : Type κ} (P : A → Type 0) (f : A → List B) (g : A → B) → ((x : A) → P x → f x ≡ g x ∷ []) → (xs : List A) → All P xs →
+    flatMap f xs ≡ map g xs
 unfolding flatMap
 flat-one P f g is [] h = refl
 flat-one P f g is (x ∷ xs) h = λ i. is x (h .0) i ++ flat-one P f g is xs (h .1) i
-
-all-of {ℓ} : {A : Type ℓ} (P Q : A → Type 0) → ((x : A) → Q x → P x) → (xs : List A) → All Q xs → All P xs
-all-of P Q f [] h = tt
-all-of P Q f (x ∷ xs) h = (f x (h .0), all-of P Q f xs (h .1))
 
 any-inside {ℓ} : {A : Type ℓ} (p : A → Bool) (xs : List A) (x : A) (ys : List A) → p x ≡ true → any p (xs ++ (x ∷ ys)) ≡ true
 unfolding any
@@ -102,14 +81,14 @@ module _ (P : Heading → Type 0) where
       go true s = s
       go false s = record { one = c; is = refl; holds = p }
 
-  pub stands-kept : (p : Heading → Bool) (ds : List Heading) → any p ds ≡ true → All P (keep p ds) → Stands (standing none (keep p ds))
-  unfolding any keep standing
+  pub stands-kept : (p : Heading → Bool) (ds : List Heading) → any p ds ≡ true → All P (filter p ds) → Stands (standing none (filter p ds))
+  unfolding any filter standing
   stands-kept p [] e h = absurd (let q : false ≡ true = e in let z : _≡_ {A = ℕ} 0 1 = cc in omega arith)
   stands-kept p (d ∷ ds) e h = go (p d) refl (stands-kept p ds)
     where
-      go : (b : Bool) → p d ≡ b → (any p ds ≡ true → All P (keep p ds) → Stands (standing none (keep p ds))) → Stands (standing none (keep p (d ∷ ds)))
-      go true q k = let l = keep-yes p d ds q in rw l (let a : All P (d ∷ keep p ds) = rw l at h in some-stands d (keep p ds) (a .0) (a .1))
-      go false q k = let l = keep-no p d ds q in rw l (k (rw q at e) (rw l at h))
+      go : (b : Bool) → p d ≡ b → (any p ds ≡ true → All P (filter p ds) → Stands (standing none (filter p ds))) → Stands (standing none (filter p (d ∷ ds)))
+      go true q k = let l = filter-yes p d ds q in rw l (let a : All P (d ∷ filter p ds) = rw l at h in some-stands d (filter p ds) (a .0) (a .1))
+      go false q k = let l = filter-no p d ds q in rw l (k (rw q at e) (rw l at h))
 
 module _ (b : ℕ → Bool) (number : Heading → ℕ) where
   pub standing-number : (c : Heading) (ds : List Heading) → c .builtIn ≡ true → All (λ h. b (number h) ≡ h .builtIn) ds
@@ -119,16 +98,19 @@ module _ (b : ℕ → Bool) (number : Heading → ℕ) where
   standing-number c (d ∷ ds) e h = go (d .builtIn) refl (λ q. standing-number d ds q (h .1))
     where
       go : (a : Bool) → d .builtIn ≡ a → (d .builtIn ≡ true → found (standing (some d) ds) number absent ≡ standingCard b (number d) (map number ds))
-          → found (choose (c .builtIn) (standing (some d) ds) (some c)) number absent ≡ choose (b (number d)) (standingCard b (number d) (map number ds)) (number d)
+          → found (choose (c .builtIn) (standing (some d) ds) (some c)) number absent
+          ≡ choose (b (number d)) (standingCard b (number d) (map number ds)) (number d)
       go true q k = let t : b (number d) ≡ true = h .0 ∙ q in rw (e, t) (k q)
       go false q k = let t : b (number d) ≡ false = h .0 ∙ q in rw (e, t) (ap (λ (o : Option Heading). found o number absent) (standing-stays d ds q))
 
-  pub standing-numbers : (ds : List Heading) → All (λ h. b (number h) ≡ h .builtIn) ds → found (standing none ds) number absent ≡ standingCard b absent (map number ds)
+  pub standing-numbers : (ds : List Heading) → All (λ h. b (number h) ≡ h .builtIn) ds →
+      found (standing none ds) number absent ≡ standingCard b absent (map number ds)
   unfolding standing standingCard
   standing-numbers [] h = refl
   standing-numbers (d ∷ ds) h = go (d .builtIn) refl
     where
-      go : (a : Bool) → d .builtIn ≡ a → found (standing (some d) ds) number absent ≡ choose (b (number d)) (standingCard b (number d) (map number ds)) (number d)
+      go : (a : Bool) → d .builtIn ≡ a → found (standing (some d) ds) number absent
+          ≡ choose (b (number d)) (standingCard b (number d) (map number ds)) (number d)
       go true q = let t : b (number d) ≡ true = h .0 ∙ q in rw t (standing-number d ds q (h .1))
       go false q = let t : b (number d) ≡ false = h .0 ∙ q in rw t (ap (λ (o : Option Heading). found o number absent) (standing-stays d ds q))
 
@@ -136,9 +118,9 @@ module _ (b : ℕ → Bool) (number : Heading → ℕ) where
 
 module _ (text words : List ℕ) (hs : List Heading) (all : All (At text words) hs) where
   -- those of a name
-  named-directives : (n : List ℕ) → keep (isNamed n) (directives hs) ≡ keep (isOf 3 n) hs
+  named-directives : (n : List ℕ) → filter (isNamed n) (directives hs) ≡ filter (isOf 3 n) hs
   unfolding directives isOf
-  named-directives n = keep-both (isKind 3) (isNamed n) hs
+  named-directives n = filter-and (isKind 3) (isNamed n) hs
 
   of-name : (h : Heading) → At text words h → (g : Heading) → At text words g → namesDirective text words (h .number) (g .number) ≡ isOf 3 (h .name) g
   unfolding namesDirective
@@ -148,14 +130,15 @@ module _ (text words : List ℕ) (hs : List Heading) (all : All (At text words) 
   at-built-in h a = sym (ap (λ (g : Heading). g .builtIn) (a .2))
 
   all-built-in : (gs : List Heading) → All (At text words) gs → All (λ h. builtInAt words (h .number) ≡ h .builtIn) gs
-  all-built-in [] h = tt
-  all-built-in (g ∷ gs) h = (at-built-in g (h .0), all-built-in gs (h .1))
+  all-built-in gs h = all-to (At text words) (λ h. builtInAt words (h .number) ≡ h .builtIn) at-built-in gs h
 
   pub standing-is : (h : Heading) → At text words h → standingAt text words (map headingNumber hs) (h .number) ≡ numberOf (directiveNamed (h .name) hs)
   unfolding standingAt directiveNamed numberOf headingNumber
   standing-is h a =
-      ap (standingCard (builtInAt words) absent) (keep-numbered (At text words) (λ (g : Heading). g .number) (namesDirective text words (h .number)) (isOf 3 (h .name)) (of-name h a) hs all)
-      ∙ sym (standing-numbers (builtInAt words) (λ (g : Heading). g .number) (keep (isOf 3 (h .name)) hs) (all-built-in (keep (isOf 3 (h .name)) hs) (all-keep (isOf 3 (h .name)) (At text words) hs all)))
+      ap (standingCard (builtInAt words) absent) (filter-map (λ (g : Heading). g .number) (isOf 3 (h .name)) (namesDirective text words (h .number)) hs
+      (all-to (At text words) (λ g. namesDirective text words (h .number) (g .number) ≡ isOf 3 (h .name) g) (of-name h a) hs all))
+      ∙ sym (standing-numbers (builtInAt words) (λ (g : Heading). g .number) (filter (isOf 3 (h .name)) hs)
+      (all-built-in (filter (isOf 3 (h .name)) hs) (all-filter (At text words) (isOf 3 (h .name)) hs all)))
       ∙ ap (λ (l : List Heading). found (standing none l) (λ (g : Heading). g .number) absent) (sym (named-directives (h .name)))
 
   -- ---- Where one of a name is, one stands.
@@ -168,7 +151,8 @@ module _ (text words : List ℕ) (hs : List Heading) (all : All (At text words) 
 
   named-stands : (n : List ℕ) → any (isNamed n) (directives hs) ≡ true → Stands (λ g. At text words g × (isNamed n g ≡ true)) (directiveNamed n hs)
   unfolding directiveNamed directives
-  named-stands n e = stands-kept (λ g. At text words g × (isNamed n g ≡ true)) (isNamed n) (keep (isKind 3) hs) e (keep-passes (At text words) (isNamed n) (keep (isKind 3) hs) (all-keep (isKind 3) (At text words) hs all))
+  named-stands n e = stands-kept (λ g. At text words g × (isNamed n g ≡ true)) (isNamed n) (filter (isKind 3) hs) e
+      (filter-passes (At text words) (isNamed n) (filter (isKind 3) hs) (all-filter (At text words) (isKind 3) hs all))
 
   directive-at : (h : Heading) → any (isNamed (h .name)) (directives hs) ≡ true → DirectiveAt h
   unfolding isNamed
@@ -182,7 +166,7 @@ module _ (text words : List ℕ) (hs : List Heading) (all : All (At text words) 
       }
 
   all-directives : All DirectiveAt (directives hs)
-  all-directives = all-of DirectiveAt (λ h. any (isNamed (h .name)) (directives hs) ≡ true) directive-at (directives hs) (all-members [] (directives hs))
+  all-directives = all-to (λ h. any (isNamed (h .name)) (directives hs) ≡ true) DirectiveAt directive-at (directives hs) (all-members [] (directives hs))
 
   -- ---- The rows, one for each.
 
@@ -193,29 +177,31 @@ module _ (text words : List ℕ) (hs : List Heading) (all : All (At text words) 
   unfolding directiveRowAt directiveRow numberOf rowOf
   row-is h d = rw (d .is)
 
-  rows-alike : (g h : Heading) → DirectiveAt g → DirectiveAt h → sameNamed g h ≡ alikeRows (sameStored text words) (rowOf g) (rowOf h)
+  rows-alike : (g h : Heading) → DirectiveAt g → DirectiveAt h → alikeRows (sameStored text words) (rowOf g) (rowOf h) ≡ sameNamed g h
   unfolding sameNamed isNamed alikeRows rowOf numberOf isRoot
   rows-alike g h d f =
-      sym (rw (d .is, f .is) (same-names text words (d .one .number) (f .one .number) (d .stored) (f .stored) ∙ λ i. sameName (d .named i) (f .named i)))
+      rw (d .is, f .is) (same-names text words (d .one .number) (f .one .number) (d .stored) (f .stored) ∙ λ i. sameName (d .named i) (f .named i))
 
   row-at-card : (h : Heading) → At text words h → directiveRowsOf text words (map headingNumber hs) (h .number) ≡ choose (isKind 3 h) (rowOf h ∷ []) []
   unfolding directiveRowsOf isKind rowOf
   row-at-card h a = λ i. choose (eqb (at-kind text words h a i) 3) (row 3 (standing-is h a i) absent ∷ []) []
 
-  directives-are : keep (isKind 3) hs ≡ directives hs
+  directives-are : filter (isKind 3) hs ≡ directives hs
   unfolding directives
   directives-are = refl
 
-  directives-all : All DirectiveAt (keep (isKind 3) hs)
+  directives-all : All DirectiveAt (filter (isKind 3) hs)
   directives-all = rw directives-are all-directives
 
   pub directives-rows : directiveRowsAt text words (map headingNumber hs) ≡ directiveRows hs
   unfolding directiveRowsAt directiveRows headingNumber
   directives-rows =
       ap (firsts (alikeRows (sameStored text words)) []) (
-      flat-picked (At text words) (isKind 3) (λ (h : Heading). h .number) (directiveRowsOf text words (map headingNumber hs)) (λ h. rowOf h ∷ []) row-at-card hs all
-      ∙ flat-single rowOf (keep (isKind 3) hs)
+      flat-picked (At text words) (isKind 3) (λ (h : Heading). h .number) (directiveRowsOf text words (map headingNumber hs))
+      (λ h. rowOf h ∷ []) row-at-card hs all
+      ∙ flat-single rowOf (filter (isKind 3) hs)
       )
-      ∙ sym (firsts-map rowOf sameNamed (alikeRows (sameStored text words)) DirectiveAt rows-alike [] (keep (isKind 3) hs) tt (directives-all))
-      ∙ sym (flat-one DirectiveAt (directiveRowAt hs) rowOf row-is (firsts sameNamed [] (keep (isKind 3) hs)) (all-firsts DirectiveAt sameNamed [] (keep (isKind 3) hs) directives-all))
+      ∙ firsts-map rowOf sameNamed (alikeRows (sameStored text words)) DirectiveAt rows-alike [] (filter (isKind 3) hs) tt directives-all
+      ∙ sym (flat-one DirectiveAt (directiveRowAt hs) rowOf row-is (firsts sameNamed [] (filter (isKind 3) hs))
+      (all-firsts DirectiveAt sameNamed [] (filter (isKind 3) hs) directives-all))
       ∙ ap (λ (l : List Heading). flatMap (directiveRowAt hs) (firsts sameNamed [] l)) directives-are

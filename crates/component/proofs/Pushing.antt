@@ -10,15 +10,8 @@ use lib.Seq.{take-all, sets-eq, take-length, length-take-le, take-at, drop-at, d
 use Rattle.definition.specs.Lists.{flatMap, written}
 use Rattle.definition.specs.Catalogue.{Row, row}
 use Rattle.definition.specs.Outcomes.{wordsOfRow}
-use Rattle.component.specs.Pushed.{Filled, filled, pushed, rowAt, rowsFrom, usedFrom}
-
--- ---- Joined lists.
-
-module _ {ℓ κ} {A : Type ℓ} {B : Type κ} (f : A → List B) where
-  pub flat-append : (xs ys : List A) → flatMap f (xs ++ ys) ≡ flatMap f xs ++ flatMap f ys
-  unfolding flatMap
-  flat-append [] ys = refl
-  flat-append (x ∷ xs) ys = ap (λ (l : List B). f x ++ l) (flat-append xs ys) ∙ sym (append-assoc (f x) (flatMap f xs) (flatMap f ys))
+use Rattle.definition.proofs.Lists.{flatMap-nil, flatMap-cons, flatMap-append}
+use Rattle.component.specs.Pushed.{Filled, filled, Fits, pushed, rowIn, rowsFrom, usedFrom}
 
 pub length-words : (rs : List Row) → length (flatMap wordsOfRow rs) ≡ 3 * length rs
 unfolding flatMap wordsOfRow
@@ -41,7 +34,9 @@ module _ (xs : List ℕ) where
     head-length h = length-append (take i xs) ys ∙ ap (λ (n : ℕ). n + length ys) (length-take-le i xs h)
 
     pub length-written : i + length ys ≤ length xs → length (written xs i ys) ≡ length xs
-    length-written h = ap length (written-is xs i ys) ∙ length-append (take i xs ++ ys) _ ∙ ap (λ (n : ℕ). n + length (drop (i + length ys) xs)) (head-length (omega arith)) ∙ ap (λ (n : ℕ). i + length ys + n) (length-drop (i + length ys) xs) ∙ omega arith
+    length-written h = ap length (written-is xs i ys) ∙ length-append (take i xs ++ ys) _
+        ∙ ap (λ (n : ℕ). n + length (drop (i + length ys) xs)) (head-length (omega arith))
+        ∙ ap (λ (n : ℕ). i + length ys + n) (length-drop (i + length ys) xs) ∙ omega arith
 
     take-written : i ≤ length xs → take (i + length ys) (written xs i ys) ≡ take i xs ++ ys
     take-written h = ap (take (i + length ys)) (written-is xs i ys) ∙ take-at (take i xs ++ ys) _ (i + length ys) (head-length h)
@@ -105,38 +100,40 @@ module _ (s : Filled) where
         λ j. record {
           rows = (ap (λ (m : ℕ). written (written (s .rows) (3 * s .used) (flatMap wordsOfRow rs)) m (flatMap wordsOfRow qs)) e
               ∙ written-append (s .rows) (3 * s .used) (flatMap wordsOfRow rs) (flatMap wordsOfRow qs) (omega arith)
-              ∙ ap (written (s .rows) (3 * s .used)) (sym (flat-append wordsOfRow rs qs))) j;
+              ∙ ap (written (s .rows) (3 * s .used)) (sym (flatMap-append wordsOfRow rs qs))) j;
           used = u j;
         }
 
 -- ---- Which rows stand from a place on.
 
 -- a row more at the end
-rows-more : (ws : List ℕ) (i n : ℕ) → rowsFrom ws i (suc n) ≡ rowsFrom ws i n ++ (rowAt ws (i + n) ∷ [])
+rows-more : (ws : List ℕ) (i n : ℕ) → rowsFrom ws i (suc n) ≡ rowsFrom ws i n ++ (rowIn ws (i + n) ∷ [])
 unfolding rowsFrom
-rows-more ws i zero = let e : i ≡ i + 0 = omega arith in ap (λ (m : ℕ). rowAt ws m ∷ []) e
+rows-more ws i zero = let e : i ≡ i + 0 = omega arith in ap (λ (m : ℕ). rowIn ws m ∷ []) e
 rows-more ws i (suc n) =
     let e : i + 1 + n ≡ i + suc n = omega arith in
-    ap (λ (l : List Row). rowAt ws i ∷ l) (rows-more ws (i + 1) n ∙ ap (λ (m : ℕ). rowsFrom ws (i + 1) n ++ (rowAt ws m ∷ [])) e)
+    ap (λ (l : List Row). rowIn ws i ∷ l) (rows-more ws (i + 1) n ∙ ap (λ (m : ℕ). rowsFrom ws (i + 1) n ++ (rowIn ws m ∷ [])) e)
 
-module _ (ws : List ℕ) (u : ℕ) (ys : List ℕ) (room : 3 * u ≤ length ws) where
-  row-stays : (i : ℕ) → i < u → rowAt (written ws (3 * u) ys) i ≡ rowAt ws i
-  unfolding rowAt
+module _ (ws : List ℕ) (u : ℕ) (ys : List ℕ) (capacity : 3 * u ≤ length ws) where
+  row-stays : (i : ℕ) → i < u → rowIn (written ws (3 * u) ys) i ≡ rowIn ws i
+  unfolding rowIn
   row-stays i h = λ j. record {
-    what = getD-before ws (3 * u) ys (3 * i) (omega arith) room j;
-    card = getD-before ws (3 * u) ys (3 * i + 1) (omega arith) room j;
-    origin = getD-before ws (3 * u) ys (3 * i + 2) (omega arith) room j;
+    what = getD-before ws (3 * u) ys (3 * i) (omega arith) capacity j;
+    card = getD-before ws (3 * u) ys (3 * i + 1) (omega arith) capacity j;
+    origin = getD-before ws (3 * u) ys (3 * i + 2) (omega arith) capacity j;
   }
 
   rows-stay : (i n : ℕ) → i + n ≤ u → rowsFrom (written ws (3 * u) ys) i n ≡ rowsFrom ws i n
   unfolding rowsFrom
   rows-stay i zero h = refl
-  rows-stay i (suc n) h = ap (λ (r : Row). r ∷ rowsFrom (written ws (3 * u) ys) (i + 1) n) (row-stays i (omega arith)) ∙ ap (λ (l : List Row). rowAt ws i ∷ l) (rows-stay (i + 1) n (omega arith))
+  rows-stay i (suc n) h = ap (λ (r : Row). r ∷ rowsFrom (written ws (3 * u) ys) (i + 1) n) (row-stays i (omega arith))
+      ∙ ap (λ (l : List Row). rowIn ws i ∷ l) (rows-stay (i + 1) n (omega arith))
 
-row-written : (ws : List ℕ) (u : ℕ) (r : Row) → 3 * u ≤ length ws → rowAt (written ws (3 * u) (wordsOfRow r)) u ≡ r
-unfolding rowAt wordsOfRow
+row-written : (ws : List ℕ) (u : ℕ) (r : Row) → 3 * u ≤ length ws → rowIn (written ws (3 * u) (wordsOfRow r)) u ≡ r
+unfolding rowIn wordsOfRow
 row-written ws u r h = λ j. record {
-  what = (let e : 3 * u ≡ 3 * u + 0 = omega arith in ap (λ (m : ℕ). getD (written ws (3 * u) (wordsOfRow r)) m 0) e ∙ getD-inside ws (3 * u) (wordsOfRow r) 0 (omega arith) h) j;
+  what = (let e : 3 * u ≡ 3 * u + 0 = omega arith in ap (λ (m : ℕ). getD (written ws (3 * u) (wordsOfRow r)) m 0) e
+      ∙ getD-inside ws (3 * u) (wordsOfRow r) 0 (omega arith) h) j;
   card = getD-inside ws (3 * u) (wordsOfRow r) 1 (omega arith) h j;
   origin = getD-inside ws (3 * u) (wordsOfRow r) 2 (omega arith) h j;
 }
@@ -148,30 +145,35 @@ module _ (start : ℕ) where
 
   used-one : (s : Filled) (r : Row) → start ≤ s .used → 3 * (s .used + 1) ≤ length (s .rows) → usedFrom start (pushed (r ∷ []) s) ≡ usedFrom start s ++ (r ∷ [])
   unfolding usedFrom pushed flatMap
-  used-one s r h room =
+  used-one s r h capacity =
       let n : s .used + 1 - start ≡ suc (s .used - start) = omega arith in
       let m : start + (s .used - start) ≡ s .used = omega arith in
       let ws = written (s .rows) (3 * s .used) (wordsOfRow r ++ []) in
       ap (rowsFrom ws start) n
       ∙ rows-more ws start (s .used - start)
-      ∙ ap (λ (l : List Row). l ++ (rowAt ws (start + (s .used - start)) ∷ [])) (rows-stay (s .rows) (s .used) (wordsOfRow r ++ []) (omega arith) start (s .used - start) (omega arith))
-      ∙ ap (λ (x : Row). rowsFrom (s .rows) start (s .used - start) ++ (x ∷ [])) (ap (rowAt ws) m ∙ ap (λ (l : List ℕ). rowAt (written (s .rows) (3 * s .used) l) (s .used)) (append-nil (wordsOfRow r)) ∙ row-written (s .rows) (s .used) r (omega arith))
+      ∙ ap (λ (l : List Row). l ++ (rowIn ws (start + (s .used - start)) ∷ []))
+      (rows-stay (s .rows) (s .used) (wordsOfRow r ++ []) (omega arith) start (s .used - start) (omega arith))
+      ∙ ap (λ (x : Row). rowsFrom (s .rows) start (s .used - start) ++ (x ∷ []))
+      (ap (rowIn ws) m ∙ ap (λ (l : List ℕ). rowIn (written (s .rows) (3 * s .used) l) (s .used)) (append-nil (wordsOfRow r))
+      ∙ row-written (s .rows) (s .used) r (omega arith))
 
   one-used : (s : Filled) (r : Row) → start ≤ s .used → start ≤ pushed (r ∷ []) s .used
   unfolding pushed
   one-used s r h = omega arith
 
-  one-room : (s : Filled) (r : Row) (rs : List Row) → 3 * (s .used + length (r ∷ rs)) ≤ length (s .rows) → length (pushed (r ∷ []) s .rows) ≡ length (s .rows) → 3 * (pushed (r ∷ []) s .used + length rs) ≤ length (pushed (r ∷ []) s .rows)
+  one-capacity : (s : Filled) (r : Row) (rs : List Row) → 3 * (s .used + length (r ∷ rs)) ≤ length (s .rows) →
+      length (pushed (r ∷ []) s .rows) ≡ length (s .rows) → 3 * (pushed (r ∷ []) s .used + length rs) ≤ length (pushed (r ∷ []) s .rows)
   unfolding pushed
-  one-room s r rs room n = omega arith
+  one-capacity s r rs capacity n = omega arith
 
-  pub used-pushed : (rs : List Row) (s : Filled) → start ≤ s .used → 3 * (s .used + length rs) ≤ length (s .rows) → usedFrom start (pushed rs s) ≡ usedFrom start s ++ rs
-  used-pushed [] s h room = ap (usedFrom start) (pushed-none s) ∙ sym (append-nil (usedFrom start s))
-  used-pushed (r ∷ rs) s h room =
+  pub used-pushed : (rs : List Row) (s : Filled) → start ≤ s .used → 3 * (s .used + length rs) ≤ length (s .rows) →
+      usedFrom start (pushed rs s) ≡ usedFrom start s ++ rs
+  used-pushed [] s h capacity = ap (usedFrom start) (pushed-none s) ∙ sym (append-nil (usedFrom start s))
+  used-pushed (r ∷ rs) s h capacity =
       let one = pushed (r ∷ []) s in
       let n : length (one .rows) ≡ length (s .rows) = length-pushed s (r ∷ []) (omega arith) in
       ap (usedFrom start) (sym (pushed-append s (r ∷ []) rs (omega arith)))
-      ∙ used-pushed rs one (one-used s r h) (one-room s r rs room n)
+      ∙ used-pushed rs one (one-used s r h) (one-capacity s r rs capacity n)
       ∙ ap (λ (l : List Row). l ++ rs) (used-one s r h (omega arith))
       ∙ append-assoc (usedFrom start s) (r ∷ []) rs
 
@@ -185,9 +187,11 @@ three-set l a b c h = sets-eq (a ∷ (b ∷ (c ∷ []))) l 0 h ∙ sym (written-
 tail-written : (a : ℕ) (l ws ys : List ℕ) → a ≤ length l → ys ≡ written (take (length l - a) (drop a l)) 0 ws → putMid a (length l - a) l ys ≡ written l a ws
 tail-written a l ws ys h e =
     let whole : take (length l - a) (drop a l) ≡ drop a l = take-all (length l - a) (drop a l) (simp length-drop (omega arith)) in
-    let back : putMid a (length l - a) l ys ≡ take a l ++ ys = rw (drop-of-length-le (drop a l) {i = length l - a} (simp length-drop (omega arith))) (ap (λ (x : List ℕ). take a l ++ x) (append-nil ys)) in
+    let back : putMid a (length l - a) l ys ≡ take a l ++ ys = rw (drop-of-length-le (drop a l) {i = length l - a} (simp length-drop (omega arith)))
+    (ap (λ (x : List ℕ). take a l ++ x) (append-nil ys)) in
     back
-    ∙ ap (λ (x : List ℕ). take a l ++ x) (e ∙ ap (λ (x : List ℕ). written x 0 ws) whole ∙ written-is (drop a l) 0 ws ∙ ap (λ (m : ℕ). ws ++ drop m (drop a l)) (zero-add (length ws)) ∙ ap (λ (x : List ℕ). ws ++ x) (drop-drop (length ws) a l))
+    ∙ ap (λ (x : List ℕ). take a l ++ x) (e ∙ ap (λ (x : List ℕ). written x 0 ws) whole ∙ written-is (drop a l) 0 ws
+    ∙ ap (λ (m : ℕ). ws ++ drop m (drop a l)) (zero-add (length ws)) ∙ ap (λ (x : List ℕ). ws ++ x) (drop-drop (length ws) a l))
     ∙ sym (append-assoc (take a l) ws (drop (a + length ws) l))
     ∙ sym (written-is l a ws)
 
@@ -197,81 +201,63 @@ unfolding pushed flatMap
 row-pushed l ys used r h e =
     λ j. filled ((tail-written (3 * used) l (wordsOfRow r) ys h e ∙ ap (written l (3 * used)) (sym (append-nil (wordsOfRow r)))) j) (used + 1)
 
-pub pushed-room : (rs : List Row) (s : Filled) (n : ℕ) → 3 * pushed rs s .used ≤ n → 3 * (s .used + length rs) ≤ n
+pub pushed-capacity : (rs : List Row) (s : Filled) (n : ℕ) → 3 * pushed rs s .used ≤ n → 3 * (s .used + length rs) ≤ n
 unfolding pushed
-pushed-room rs s n h = h
+pushed-capacity rs s n h = h
 
--- ---- A walk: what is left is one list and then the rest; `goal` is what the whole walk comes to.
+-- ---- A walk: the rows `left` are left to push; `goal` is what the whole walk comes to.
 
-module _ (rs qs left : List Row) (s goal : Filled) (cut : left ≡ rs ++ qs) (whole : pushed left s ≡ goal) where
-  pub push-room : (n : ℕ) → 3 * goal .used ≤ n → 3 * pushed rs s .used ≤ n
-  unfolding pushed
-  push-room n h =
-      let u = ap (λ (l : List Row). pushed l s .used) (sym cut) ∙ ap (λ (t : Filled). t .used) whole in
-      let m = length-append rs qs in
-      omega arith
-
-  pub push-next : (t : Filled) → t ≡ pushed rs s → 3 * goal .used ≤ length (s .rows) → pushed qs t ≡ goal
-  push-next t e room =
-      ap (pushed qs) e ∙ pushed-append s rs qs (pushed-room rs s (length (s .rows)) (push-room (length (s .rows)) room)) ∙ ap (λ (l : List Row). pushed l s) (sym cut) ∙ whole
-
-pub push-end : (left : List Row) (s goal : Filled) → left ≡ [] → pushed left s ≡ goal → s ≡ goal
-push-end left s goal e whole = sym (pushed-none s) ∙ ap (λ (l : List Row). pushed l s) (sym e) ∙ whole
-
--- The same over a list of numbers, of each of which f makes the rows to push.
-pub record Left (f : ℕ → List Row) (ks : List ℕ) (s goal : Filled) : Type 0 where
-  pub whole : pushed (flatMap f ks) s ≡ goal
-  pub room : 3 * goal .used ≤ length (s .rows)
-
-module _ (f : ℕ → List Row) (s goal : Filled) where
-  pub left-begin : (ks : List ℕ) → pushed (flatMap f ks) s ≡ goal → 3 * goal .used ≤ length (s .rows) → Left f ks s goal
-  left-begin ks w r = record { whole = w; room = r }
-
-  module _ (ks : List ℕ) (left : Left f ks s goal) where
-    pub left-end : ks ≡ [] → s ≡ goal
-    unfolding flatMap
-    left-end e = push-end (flatMap f ks) s goal (ap (flatMap f) e) (left .whole)
-
-    module _ (k : ℕ) (qs : List ℕ) (cut : ks ≡ k ∷ qs) where
-      cut-flat : flatMap f ks ≡ f k ++ flatMap f qs
-      unfolding flatMap
-      cut-flat = ap (flatMap f) cut
-
-      pub left-room : 3 * pushed (f k) s .used ≤ length (s .rows)
-      left-room = push-room (f k) (flatMap f qs) (flatMap f ks) s goal cut-flat (left .whole) (length (s .rows)) (left .room)
-
-      pub left-next : (t : Filled) → t ≡ pushed (f k) s → Left f qs t goal
-      left-next t e =
-          let n : length (t .rows) ≡ length (s .rows) = ap (λ (u : Filled). length (u .rows)) e ∙ length-pushed s (f k) (pushed-room (f k) s (length (s .rows)) left-room) in
-          let r = left .room in
-          record {
-            whole = push-next (f k) (flatMap f qs) (flatMap f ks) s goal cut-flat (left .whole) t e (left .room);
-            room = omega arith;
-          }
-
--- And over plain lists.
 pub record Rest (left : List Row) (s goal : Filled) : Type 0 where
   pub whole : pushed left s ≡ goal
-  pub room : 3 * goal .used ≤ length (s .rows)
+  pub capacity : Fits (s .rows) goal
 
 module _ (left : List Row) (s goal : Filled) where
-  pub rest-begin : pushed left s ≡ goal → 3 * goal .used ≤ length (s .rows) → Rest left s goal
-  rest-begin w r = record { whole = w; room = r }
+  pub rest-begin : pushed left s ≡ goal → Fits (s .rows) goal → Rest left s goal
+  rest-begin w r = record { whole = w; capacity = r }
 
   module _ (rest : Rest left s goal) where
     pub rest-end : left ≡ [] → s ≡ goal
-    rest-end e = push-end left s goal e (rest .whole)
+    rest-end e = sym (pushed-none s) ∙ ap (λ (l : List Row). pushed l s) (sym e) ∙ rest .whole
 
     -- all that is left at once
-    pub rest-fits : 3 * pushed left s .used ≤ length (s .rows)
-    rest-fits = let u = ap (λ (t : Filled). t .used) (rest .whole) in let r = rest .room in omega arith
+    pub rest-fits : Fits (s .rows) (pushed left s)
+    rest-fits = let u = ap (λ (t : Filled). t .used) (rest .whole) in let r = rest .capacity in omega arith
 
+    -- one list, and then the others
     module _ (rs qs : List Row) (cut : left ≡ rs ++ qs) where
-      pub rest-room : 3 * pushed rs s .used ≤ length (s .rows)
-      rest-room = push-room rs qs left s goal cut (rest .whole) (length (s .rows)) (rest .room)
+      pub rest-capacity : Fits (s .rows) (pushed rs s)
+      unfolding pushed
+      rest-capacity =
+          let u = ap (λ (l : List Row). pushed l s .used) (sym cut) ∙ ap (λ (t : Filled). t .used) (rest .whole) in
+          let m = length-append rs qs in
+          let r = rest .capacity in
+          omega arith
 
       pub rest-next : (t : Filled) → t ≡ pushed rs s → Rest qs t goal
       rest-next t e =
-          let n : length (t .rows) ≡ length (s .rows) = ap (λ (u : Filled). length (u .rows)) e ∙ length-pushed s rs (pushed-room rs s (length (s .rows)) rest-room) in
-          let r = rest .room in
-          record { whole = push-next rs qs left s goal cut (rest .whole) t e (rest .room); room = omega arith }
+          let fits = pushed-capacity rs s (length (s .rows)) rest-capacity in
+          let n : length (t .rows) ≡ length (s .rows) = ap (λ (u : Filled). length (u .rows)) e ∙ length-pushed s rs fits in
+          let r = rest .capacity in
+          record {
+            whole = ap (pushed qs) e ∙ pushed-append s rs qs fits ∙ ap (λ (l : List Row). pushed l s) (sym cut) ∙ rest .whole;
+            capacity = omega arith;
+          }
+
+-- The same over a list of numbers, of each of which f makes the rows to push.
+abbrev pub Left : (ℕ → List Row) → List ℕ → Filled → Filled → Type 0
+Left f ks s goal = Rest (flatMap f ks) s goal
+
+module _ (f : ℕ → List Row) (s goal : Filled) where
+  pub left-begin : (ks : List ℕ) → pushed (flatMap f ks) s ≡ goal → Fits (s .rows) goal → Left f ks s goal
+  left-begin ks w r = rest-begin (flatMap f ks) s goal w r
+
+  module _ (ks : List ℕ) (left : Left f ks s goal) where
+    pub left-end : ks ≡ [] → s ≡ goal
+    left-end e = rest-end (flatMap f ks) s goal left (ap (flatMap f) e ∙ flatMap-nil f)
+
+    module _ (k : ℕ) (qs : List ℕ) (cut : ks ≡ k ∷ qs) where
+      pub left-capacity : Fits (s .rows) (pushed (f k) s)
+      left-capacity = rest-capacity (flatMap f ks) s goal left (f k) (flatMap f qs) (ap (flatMap f) cut ∙ flatMap-cons f k qs)
+
+      pub left-next : (t : Filled) → t ≡ pushed (f k) s → Left f qs t goal
+      left-next t e = rest-next (flatMap f ks) s goal left (f k) (flatMap f qs) (ap (flatMap f) cut ∙ flatMap-cons f k qs) t e

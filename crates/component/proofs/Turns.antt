@@ -1,26 +1,29 @@
 -- One law for each way that a turn of a loop, or a branch, can go.
 use mathlib.Core.Path.{_≡_, refl, sym, ap, _∙_}
-use mathlib.Core.Bool.{Bool, true, false, _&&_, not}
+use mathlib.Core.Bool.{Bool, true, false, _&&_}
 use mathlib.Core.List.{List, [], _∷_, _++_, map}
 use Prim.Native.Nat.{ℕ, suc, _+_, _-_, _*_, _≤_, _<_}
 use native.Mathlib.Omega.{arith}
-use borrow.Author.Tests.{eq-eqb, ne-eqb, lt-ltb, le-ltb, le-leb, lt-leb}
+use borrow.Author.Tests.{eq-eqb, ne-eqb, lt-ltb, le-ltb}
 use lib.Dec.{eqb, leb}
-use lib.ListN.{length, getD, take, drop, length-take, drop-of-length-le}
-use lib.Seq.{drop-cons, length-take-le, getD-take}
-use Rattle.definition.specs.Lists.{keep, any, flatMap}
+use lib.ListN.{length, getD, drop}
+use Rattle.definition.specs.Lists.{filter, any, flatMap}
 use Rattle.definition.specs.Answers.{absent}
-use Rattle.definition.specs.Cards.{isRoot, isPart}
-use Rattle.definition.specs.Headings.{Part, isOf, isKind, isNamed}
-use Rattle.definition.specs.Catalogue.{component, components, Row, row, componentRow, isComponentOf}
+use Rattle.definition.specs.Cards.{isRoot, isPart, definitionOf}
+use Rattle.definition.specs.Headings.{NamedCard, isOf, isKind, isNamed}
+use Rattle.definition.specs.Catalogue.{component, components, Row, row, componentRow, isComponentOf, underType}
 use Rattle.definition.specs.Store.{cardsUsed}
-use Rattle.from_ast_index.specs.Index.{sameCards}
+use Rattle.definition.proofs.Lists.{filter-yes, filter-no}
+use Rattle.from_ast_index.specs.Index.{sameCards, isTypeExtensionKind}
+use Rattle.from_ast_index.proofs.Lists.{drop-next, drop-end}
 use Rattle.store_reader.specs.Stored.{cardKind, cardAt, builtInCount, builtInAt, partsFrom, storedParts}
 use Rattle.store_reader.proofs.Words.{parts-next, parts-stop, parts-end}
-use Rattle.component.specs.Pushed.{Filled, rowAt, rowsFrom, alikeRows, pushed, extended, rowsOfKind}
-use Rattle.component.specs.Drawn.{sameStored, headRows, extensionRowsAt, extensionRows, listRows, listAt, typeRowAt, standingCard, namesDirective, standingAt, directiveRowsOf, directiveRowsAt}
-use Rattle.component.proofs.Sticky.{extended-none, extended-fresh}
-use Rattle.component.proofs.Listed.{kind-append, keep-yes, keep-no}
+use Rattle.component.specs.Pushed.{Filled, Fits, rowIn, rowsFrom, alikeRows, pushed, extendSticky, rowsOfKind}
+use Rattle.component.specs.RowsByCards.{sameStored, headRows, extendByCard, extendByHeading, extensionRows, listRows, listAt, listsAt}
+use Rattle.component.specs.RowsByCards.{typeRowAt, standingCard, namesDirective, standingAt, directiveRowsOf, directiveRowsAt}
+use Rattle.component.proofs.Pushing.{Left, rest-begin}
+use Rattle.component.proofs.Sticky.{extended-none, Growing, Extending, grow-fresh, grow-begin, grow-end, grow-capacity, grow-next}
+use Rattle.component.proofs.Listed.{kind-append}
 
 -- ---- Two stored cards.
 
@@ -43,14 +46,6 @@ pub and-false : (b : Bool) → (b && false) ≡ false
 and-false true = refl
 and-false false = refl
 
-root-kind : (k : ℕ) → 26 ≤ k → k ≤ 28 → isRoot k ≡ true
-unfolding isRoot
-root-kind k h l = rw (le-leb 26 k h, le-leb k 28 l)
-
-not-root : (k : ℕ) → k < 26 → isRoot k ≡ false
-unfolding isRoot
-not-root k h = rw (lt-leb 26 k h)
-
 module _ (same : ℕ → ℕ → Bool) (kind card : ℕ) where
   use-unlike : (s : Row) → kind ≡ 20 → alikeRows same (row kind card 0) s ≡ false
   unfolding alikeRows isRoot
@@ -62,27 +57,27 @@ module _ (same : ℕ → ℕ → Bool) (kind card : ℕ) where
   listed-use (r ∷ rs) e = rw (use-unlike r e, listed-use rs e)
 
   module _ (ws : List ℕ) (used i : ℕ) where
-    next-row : i < used → rowsFrom ws i (used - i) ≡ rowAt ws i ∷ rowsFrom ws (i + 1) (used - (i + 1))
+    next-row : i < used → rowsFrom ws i (used - i) ≡ rowIn ws i ∷ rowsFrom ws (i + 1) (used - (i + 1))
     unfolding rowsFrom
     next-row h = let e : used - i ≡ suc (used - (i + 1)) = omega arith in rw e
 
-    pub listed-root : i < used → getD ws (3 * i) 0 ≡ kind → 26 ≤ kind → kind ≤ 28 → any (alikeRows same (row kind card 0)) (rowsFrom ws i (used - i)) ≡ true
-    unfolding any alikeRows rowAt
-    listed-root h e l m = rw (next-row h, e, eq-eqb kind kind refl, root-kind kind l m)
+    pub listed-root : i < used → getD ws (3 * i) 0 ≡ kind → isRoot kind ≡ true → any (alikeRows same (row kind card 0)) (rowsFrom ws i (used - i)) ≡ true
+    unfolding any alikeRows rowIn
+    listed-root h e l = rw (next-row h, e, eq-eqb kind kind refl, l)
 
-    pub listed-hit : i < used → getD ws (3 * i) 0 ≡ kind → kind < 26 → (kind ≡ 20 → ⊥) → same card (getD ws (3 * i + 1) 0) ≡ true
+    pub listed-hit : i < used → getD ws (3 * i) 0 ≡ kind → isRoot kind ≡ false → (kind ≡ 20 → ⊥) → same card (getD ws (3 * i + 1) 0) ≡ true
         → any (alikeRows same (row kind card 0)) (rowsFrom ws i (used - i)) ≡ true
-    unfolding any alikeRows rowAt
-    listed-hit h e l m s = rw (next-row h, e, eq-eqb kind kind refl, not-root kind l, ne-eqb kind 20 m, s)
+    unfolding any alikeRows rowIn
+    listed-hit h e l m s = rw (next-row h, e, eq-eqb kind kind refl, l, ne-eqb kind 20 m, s)
 
-    pub listed-miss : i < used → getD ws (3 * i) 0 ≡ kind → kind < 26 → (kind ≡ 20 → ⊥) → same card (getD ws (3 * i + 1) 0) ≡ false
+    pub listed-miss : i < used → getD ws (3 * i) 0 ≡ kind → isRoot kind ≡ false → (kind ≡ 20 → ⊥) → same card (getD ws (3 * i + 1) 0) ≡ false
         → any (alikeRows same (row kind card 0)) (rowsFrom ws i (used - i)) ≡ any (alikeRows same (row kind card 0)) (rowsFrom ws (i + 1) (used - (i + 1)))
-    unfolding any alikeRows rowAt
-    listed-miss h e l m s = rw (next-row h, e, eq-eqb kind kind refl, not-root kind l, ne-eqb kind 20 m, s)
+    unfolding any alikeRows rowIn
+    listed-miss h e l m s = rw (next-row h, e, eq-eqb kind kind refl, l, ne-eqb kind 20 m, s)
 
     pub listed-other : i < used → (getD ws (3 * i) 0 ≡ kind → ⊥)
         → any (alikeRows same (row kind card 0)) (rowsFrom ws i (used - i)) ≡ any (alikeRows same (row kind card 0)) (rowsFrom ws (i + 1) (used - (i + 1)))
-    unfolding any alikeRows rowAt
+    unfolding any alikeRows rowIn
     listed-other h e = rw (next-row h, ne-eqb kind (getD ws (3 * i) 0) (λ q. e (sym q)))
 
     pub listed-end : used ≤ i → any (alikeRows same (row kind card 0)) (rowsFrom ws i (used - i)) ≡ false
@@ -90,7 +85,8 @@ module _ (same : ℕ → ℕ → Bool) (kind card : ℕ) where
     listed-end h = let e : used - i ≡ 0 = omega arith in rw e
 
 -- the origin is not asked
-pub listed-origin : (same : ℕ → ℕ → Bool) (kind card origin : ℕ) (rs : List Row) → any (alikeRows same (row kind card 0)) rs ≡ any (alikeRows same (row kind card origin)) rs
+pub listed-origin : (same : ℕ → ℕ → Bool) (kind card origin : ℕ) (rs : List Row) →
+    any (alikeRows same (row kind card 0)) rs ≡ any (alikeRows same (row kind card origin)) rs
 unfolding alikeRows
 listed-origin same kind card origin rs = refl
 
@@ -110,95 +106,109 @@ module _ (text words : List ℕ) (origin k : ℕ) where
         → partRows text words origin k p ≡ rowsOfKind k (component origin (cardAt text words p) ∷ []) ++ partRows text words origin k (p + 1)
     unfolding partRows
     part-next h e =
-        ap (λ (l : List Part). rowsOfKind k (map (component origin) l)) (parts-next text words p h e)
+        ap (λ (l : List NamedCard). rowsOfKind k (map (component origin) l)) (parts-next text words p h e)
         ∙ kind-append k (component origin (cardAt text words p) ∷ []) (map (component origin) (partsFrom (storedParts text words) (p + 1)))
 
     pub part-stop : p < cardsUsed words → isPart (cardKind words p) ≡ false → partRows text words origin k p ≡ []
-    unfolding partRows rowsOfKind keep
-    part-stop h e = ap (λ (l : List Part). rowsOfKind k (map (component origin) l)) (parts-stop text words p h e)
+    unfolding partRows rowsOfKind filter
+    part-stop h e = ap (λ (l : List NamedCard). rowsOfKind k (map (component origin) l)) (parts-stop text words p h e)
 
     pub part-end : cardsUsed words ≤ p → partRows text words origin k p ≡ []
-    unfolding partRows rowsOfKind keep
-    part-end h = ap (λ (l : List Part). rowsOfKind k (map (component origin) l)) (parts-end text words p h)
+    unfolding partRows rowsOfKind filter
+    part-end h = ap (λ (l : List NamedCard). rowsOfKind k (map (component origin) l)) (parts-end text words p h)
 
     pub part-is : cardKind words p ≡ k → rowsOfKind k (component origin (cardAt text words p) ∷ []) ≡ row k p origin ∷ []
-    unfolding rowsOfKind keep isComponentOf component componentRow
+    unfolding rowsOfKind filter isComponentOf component componentRow
     part-is e = rw (eq-eqb (cardKind words p) k e, e)
 
     pub part-other : (cardKind words p ≡ k → ⊥) → rowsOfKind k (component origin (cardAt text words p) ∷ []) ≡ []
-    unfolding rowsOfKind keep isComponentOf component
+    unfolding rowsOfKind filter isComponentOf component
     part-other e = rw (ne-eqb (cardKind words p) k e)
 
     pub part-take : (start : ℕ) (s : Filled) → cardKind words p ≡ k
-        → extended (sameStored text words) start (rowsOfKind k (component origin (cardAt text words p) ∷ [])) s ≡ extended (sameStored text words) start (row k p origin ∷ []) s
-    part-take start s e = ap (λ (l : List Row). extended (sameStored text words) start l s) (part-is e)
+        → extendSticky (sameStored text words) start (rowsOfKind k (component origin (cardAt text words p) ∷ [])) s
+        ≡ extendSticky (sameStored text words) start (row k p origin ∷ []) s
+    part-take start s e = ap (λ (l : List Row). extendSticky (sameStored text words) start l s) (part-is e)
 
-    pub part-skip : (start : ℕ) (s : Filled) → (cardKind words p ≡ k → ⊥) → s ≡ extended (sameStored text words) start (rowsOfKind k (component origin (cardAt text words p) ∷ [])) s
-    part-skip start s e = sym (ap (λ (l : List Row). extended (sameStored text words) start l s) (part-other e) ∙ extended-none (sameStored text words) start s)
+    pub part-skip : (start : ℕ) (s : Filled) → (cardKind words p ≡ k → ⊥) →
+        s ≡ extendSticky (sameStored text words) start (rowsOfKind k (component origin (cardAt text words p) ∷ [])) s
+    part-skip start s e = sym (ap (λ (l : List Row). extendSticky (sameStored text words) start l s) (part-other e)
+        ∙ extended-none (sameStored text words) start s)
 
--- ---- The cards of an array, and what is made of each.
+-- ---- A walk over the parts under a heading: those from card p on are left.
 
-module _ (ns : List ℕ) (count i : ℕ) where
-  pub taken-next : i < count → count ≤ length ns → drop i (take count ns) ≡ getD ns i 0 ∷ drop (i + 1) (take count ns)
-  taken-next h k =
-      let n : length (take count ns) ≡ count = length-take-le count ns k in
-      drop-cons (take count ns) i 0 (omega arith)
-      ∙ (let e : suc i ≡ i + 1 = omega arith in λ j. getD-take count ns i 0 h j ∷ drop (e j) (take count ns))
+module _ (text words : List ℕ) (origin k start : ℕ) where
+  abbrev pub Under : ℕ → Filled → Filled → Type 0
+  Under p s goal = Growing (sameStored text words) start (partRows text words origin k p) s goal
 
-  pub taken-end : count ≤ i → drop i (take count ns) ≡ []
-  taken-end h = drop-of-length-le (take count ns) {i = i} (simp length-take (omega arith))
+  pub under-begin : (n : ℕ) (s : Filled) → start ≤ s .used → Fits (s .rows) (extendByHeading text words origin k n start s) →
+      Under (n + 1) s (extendByHeading text words origin k n start s)
+  under-begin n s b f =
+      let same = sameStored text words in
+      grow-begin same start (partRows text words origin k (n + 1)) s (extendByHeading text words origin k n start s)
+      (ap (λ (l : List Row). extendSticky same start l s) (sym (head-parts text words origin k n))) f b
+
+  module _ (p : ℕ) (s goal : Filled) (left : Under p s goal) where
+    pub under-stop : p < cardsUsed words → isPart (cardKind words p) ≡ false → s ≡ goal
+    under-stop h e = grow-end (sameStored text words) start (partRows text words origin k p) s goal left (part-stop text words origin k p h e)
+
+    pub under-end : cardsUsed words ≤ p → s ≡ goal
+    under-end h = grow-end (sameStored text words) start (partRows text words origin k p) s goal left (part-end text words origin k p h)
+
+    module _ (h : p < cardsUsed words) (e : isPart (cardKind words p) ≡ true) where
+      pub under-capacity : Fits (s .rows) (extendByCard text words origin k p start s)
+      under-capacity = grow-capacity (sameStored text words) start _ s goal left _ _ (part-next text words origin k p h e)
+
+      pub under-next : (t : Filled) → t ≡ extendByCard text words origin k p start s → Under (p + 1) t goal
+      under-next t is = grow-next (sameStored text words) start _ s goal left _ _ (part-next text words origin k p h e) t is
 
 -- nothing is added
-pub extended-nothing : (same : ℕ → ℕ → Bool) (start : ℕ) (rs : List Row) (s : Filled) → rs ≡ [] → s ≡ extended same start rs s
-extended-nothing same start rs s e = sym (ap (λ (l : List Row). extended same start l s) e ∙ extended-none same start s)
+pub extended-nothing : (same : ℕ → ℕ → Bool) (start : ℕ) (rs : List Row) (s : Filled) → rs ≡ [] → s ≡ extendSticky same start rs s
+extended-nothing same start rs s e = sym (ap (λ (l : List Row). extendSticky same start l s) e ∙ extended-none same start s)
 
 -- ---- A list of a type.
 
+-- The test of an extension's kind, asked of the kind that was read.
+pub type-extension-kind : (words : List ℕ) (card kind : ℕ) {b : Bool} → kind ≡ cardKind words card → b ≡ (leb 12 kind && leb kind 17) →
+    isTypeExtensionKind (cardKind words card) ≡ b
+unfolding isTypeExtensionKind
+type-extension-kind words card kind k q = sym (ap (λ (n : ℕ). leb 12 n && leb n 17) k) ∙ sym q
+
 module _ (text words ns : List ℕ) (card k : ℕ) where
-  pub list-adopted : 12 ≤ cardKind words card → listRows text words ns card k ≡ extensionRows text words k ns
+  pub list-adopted : isTypeExtensionKind (cardKind words card) ≡ true → listRows text words ns card k ≡ extensionRows text words k ns
   unfolding listRows
-  list-adopted h = rw (le-leb 12 (cardKind words card) h)
+  list-adopted h = rw h
 
-  pub list-defined : cardKind words card < 12 → listRows text words ns card k ≡ headRows text words absent k card ++ extensionRows text words k ns
+  pub list-defined : isTypeExtensionKind (cardKind words card) ≡ false →
+      listRows text words ns card k ≡ headRows text words absent k card ++ extensionRows text words k ns
   unfolding listRows
-  list-defined h = rw (lt-leb 12 (cardKind words card) h)
+  list-defined h = rw h
 
-  pub list-fresh : (s : Filled) → extended (sameStored text words) (s .used) (listRows text words ns card k) s ≡ pushed (listAt text words ns card k) s
+  pub list-begin : (s : Filled) → Fits (s .rows) (pushed (listAt text words ns card k) s) →
+      Growing (sameStored text words) (s .used) (listRows text words ns card k) s (pushed (listAt text words ns card k) s)
   unfolding listAt
-  list-fresh s = extended-fresh (sameStored text words) (s .used) (listRows text words ns card k) s refl
+  list-begin s f = grow-fresh (sameStored text words) (s .used) (listRows text words ns card k) s refl f
 
-  pub list-orphan : (s : Filled) → 12 ≤ cardKind words card
-      → extended (sameStored text words) (s .used) (extensionRows text words k ns) s ≡ pushed (listAt text words ns card k) s
-  list-orphan s h = ap (λ (l : List Row). extended (sameStored text words) (s .used) l s) (sym (list-adopted h)) ∙ list-fresh s
-
-module _ (text words : List ℕ) (k : ℕ) (ns : List ℕ) (i : ℕ) where
-  pub extensions-next : i < length ns
-      → extensionRows text words k (drop i ns) ≡ headRows text words (getD ns i 0) k (getD ns i 0) ++ extensionRows text words k (drop (i + 1) ns)
-  unfolding extensionRows extensionRowsAt flatMap
-  extensions-next h = let e : suc i ≡ i + 1 = omega arith in ap (extensionRows text words k) (drop-cons ns i 0 h ∙ ap (λ (j : ℕ). getD ns i 0 ∷ drop j ns) e)
-
-  pub extensions-end : length ns ≤ i → extensionRows text words k (drop i ns) ≡ []
-  unfolding extensionRows flatMap
-  extensions-end h = ap (extensionRows text words k) (drop-of-length-le ns h)
+-- all lists, one a kind
+pub lists-begin : (text words ns : List ℕ) (card : ℕ) (s : Filled) → Fits (s .rows) (pushed (listsAt text words ns card) s) →
+    Left (listAt text words ns card) (21 ∷ 20 ∷ 22 ∷ 23 ∷ 24 ∷ 25 ∷ []) s (pushed (listsAt text words ns card) s)
+unfolding underType
+lists-begin text words ns card s f = rest-begin _ s _ refl f
 
 -- ---- A type.
 
-module _ (words : List ℕ) (card what : ℕ) (is : what ≡ cardKind words card) (s : Filled) where
-  pub row-adopted : 12 ≤ what → pushed (row (what - 7) card card ∷ []) s ≡ pushed (typeRowAt words card ∷ []) s
+module _ (words : List ℕ) (card what : ℕ) (is : what ≡ definitionOf (cardKind words card)) (s : Filled) where
+  pub row-adopted : isTypeExtensionKind (cardKind words card) ≡ true → pushed (row what card card ∷ []) s ≡ pushed (typeRowAt words card ∷ []) s
   unfolding typeRowAt
-  row-adopted h =
-      let t : leb 12 (cardKind words card) ≡ true = le-leb 12 (cardKind words card) (omega arith) in
-      rw t (λ i. pushed (row (is i - 7) card card ∷ []) s)
+  row-adopted h = rw h (λ i. pushed (row (is i) card card ∷ []) s)
 
-  pub row-defined : what < 12 → pushed (row what card absent ∷ []) s ≡ pushed (typeRowAt words card ∷ []) s
+  pub row-defined : isTypeExtensionKind (cardKind words card) ≡ false → pushed (row what card absent ∷ []) s ≡ pushed (typeRowAt words card ∷ []) s
   unfolding typeRowAt
-  row-defined h =
-      let t : leb 12 (cardKind words card) ≡ false = lt-leb 12 (cardKind words card) (omega arith) in
-      rw t (λ i. pushed (row (is i) card absent ∷ []) s)
+  row-defined h = rw h (λ i. pushed (row (is i) card absent ∷ []) s)
 
-pub one-room : (r : Row) (s : Filled) (n : ℕ) → 3 * pushed (r ∷ []) s .used ≤ n → 3 * (s .used + 1) ≤ n
+pub one-capacity : (r : Row) (s : Filled) (n : ℕ) → 3 * pushed (r ∷ []) s .used ≤ n → 3 * (s .used + 1) ≤ n
 unfolding pushed
-one-room r s n h = h
+one-capacity r s n h = h
 
 -- ---- The directive definition that stands for a name.
 
@@ -211,28 +221,35 @@ module _ (text words : List ℕ) (card n : ℕ) where
   unfolding namesDirective isOf isKind isNamed sameCards
   directive-is e = rw (eq-eqb (cardKind words n) 3 e)
 
-module _ (text words : List ℕ) (card : ℕ) (ns : List ℕ) (count i last : ℕ) where
-  pub standing-other : i < count → count ≤ length ns → namesDirective text words card (getD ns i 0) ≡ false
-      → standingCard (builtInAt words) last (keep (namesDirective text words card) (drop i (take count ns))) ≡ standingCard (builtInAt words) last (keep (namesDirective text words card) (drop (i + 1) (take count ns)))
-  standing-other h l e = ap (standingCard (builtInAt words) last) (ap (keep (namesDirective text words card)) (taken-next ns count i h l) ∙ keep-no (namesDirective text words card) (getD ns i 0) (drop (i + 1) (take count ns)) e)
+module _ (text words : List ℕ) (card : ℕ) (ns : List ℕ) (i last : ℕ) where
+  pub standing-other : i < length ns → namesDirective text words card (getD ns i 0) ≡ false →
+      standingCard (builtInAt words) last (filter (namesDirective text words card) (drop i ns))
+      ≡ standingCard (builtInAt words) last (filter (namesDirective text words card) (drop (i + 1) ns))
+  standing-other h e =
+      ap (standingCard (builtInAt words) last)
+      (ap (filter (namesDirective text words card)) (drop-next ns i h) ∙ filter-no (namesDirective text words card) (getD ns i 0) (drop (i + 1) ns) e)
 
-  standing-cut : i < count → count ≤ length ns → namesDirective text words card (getD ns i 0) ≡ true
-      → standingCard (builtInAt words) last (keep (namesDirective text words card) (drop i (take count ns))) ≡ standingCard (builtInAt words) last (getD ns i 0 ∷ keep (namesDirective text words card) (drop (i + 1) (take count ns)))
-  standing-cut h l e = ap (standingCard (builtInAt words) last) (ap (keep (namesDirective text words card)) (taken-next ns count i h l) ∙ keep-yes (namesDirective text words card) (getD ns i 0) (drop (i + 1) (take count ns)) e)
+  standing-cut : i < length ns → namesDirective text words card (getD ns i 0) ≡ true →
+      standingCard (builtInAt words) last (filter (namesDirective text words card) (drop i ns))
+      ≡ standingCard (builtInAt words) last (getD ns i 0 ∷ filter (namesDirective text words card) (drop (i + 1) ns))
+  standing-cut h e =
+      ap (standingCard (builtInAt words) last)
+      (ap (filter (namesDirective text words card)) (drop-next ns i h) ∙ filter-yes (namesDirective text words card) (getD ns i 0) (drop (i + 1) ns) e)
 
-  pub standing-found : i < count → count ≤ length ns → namesDirective text words card (getD ns i 0) ≡ true → builtInCount words ≤ getD ns i 0
-      → standingCard (builtInAt words) last (keep (namesDirective text words card) (drop i (take count ns))) ≡ getD ns i 0
+  pub standing-found : i < length ns → namesDirective text words card (getD ns i 0) ≡ true → builtInCount words ≤ getD ns i 0 →
+      standingCard (builtInAt words) last (filter (namesDirective text words card) (drop i ns)) ≡ getD ns i 0
   unfolding standingCard builtInAt
-  standing-found h l e b = standing-cut h l e ∙ rw (le-ltb (getD ns i 0) (builtInCount words) b)
+  standing-found h e b = standing-cut h e ∙ rw (le-ltb (getD ns i 0) (builtInCount words) b)
 
-  pub standing-next : i < count → count ≤ length ns → namesDirective text words card (getD ns i 0) ≡ true → getD ns i 0 < builtInCount words
-      → standingCard (builtInAt words) last (keep (namesDirective text words card) (drop i (take count ns))) ≡ standingCard (builtInAt words) (getD ns i 0) (keep (namesDirective text words card) (drop (i + 1) (take count ns)))
+  pub standing-next : i < length ns → namesDirective text words card (getD ns i 0) ≡ true → getD ns i 0 < builtInCount words →
+      standingCard (builtInAt words) last (filter (namesDirective text words card) (drop i ns))
+      ≡ standingCard (builtInAt words) (getD ns i 0) (filter (namesDirective text words card) (drop (i + 1) ns))
   unfolding standingCard builtInAt
-  standing-next h l e b = standing-cut h l e ∙ rw (lt-ltb (getD ns i 0) (builtInCount words) b)
+  standing-next h e b = standing-cut h e ∙ rw (lt-ltb (getD ns i 0) (builtInCount words) b)
 
-  pub standing-end : count ≤ i → standingCard (builtInAt words) last (keep (namesDirective text words card) (drop i (take count ns))) ≡ last
-  unfolding standingCard keep
-  standing-end h = ap (λ (l : List ℕ). standingCard (builtInAt words) last (keep (namesDirective text words card) l)) (taken-end ns count i h)
+  pub standing-end : length ns ≤ i → standingCard (builtInAt words) last (filter (namesDirective text words card) (drop i ns)) ≡ last
+  unfolding standingCard filter
+  standing-end h = ap (λ (l : List ℕ). standingCard (builtInAt words) last (filter (namesDirective text words card) l)) (drop-end ns i h)
 
 -- ---- A directive definition's row.
 
@@ -241,10 +258,12 @@ module _ (text words ns : List ℕ) (n : ℕ) where
   unfolding directiveRowsOf
   no-directive e = rw (ne-eqb (cardKind words n) 3 e)
 
-  pub directive-row : (standing : ℕ) → cardKind words n ≡ 3 → standing ≡ standingAt text words ns n → directiveRowsOf text words ns n ≡ row 3 standing absent ∷ []
+  pub directive-row : (standing : ℕ) → cardKind words n ≡ 3 → standing ≡ standingAt text words ns n →
+      directiveRowsOf text words ns n ≡ row 3 standing absent ∷ []
   unfolding directiveRowsOf
   directive-row standing e q = rw (eq-eqb (cardKind words n) 3 e) (λ i. row 3 (sym q i) absent ∷ [])
 
-pub directives-fresh : (text words ns : List ℕ) (s : Filled) → extended (sameStored text words) (s .used) (flatMap (directiveRowsOf text words ns) ns) s ≡ pushed (directiveRowsAt text words ns) s
+pub directives-begin : (text words ns : List ℕ) (s : Filled) → Fits (s .rows) (pushed (directiveRowsAt text words ns) s) →
+    Extending (sameStored text words) (s .used) (directiveRowsOf text words ns) ns s (pushed (directiveRowsAt text words ns) s)
 unfolding directiveRowsAt
-directives-fresh text words ns s = extended-fresh (sameStored text words) (s .used) (flatMap (directiveRowsOf text words ns) ns) s refl
+directives-begin text words ns s f = grow-fresh (sameStored text words) (s .used) (flatMap (directiveRowsOf text words ns) ns) s refl f

@@ -12,7 +12,9 @@ use Rattle.definition.specs.Lists.{All}
 use Rattle.definition.specs.Answers.{answer}
 use Rattle.definition.specs.Cards.{cardsOf, cardFault, documentFault, brokenCards}
 use Rattle.definition.specs.Headings.{Document}
-use Rattle.definition.specs.Refusals.{Account, textHeld, cardsHeld, textRoom, documentRoom, cardRoom, zeroFault, refuse, document, roomRefusal, openingRefusal, filingRefusal}
+use Rattle.definition.specs.Account.{Account}
+use Rattle.definition.specs.Refusals.{textHeld, cardsHeld, textCapacity, documentCapacity, cardCapacity, zeroFault, refuse, document, capacityRefusal}
+use Rattle.definition.specs.Refusals.{openingRefusal, filingRefusal}
 use Rattle.definition.specs.Store.{zeroSound}
 use Rattle.definition.proofs.Tests.{zero-one, chosen-some, orElse-none, refuse-none}
 use Rattle.definition.proofs.All.{all-append}
@@ -22,20 +24,20 @@ use Rattle.definition.proofs.StoreLayout.{textHeld-joined, cardsHeld-jo
 pub record Admitted (ds : List Document) : Type 0 where
   pub faultless : All Faultless ds
   pub zero : zeroSound ds ≡ true
-  pub documents : length ds ≤ documentRoom
-  pub text : textHeld ds ≤ textRoom
-  pub cards : cardsHeld ds ≤ cardRoom
+  pub documents : length ds ≤ documentCapacity
+  pub text : textHeld ds ≤ textCapacity
+  pub cards : cardsHeld ds ≤ cardCapacity
 
 no-fault : (i : Bool) (text ws : List ℕ) → documentFault text ws ≡ none → Faultless (document i text ws)
 unfolding documentFault document
 no-fault i text ws e = chosen-some (brokenCards ws) (cardFault text 0 (length text) (cardsOf ws)) (answer 1 0) e .1
 
-room : (ds : List Document) (d : Document) → roomRefusal ds d ≡ none →
-    (textHeld ds + length (d .text) ≤ textRoom) × (cardsHeld ds + length (d .cards) ≤ cardRoom)
-unfolding roomRefusal
-room ds d e =
-    let long = ltb textRoom (textHeld ds + length (d .text)) in
-    let many = ltb cardRoom (cardsHeld ds + length (d .cards)) in
+capacity : (ds : List Document) (d : Document) → capacityRefusal ds d ≡ none →
+    (textHeld ds + length (d .text) ≤ textCapacity) × (cardsHeld ds + length (d .cards) ≤ cardCapacity)
+unfolding capacityRefusal
+capacity ds d e =
+    let long = ltb textCapacity (textHeld ds + length (d .text)) in
+    let many = ltb cardCapacity (cardsHeld ds + length (d .cards)) in
     let q = orElse-none (refuse 24 long) (refuse 25 many) e in
     (ltb-false _ _ (refuse-none 24 long (q .0)), ltb-false _ _ (refuse-none 25 many (q .1)))
 
@@ -45,7 +47,7 @@ opening-admits text ws e =
     let d = document false text ws in
     let q = orElse-none (documentFault text ws) _ e in
     let r = orElse-none (zeroFault d) _ (q .1) in
-    let m = room [] d (r .1) in
+    let m = capacity [] d (r .1) in
     record {
       faultless = (no-fault false text ws (q .0), tt);
       zero = rw (r .0);
@@ -60,15 +62,15 @@ zero-joined [] es e = absurd (zero-one cc)
 zero-joined (d ∷ ds) es e = e
 
 pub filing-admits : (a : Account) (text ws : List ℕ) → Admitted (a .documents) → filingRefusal a text ws ≡ none →
-    (1 + length (a .documents) ≤ documentRoom) × Admitted (a .documents ++ (document (a .ignore) text ws ∷ []))
+    (1 + length (a .documents) ≤ documentCapacity) × Admitted (a .documents ++ (document (a .ignore) text ws ∷ []))
 unfolding filingRefusal document
 filing-admits a text ws s e =
     let ds = a .documents in
     let d = document (a .ignore) text ws in
     let q = orElse-none (documentFault text ws) _ e in
-    let r = orElse-none (refuse 23 (leb documentRoom (length ds))) _ (q .1) in
-    let m = room ds (document false text ws) (r .1) in
-    let n = leb-false documentRoom (length ds) (refuse-none 23 _ (r .0)) in (
+    let r = orElse-none (refuse 23 (leb documentCapacity (length ds))) _ (q .1) in
+    let m = capacity ds (document false text ws) (r .1) in
+    let n = leb-false documentCapacity (length ds) (refuse-none 23 _ (r .0)) in (
       omega arith,
       record {
         faultless = all-append Faultless ds (d ∷ []) (s .faultless) (no-fault (a .ignore) text ws (q .0), tt);

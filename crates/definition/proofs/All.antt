@@ -3,9 +3,10 @@ use mathlib.Core.Path.{_≡_, refl, sym, _∙_, ap, subst}
 use mathlib.Core.List.{List, [], _∷_, _++_, map}
 use mathlib.Core.Bool.{Bool, true, false}
 use mathlib.Core.Option.{some}
-use Rattle.definition.specs.Lists.{All, choose, keep, any, all, firstWhere, before, flatMap, firsts}
+use Rattle.definition.specs.Lists.{All, choose, filter, any, all, find, takeUntil, flatMap, firsts}
 use Rattle.definition.proofs.Tests.{zero-one}
-use Rattle.definition.proofs.Lists.{flatMap-nil, flatMap-cons, keep-nil, keep-yes, keep-no, first-nil, first-yes, first-no, any-nil, any-yes, any-no, before-nil, before-yes, before-no, firsts-nil, firsts-old, firsts-new, split}
+use Rattle.definition.proofs.Lists.{flatMap-nil, flatMap-cons, filter-nil, filter-yes, filter-no, first-nil, first-yes, first-no, any-nil, any-yes}
+use Rattle.definition.proofs.Lists.{any-no, before-nil, before-yes, before-no, firsts-nil, firsts-old, firsts-new, split}
 
 module _ {ℓ} {A : Type ℓ} (P : A → Type 0) where
   pub all-append : (xs ys : List A) → All P xs → All P ys → All P (xs ++ ys)
@@ -20,13 +21,13 @@ module _ {ℓ} {A : Type ℓ} (P : A → Type 0) where
   all-right [] ys a = a
   all-right (x ∷ xs) ys a = all-right xs ys (a .1)
 
-  pub all-keep : (p : A → Bool) (xs : List A) → All P xs → All P (keep p xs)
-  all-keep p [] a = rw keep-nil tt
-  all-keep p (x ∷ xs) a = go (p x) refl (all-keep p xs (a .1))
+  pub all-filter : (p : A → Bool) (xs : List A) → All P xs → All P (filter p xs)
+  all-filter p [] a = rw filter-nil tt
+  all-filter p (x ∷ xs) a = go (p x) refl (all-filter p xs (a .1))
     where
-      go : (b : Bool) → p x ≡ b → All P (keep p xs) → All P (keep p (x ∷ xs))
-      go true e ih = rw keep-yes (a .0, ih)
-      go false e ih = rw keep-no ih
+      go : (b : Bool) → p x ≡ b → All P (filter p xs) → All P (filter p (x ∷ xs))
+      go true e ih = rw filter-yes (a .0, ih)
+      go false e ih = rw filter-no ih
 
   pub all-firsts : (alike : A → A → Bool) (seen xs : List A) → All P xs → All P (firsts alike seen xs)
   all-firsts alike seen [] a = rw firsts-nil tt
@@ -57,17 +58,17 @@ all-with P Q R f [] a b = tt
 all-with P Q R f (x ∷ xs) a b = (f x (a .0) (b .0), all-with P Q R f xs (a .1) (b .1))
 
 module _ {ℓ} {A : Type ℓ} (p : A → Bool) where
-  pub keep-pass : (xs : List A) → All (λ x. p x ≡ true) (keep p xs)
-  keep-pass [] = rw keep-nil tt
-  keep-pass (x ∷ xs) = go (p x) refl (keep-pass xs)
+  pub filter-pass : (xs : List A) → All (λ x. p x ≡ true) (filter p xs)
+  filter-pass [] = rw filter-nil tt
+  filter-pass (x ∷ xs) = go (p x) refl (filter-pass xs)
     where
-      go : (b : Bool) → p x ≡ b → All (λ x. p x ≡ true) (keep p xs) → All (λ x. p x ≡ true) (keep p (x ∷ xs))
-      go true e ih = rw keep-yes (e, ih)
-      go false e ih = rw keep-no ih
+      go : (b : Bool) → p x ≡ b → All (λ x. p x ≡ true) (filter p xs) → All (λ x. p x ≡ true) (filter p (x ∷ xs))
+      go true e ih = rw filter-yes (e, ih)
+      go false e ih = rw filter-no ih
 
-  pub keep-all : (xs : List A) → All (λ x. p x ≡ true) xs → keep p xs ≡ xs
-  keep-all [] a = keep-nil p
-  keep-all (x ∷ xs) a = keep-yes p x xs (a .0) ∙ ap (λ l. x ∷ l) (keep-all xs (a .1))
+  pub filter-all : (xs : List A) → All (λ x. p x ≡ true) xs → filter p xs ≡ xs
+  filter-all [] a = filter-nil p
+  filter-all (x ∷ xs) a = filter-yes p x xs (a .0) ∙ ap (λ l. x ∷ l) (filter-all xs (a .1))
 
   pub all-pass : (xs : List A) → All (λ x. p x ≡ true) xs → all p xs ≡ true
   unfolding all
@@ -88,11 +89,11 @@ module _ {ℓ} {A : Type ℓ} (p : A → Bool) where
   any-none (x ∷ xs) a = any-no p x xs (a .0) ∙ any-none xs (a .1)
 
 module _ {ℓ} {A : Type ℓ} (p q : A → Bool) where
-  pub first-cong : (xs : List A) → All (λ x. p x ≡ q x) xs → firstWhere p xs ≡ firstWhere q xs
+  pub first-cong : (xs : List A) → All (λ x. p x ≡ q x) xs → find p xs ≡ find q xs
   first-cong [] a = first-nil p ∙ sym (first-nil q)
   first-cong (x ∷ xs) a = go (q x) refl (first-cong xs (a .1))
     where
-      go : (b : Bool) → q x ≡ b → firstWhere p xs ≡ firstWhere q xs → firstWhere p (x ∷ xs) ≡ firstWhere q (x ∷ xs)
+      go : (b : Bool) → q x ≡ b → find p xs ≡ find q xs → find p (x ∷ xs) ≡ find q (x ∷ xs)
       go true e ih = first-yes p x xs (a .0 ∙ e) ∙ sym (first-yes q x xs e)
       go false e ih = first-no p x xs (a .0 ∙ e) ∙ (ih ∙ sym (first-no q x xs e))
 
@@ -104,13 +105,13 @@ module _ {ℓ} {A : Type ℓ} (p q : A → Bool) where
       go true e ih = any-yes p x xs (a .0 ∙ e) ∙ sym (any-yes q x xs e)
       go false e ih = any-no p x xs (a .0 ∙ e) ∙ (ih ∙ sym (any-no q x xs e))
 
-pub before-cong {ℓ} : {A : Type ℓ} (p q : A → Bool) (xs : List A) → All (λ x. p x ≡ q x) xs → before p xs ≡ before q xs
+pub before-cong {ℓ} : {A : Type ℓ} (p q : A → Bool) (xs : List A) → All (λ x. p x ≡ q x) xs → takeUntil p xs ≡ takeUntil q xs
 before-cong p q [] a = before-nil p ∙ sym (before-nil q)
 before-cong p q (x ∷ xs) a = go (q x) refl (before-cong p q xs (a .1))
   where
-    go : (b : Bool) → q x ≡ b → before p xs ≡ before q xs → before p (x ∷ xs) ≡ before q (x ∷ xs)
+    go : (b : Bool) → q x ≡ b → takeUntil p xs ≡ takeUntil q xs → takeUntil p (x ∷ xs) ≡ takeUntil q (x ∷ xs)
     go true e ih = before-yes p x xs (a .0 ∙ e) ∙ sym (before-yes q x xs e)
     go false e ih = before-no p x xs (a .0 ∙ e) ∙ (ap (λ l. x ∷ l) ih ∙ sym (before-no q x xs e))
 
-pub all-found {ℓ} : {A : Type ℓ} (P : A → Type 0) (p : A → Bool) (xs : List A) (y : A) → All P xs → firstWhere p xs ≡ some y → P y
+pub all-found {ℓ} : {A : Type ℓ} (P : A → Type 0) (p : A → Bool) (xs : List A) (y : A) → All P xs → find p xs ≡ some y → P y
 all-found P p xs y a h = let s = split p xs y h in all-right P (s .pre) (y ∷ s .post) (subst (All P) (s .whole) a) .0

@@ -10,7 +10,9 @@ use native.Mathlib.Omega.{arith}
 use borrow.Author.Tests.{ltb-false, eqb-true}
 use Rattle.definition.specs.Lists.{choose}
 use Rattle.definition.specs.Answers.{answer}
-use Rattle.definition.specs.Cards.{Card, Place, isPart, isUnnamed, itemEnd, nameEnd, unknownKind, emptyItem, itemOutsideText, itemBeforeSiblingEnd, itemOutsideHeading, nameAmiss, nameOutsideItem, nameNoName, nameNotItem, misplaced, fault, faults, faultAmong, placeAfter, faultFrom, cardFault}
+use Rattle.definition.specs.Cards.{Card, Place, isPart, isUnnamed, itemEnd, nameEnd, unknownKind, emptyItem, itemOutsideText, itemBeforeSiblingEnd}
+use Rattle.definition.specs.Cards.{itemOutsideHeading, nameAmiss, nameOutsideItem, nameNoName, nameNotItem, misplaced, fault, faults, faultAmong}
+use Rattle.definition.specs.Cards.{placeAfter, faultFrom, cardFault}
 use Rattle.definition.specs.Headings.{Document}
 use Rattle.definition.proofs.Tests.{zero-one, and-true, or-false, chosen-none, chosen-zero}
 
@@ -45,7 +47,18 @@ clean-of p c e0 =
     let q8 = chosen-zero (nameNoName p c) 4 _ refl (q7 .1) in
     let q9 = chosen-zero (nameNotItem p c) 4 _ refl (q8 .1) in
     let q10 = chosen-zero (misplaced p c) 5 _ refl (q9 .1) in
-    record { known = q1 .0; filled = q2 .0; inText = q3 .0; afterSibling = q4 .0; inHeading = q5 .0; nameFits = q6 .0; nameInItem = q7 .0; nameIsName = q8 .0; nameIsItem = q9 .0; inPlace = q10 .0 }
+    record {
+      known = q1 .0;
+      filled = q2 .0;
+      inText = q3 .0;
+      afterSibling = q4 .0;
+      inHeading = q5 .0;
+      nameFits = q6 .0;
+      nameInItem = q7 .0;
+      nameIsName = q8 .0;
+      nameIsItem = q9 .0;
+      inPlace = q10 .0;
+    }
 
 abbrev pub placed : List ℕ → ℕ → ℕ → Option Card → Option Card → Place
 placed bytes base size h s = record { bytes = bytes; base = base; size = size; heading = h; sibling = s }
@@ -118,7 +131,8 @@ module _ (bytes : List ℕ) (base size i : ℕ) (h s : Option Card) (c : Card) (
 names-within : (own : List ℕ) (size i : ℕ) (h s : Option Card) (cs : List Card) → faultFrom own 0 size i h s cs ≡ none →
     (n : ℕ) (c : Card) → getElem? cs n ≡ some c → c .nameAt + c .nameLen ≤ size
 names-within own size i h s [] e n c g = absurd (zero-one cc)
-names-within own size i h s (c ∷ cs) e n d g = go n g (isPart (c .kind)) refl (names-within own size (i + 1) h (some c) cs) (names-within own size (i + 1) (some c) none cs)
+names-within own size i h s (c ∷ cs) e n d g = go n g (isPart (c .kind)) refl (names-within own size (i + 1) h (some c) cs)
+    (names-within own size (i + 1) (some c) none cs)
   where
     go : (n : ℕ) → getElem? (c ∷ cs) n ≡ some d → (b : Bool) → isPart (c .kind) ≡ b →
         (faultFrom own 0 size (i + 1) h (some c) cs ≡ none → (n : ℕ) (d : Card) → getElem? cs n ≡ some d → d .nameAt + d .nameLen ≤ size) →

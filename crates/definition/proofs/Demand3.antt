@@ -9,22 +9,26 @@ use lib.Dec.{eqb}
 use lib.ListN.{take, getElem?}
 use borrow.Author.Tests.{eqb-true, eqb-false}
 use Rattle.definition.specs.Answers.{answer}
-use Rattle.definition.specs.Refusals.{Account, openingRefusal}
+use Rattle.definition.specs.Account.{Account}
+use Rattle.definition.specs.Refusals.{openingRefusal}
 use Rattle.definition.specs.Store.{accountIn, decode, storeRefusal, adoptingWords, ignoringWords}
-use Rattle.definition.specs.Outcomes.{DrawOutcome, accepted, undrawn, open-store, add-ast, adopt-orphan-extensions, ignore-builtin-redefinitions, drawOf, build}
-use Rattle.definition.specs.Account.{Call, opening, drawing, Reply, answered, drawn, opened, joined, adoptingFrom, ignoringFrom, orRefused, step, runAccount, after, Store, store, leaves, stepStore}
-use Rattle.definition.specs.Runs.{Accepted, Holds, Start, storeLeft, firstStore, firstAccount, storeAfter, storeAt, DrawnAt, NoneOpenedBetween}
+use Rattle.definition.specs.Outcomes.{BuildOutcome, accepted, unbuilt, open-store, add-ast, adopt-orphan-extensions, ignore-builtin-redefinitions}
+use Rattle.definition.specs.Outcomes.{buildOf, build}
+use Rattle.definition.specs.Calls.{Call, opening, building, Reply, answered, built, openedAccount, joined, adoptingFrom, ignoringFrom, orRefused, step}
+use Rattle.definition.specs.Calls.{runAccount, accountAfter, Store, store, leaves, stepStore, runStore}
+use Rattle.definition.specs.Runs.{Accepted, Holds, Start, storeLeft, firstStore, firstAccount, storeAfter, Ran, storeAt, BuiltAt, NoneOpenedBetween}
 use Rattle.definition.specs.Growth.{rowsOf, readingErrorsOf}
-use Rattle.definition.specs.Demands.{OpeningHolds, FilingHolds, AdoptingHolds, IgnoringHolds, Agrees, NeverArise, OpensAnew, Growing, DrawnRowsPass, Bounded, DrawingsBounded, Demand3}
+use Rattle.definition.specs.Demands.{OpeningHolds, FilingHolds, AdoptingHolds, IgnoringHolds, Agrees, RunsAgree, StoreHoldsAccount, NeverArise, OpensAnew, Growing, BuiltRowsPass}
+use Rattle.definition.specs.Demands.{Bounded, BuildsBounded, Demand3}
 use Rattle.definition.proofs.Tests.{zero-one}
 use Rattle.definition.proofs.StoreHolds.{account-held, long-held, sound-held, opening-held, filing-held, adopting-held, ignoring-held}
 use Rattle.definition.proofs.StoreAgrees.{HoldsIn, agree, holds-after, same as account-same, sound as store-sound}
 use Rattle.definition.proofs.StoreSound.{unrefused-holds}
 use Rattle.definition.proofs.StoreWrites.{opening-done, filing-done, turned-done, opening-writes, filing-writes, turning-writes}
 use Rattle.definition.proofs.RefusalNumbers.{opening-accepted, filing-accepted, turning-accepted, replies-own}
-use Rattle.definition.proofs.RefusedCalls.{refused-leaves, reading-leaves}
+use Rattle.definition.proofs.RefusedCalls.{refused-leaves, read-only-leaves}
 use Rattle.definition.proofs.RunPlaces.{reply-at, account-next, later-between, Later}
-use Rattle.definition.proofs.DrawnWords.{rows-written, reading-written, bounded, rowWordsOf, readingWordsOf}
+use Rattle.definition.proofs.BuiltWords.{rows-written, reading-written, bounded, rowWordsOf, readingWordsOf}
 use Rattle.definition.proofs.StoreGrowth.{grown, check-store, rows-pass}
 
 -- ==== The store holds the account.
@@ -41,16 +45,18 @@ here : (text words : List ℕ) → storeRefusal text words ≡ 0 → HoldsIn (st
 unfolding store
 here text words e = unrefused-holds text words e
 
-opened-holds : (text words lent ws : List ℕ) → Accepted (open-store text words lent ws) → HoldsIn (storeLeft (open-store text words lent ws)) (opened lent ws)
-unfolding leaves store accepted opened
+opened-holds : (text words lent ws : List ℕ) → Accepted (open-store text words lent ws) →
+    HoldsIn (storeLeft (open-store text words lent ws)) (openedAccount lent ws)
+unfolding leaves store accepted openedAccount
 opened-holds text words lent ws e =
     let q = opening-accepted text words lent ws e in
     rw (opening-done text words lent ws (q .0) (q .1)) (opening-held text words lent ws (q .0) (q .1))
 
 pub opening-holds : OpeningHolds
-opening-holds text words lent ws e = held (storeLeft (open-store text words lent ws)) (opened lent ws) (opened-holds text words lent ws e)
+opening-holds text words lent ws e = held (storeLeft (open-store text words lent ws)) (openedAccount lent ws) (opened-holds text words lent ws e)
 
-filed-holds : (text words lent ws : List ℕ) → Accepted (add-ast text words lent ws) → HoldsIn (storeLeft (add-ast text words lent ws)) (joined (accountIn text words) lent ws)
+filed-holds : (text words lent ws : List ℕ) → Accepted (add-ast text words lent ws) →
+    HoldsIn (storeLeft (add-ast text words lent ws)) (joined (accountIn text words) lent ws)
 unfolding leaves store accepted joined
 filed-holds text words lent ws e =
     let q = filing-accepted text words lent ws e in
@@ -58,10 +64,14 @@ filed-holds text words lent ws e =
 
 pub filing-holds : FilingHolds
 filing-holds text words lent ws e =
-    let a = accountIn text words in
-    (a, held (store text words) a (here text words (filing-accepted text words lent ws e .0)), held (storeLeft (add-ast text words lent ws)) (joined a lent ws) (filed-holds text words lent ws e))
+    let a = accountIn text words in (
+      a,
+      held (store text words) a (here text words (filing-accepted text words lent ws e .0)),
+      held (storeLeft (add-ast text words lent ws)) (joined a lent ws) (filed-holds text words lent ws e),
+    )
 
-adopted-holds : (text words : List ℕ) → storeRefusal text words ≡ 0 → HoldsIn (storeLeft (adopt-orphan-extensions text words)) (adoptingFrom (accountIn text words))
+adopted-holds : (text words : List ℕ) → storeRefusal text words ≡ 0 →
+    HoldsIn (storeLeft (adopt-orphan-extensions text words)) (adoptingFrom (accountIn text words))
 unfolding leaves store accepted adoptingFrom adopt-orphan-extensions
 adopted-holds text words e =
     let a = accountIn text words in
@@ -74,7 +84,8 @@ adopting-holds text words e =
     let q = turning-accepted text words (adoptingWords words) e in
     (a, held (store text words) a (here text words q), held (storeLeft (adopt-orphan-extensions text words)) (adoptingFrom a) (adopted-holds text words q))
 
-ignored-holds : (text words : List ℕ) → storeRefusal text words ≡ 0 → HoldsIn (storeLeft (ignore-builtin-redefinitions text words)) (ignoringFrom (accountIn text words))
+ignored-holds : (text words : List ℕ) → storeRefusal text words ≡ 0 →
+    HoldsIn (storeLeft (ignore-builtin-redefinitions text words)) (ignoringFrom (accountIn text words))
 unfolding leaves store accepted ignoringFrom ignore-builtin-redefinitions
 ignored-holds text words e =
     let a = accountIn text words in
@@ -95,20 +106,35 @@ first-holds b = opened-holds (b .text) (b .words) (b .lent) (b .cards) (b .accep
 pub agrees : Agrees
 agrees b calls = agree calls (firstStore b) (firstAccount b) (first-holds b)
 
+ran : (s : Store) (cs : List Call) (rs : List Reply) → Ran s cs rs → rs ≡ runStore s cs
+unfolding runStore
+ran s [] [] n = refl
+ran s [] (r ∷ rs) n = absurd n
+ran s (c ∷ cs) [] n = absurd n
+ran s (c ∷ cs) (r ∷ rs) n =
+    ap (λ (x : List Reply). r ∷ x) (ran (n .0) cs rs (n .2)) ∙ ap (λ (p : Store × Reply). p .1 ∷ runStore (p .0) cs) (n .1)
+
+pub runs-agree : RunsAgree
+runs-agree b calls replies n = ran (firstStore b) calls replies n ∙ agrees b calls
+
+pub store-holds-account : StoreHoldsAccount
+store-holds-account b calls =
+    held (storeAfter (firstStore b) calls) (accountAfter (firstAccount b) calls) (holds-after calls (firstStore b) (firstAccount b) (first-holds b))
+
 pub never-arise : NeverArise
 never-arise b calls = (
-  store-sound (storeAfter (firstStore b) calls) (after (firstAccount b) calls) (holds-after calls (firstStore b) (firstAccount b) (first-holds b)),
+  store-sound (storeAfter (firstStore b) calls) (accountAfter (firstAccount b) calls) (holds-after calls (firstStore b) (firstAccount b) (first-holds b)),
   rw (agrees b calls) (replies-own (firstAccount b) calls),
 )
 
 -- The replies to a list of calls, cut anywhere.
-run-append : (a : Account) (cs ds : List Call) → runAccount a (cs ++ ds) ≡ runAccount a cs ++ runAccount (after a cs) ds
-unfolding runAccount after
+run-append : (a : Account) (cs ds : List Call) → runAccount a (cs ++ ds) ≡ runAccount a cs ++ runAccount (accountAfter a cs) ds
+unfolding runAccount accountAfter
 run-append a [] ds = refl
 run-append a (c ∷ cs) ds = ap (λ l. step a c .1 ∷ l) (run-append (step a c .0) cs ds)
 
 anew : (a : Account) (lent ws : List ℕ) (more : List Call) → openingRefusal lent ws ≡ none →
-    runAccount a (opening lent ws ∷ more) ≡ answered (answer 0 0) ∷ runAccount (opened lent ws) more
+    runAccount a (opening lent ws ∷ more) ≡ answered (answer 0 0) ∷ runAccount (openedAccount lent ws) more
 unfolding runAccount step orRefused
 anew a lent ws more e = rw e
 
@@ -116,45 +142,49 @@ pub opens-anew : OpensAnew
 opens-anew b calls more lent ws e =
     agrees b (calls ++ (opening lent ws ∷ more))
     ∙ run-append (firstAccount b) calls (opening lent ws ∷ more)
-    ∙ (λ i. sym (agrees b calls) i ++ anew (after (firstAccount b) calls) lent ws more e i)
+    ∙ (λ i. sym (agrees b calls) i ++ anew (accountAfter (firstAccount b) calls) lent ws more e i)
 
 -- ==== Between two drawings.
 
 module _ (b : Start) (calls : List Call) where
   accountAt : ℕ → Account
-  accountAt k = after (firstAccount b) (take k calls)
+  accountAt k = accountAfter (firstAccount b) (take k calls)
 
   holdsAt : (k : ℕ) → HoldsIn (storeAfter (firstStore b) (take k calls)) (accountAt k)
   unfolding accountAt
   holdsAt k = holds-after (take k calls) (firstStore b) (firstAccount b) (first-holds b)
 
-  drawn-same : (s : Store) (a : Account) (h : HoldsIn s a) (rows errors : List ℕ) → build (s .text) (s .words) rows errors ≡ drawOf a rows errors
+  built-same : (s : Store) (a : Account) (h : HoldsIn s a) (rows errors : List ℕ) → build (s .text) (s .words) rows errors ≡ buildOf a rows errors
   unfolding build
-  drawn-same s a h rows errors = rw (store-sound s a h, account-same s a h)
+  built-same s a h rows errors = rw (store-sound s a h, account-same s a h)
 
-  drawn-injective : (o p : DrawOutcome) → _≡_ {A = Option Reply} (some (drawn o)) (some (drawn p)) → o ≡ p
-  drawn-injective o p e = cc
+  built-injective : (o p : BuildOutcome) → _≡_ {A = Option Reply} (some (built o)) (some (built p)) → o ≡ p
+  built-injective o p e = cc
 
   -- The drawing at place i writes the rows and the reading errors of the account, which stays.
-  at : (i : ℕ) (o : DrawOutcome) → DrawnAt (firstStore b) calls i o →
+  at : (i : ℕ) (o : BuildOutcome) → BuiltAt (firstStore b) calls i o →
       (rowsOf o ≡ rowWordsOf (accountAt (suc i))) × (readingErrorsOf o ≡ readingWordsOf (accountAt (suc i)))
   unfolding stepStore step accountAt
   at i o d =
       let s = storeAfter (firstStore b) (take i calls) in
-      let e : accountAt i ≡ accountAt (suc i) = sym (account-next (firstAccount b) calls i (drawing (d .rows) (d .errors)) (d .call)) in
-      let q : o ≡ drawOf (accountAt (suc i)) (d .rows) (d .errors) =
-      drawn-injective o (build (s .text) (s .words) (d .rows) (d .errors)) (sym (d .reply) ∙ reply-at (firstStore b) calls i (drawing (d .rows) (d .errors)) (d .call))
-      ∙ drawn-same s (accountAt i) (holdsAt i) (d .rows) (d .errors)
-      ∙ ap (λ a. drawOf a (d .rows) (d .errors)) e in
-      let n : drawOf (accountAt (suc i)) (d .rows) (d .errors) .drawing .number ≡ 0 = rw q at (d .unrefused) in
-      (ap rowsOf q ∙ rows-written (accountAt (suc i)) (d .rows) (d .errors) n, ap readingErrorsOf q ∙ reading-written (accountAt (suc i)) (d .rows) (d .errors) n)
+      let e : accountAt i ≡ accountAt (suc i) = sym (account-next (firstAccount b) calls i (building (d .rows) (d .errors)) (d .call)) in
+      let q : o ≡ buildOf (accountAt (suc i)) (d .rows) (d .errors) =
+      built-injective o (build (s .text) (s .words) (d .rows) (d .errors))
+      (sym (d .reply) ∙ reply-at (firstStore b) calls i (building (d .rows) (d .errors)) (d .call))
+      ∙ built-same s (accountAt i) (holdsAt i) (d .rows) (d .errors)
+      ∙ ap (λ a. buildOf a (d .rows) (d .errors)) e in
+      let n : buildOf (accountAt (suc i)) (d .rows) (d .errors) .drawing .number ≡ 0 = rw q at (d .unrefused) in (
+        ap rowsOf q ∙ rows-written (accountAt (suc i)) (d .rows) (d .errors) n,
+        ap readingErrorsOf q ∙ reading-written (accountAt (suc i)) (d .rows) (d .errors) n,
+      )
 
   later : (i j : ℕ) → i ≤ j → NoneOpenedBetween (firstStore b) calls i (suc j) → Later (accountAt (suc i)) (accountAt (suc j))
   unfolding accountAt
   later i j l n = later-between (firstStore b) (firstAccount b) (first-holds b) calls i (suc j) (omega arith) n
 
   -- No drawing opens.
-  none-opened : (i j : ℕ) (p : DrawOutcome) → DrawnAt (firstStore b) calls j p → NoneOpenedBetween (firstStore b) calls i j → NoneOpenedBetween (firstStore b) calls i (suc j)
+  none-opened : (i j : ℕ) (p : BuildOutcome) → BuiltAt (firstStore b) calls j p → NoneOpenedBetween (firstStore b) calls i j →
+      NoneOpenedBetween (firstStore b) calls i (suc j)
   none-opened i j p d n k u v q = go (eqb k j) refl
     where
       go : (t : Bool) → eqb k j ≡ t → ⊥
@@ -167,11 +197,12 @@ pub growing : Growing
 growing b calls i j l n o p d e =
     let x = at b calls i o d in
     let y = at b calls j p e in
-    grown (storeAt (firstStore b) calls i) (storeAt (firstStore b) calls j) (accountAt b calls (suc i)) (accountAt b calls (suc j)) (holdsAt b calls (suc i)) (holdsAt b calls (suc j))
+    grown (storeAt (firstStore b) calls i) (storeAt (firstStore b) calls j) (accountAt b calls (suc i)) (accountAt b calls (suc j)) (holdsAt b calls (suc i))
+    (holdsAt b calls (suc j))
     (later b calls i j (omega arith) (none-opened b calls i j p e n)) o p (x .0) (y .0) (x .1) (y .1)
 
-pub drawn-rows-pass : DrawnRowsPass
-drawn-rows-pass b calls i j l n o d =
+pub built-rows-pass : BuiltRowsPass
+built-rows-pass b calls i j l n o d =
     let x = at b calls i o d in
     let s = storeAt (firstStore b) calls j in
     check-store s (accountAt b calls (suc j)) (holdsAt b calls (suc j)) (rowsOf o)
@@ -179,21 +210,21 @@ drawn-rows-pass b calls i j l n o d =
 
 -- ==== A drawing.
 
-undrawn-number : (rows errors : List ℕ) (n : ℕ) → undrawn rows errors n .drawing .number ≡ n
-unfolding undrawn
-undrawn-number rows errors n = refl
+unbuilt-number : (rows errors : List ℕ) (n : ℕ) → unbuilt rows errors n .drawing .number ≡ n
+unfolding unbuilt
+unbuilt-number rows errors n = refl
 
-pub drawings-bounded : DrawingsBounded
+pub builds-bounded : BuildsBounded
 unfolding build
-drawings-bounded text words rows errors e = go (eqb (storeRefusal text words) 0) refl
+builds-bounded text words rows errors e = go (eqb (storeRefusal text words) 0) refl
   where
     go : (t : Bool) → eqb (storeRefusal text words) 0 ≡ t → Bounded rows errors (build text words rows errors)
     go true q =
         let r : storeRefusal text words ≡ 0 = eqb-true _ _ q in
         let h = unrefused-holds text words r in
-        let n : drawOf (accountIn text words) rows errors .drawing .number ≡ 0 = rw q at e in
+        let n : buildOf (accountIn text words) rows errors .drawing .number ≡ 0 = rw q at e in
         rw q (bounded (accountIn text words) rows errors n (h .admitted .cards))
-    go false q = absurd (eqb-false _ _ q (sym (undrawn-number rows errors (storeRefusal text words)) ∙ (rw q at e)))
+    go false q = absurd (eqb-false _ _ q (sym (unbuilt-number rows errors (storeRefusal text words)) ∙ (rw q at e)))
 
 -- ==== Demand 3, whole.
 
@@ -207,11 +238,13 @@ demand3 = record {
   filingWrites = filing-writes;
   turningWrites = turning-writes;
   refusedLeaves = refused-leaves;
-  readingLeaves = reading-leaves;
+  readOnlyLeaves = read-only-leaves;
   agrees = agrees;
+  runsAgree = runs-agree;
+  storeHoldsAccount = store-holds-account;
   neverArise = never-arise;
   opensAnew = opens-anew;
   growing = growing;
-  drawnRowsPass = drawn-rows-pass;
-  drawingsBounded = drawings-bounded;
+  builtRowsPass = built-rows-pass;
+  buildsBounded = builds-bounded;
 }

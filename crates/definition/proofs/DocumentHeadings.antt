@@ -11,7 +11,7 @@ use lib.ListN.{length, length-append, getElem?}
 use borrow.Author.Tests.{eqb-true, ne-eqb}
 use Rattle.definition.specs.Lists.{All, Prefix, isEmpty}
 use Rattle.definition.specs.Cards.{Card, isPart}
-use Rattle.definition.specs.Headings.{Document, Heading, Part, partFrom, headingFrom, group, headingsFrom, headings}
+use Rattle.definition.specs.Headings.{Document, Heading, NamedCard, namedCard, headingFrom, group, headingsFrom, headings}
 use Rattle.definition.specs.Refusals.{cardsHeld}
 use Rattle.definition.specs.LentRows.{cardsNamed, heldFrom, held, nameNumbered}
 use Rattle.definition.proofs.All.{all-append, all-left, all-right, all-to}
@@ -23,17 +23,17 @@ module _ (t : List ℕ) (b i : Bool) (n : ℕ) (c : Card) (cs : List Card) where
   unfolding group
   group-heading e = rw e
 
-  pub group-part : isPart (c .kind) ≡ true → group t b i n (c ∷ cs) ≡ (partFrom t n c ∷ group t b i (n + 1) cs .0, group t b i (n + 1) cs .1)
+  pub group-part : isPart (c .kind) ≡ true → group t b i n (c ∷ cs) ≡ (namedCard t n c ∷ group t b i (n + 1) cs .0, group t b i (n + 1) cs .1)
   unfolding group
   group-part e = rw e
 
 -- The cards held by their numbers: each heading and each part has its card's name.
-abbrev pub Named : List Part → Heading → Type 0
+abbrev pub Named : List NamedCard → Heading → Type 0
 Named ps h = (nameNumbered ps (h .number) ≡ h .name) × All (λ p. nameNumbered ps (p .number) ≡ p .name) (h .parts)
 
 -- ---- Weights: what a card, a heading's parts, a heading with its parts weigh by their numbers.
 
-abbrev pub cardW : (ℕ → ℕ) → Part → ℕ
+abbrev pub cardW : (ℕ → ℕ) → NamedCard → ℕ
 cardW w p = w (p .number)
 
 abbrev pub partsW : (ℕ → ℕ) → Heading → ℕ
@@ -45,7 +45,7 @@ whole w h = w (h .number) + partsW w h
 module _ (w : ℕ → ℕ) where
   group-weighs : (t : List ℕ) (b i : Bool) (n : ℕ) (cs : List Card) →
       sum (cardW w) (group t b i n cs .0) + sum (whole w) (group t b i n cs .1) ≤ sum (cardW w) (cardsNamed t n cs)
-  unfolding group cardsNamed partFrom headingFrom
+  unfolding group cardsNamed namedCard headingFrom
   group-weighs t b i n [] = omega arith
   group-weighs t b i n (c ∷ cs) = go (isPart (c .kind)) refl (group-weighs t b i (n + 1) cs)
     where
@@ -68,17 +68,17 @@ module _ (w : ℕ → ℕ) where
       )
 
 -- Cards are numbered on.
-abbrev pub Numbered : ℕ → List Part → Type 0
+abbrev pub Numbered : ℕ → List NamedCard → Type 0
 Numbered n [] = Unit {0}
 Numbered n (p ∷ ps) = (p .number ≡ n) × Numbered (n + 1) ps
 
-numbered-append : (n : ℕ) (ps qs : List Part) → Numbered n ps → Numbered (n + length ps) qs → Numbered n (ps ++ qs)
+numbered-append : (n : ℕ) (ps qs : List NamedCard) → Numbered n ps → Numbered (n + length ps) qs → Numbered n (ps ++ qs)
 numbered-append n [] qs a b = let e : n + 0 ≡ n = omega arith in rw e at b
 numbered-append n (p ∷ ps) qs a b =
     let e : n + suc (length ps) ≡ n + 1 + length ps = omega arith in (a .0, numbered-append (n + 1) ps qs (a .1) (rw e at b))
 
 cards-numbered : (t : List ℕ) (n : ℕ) (cs : List Card) → Numbered n (cardsNamed t n cs)
-unfolding cardsNamed partFrom
+unfolding cardsNamed namedCard
 cards-numbered t n [] = tt
 cards-numbered t n (c ∷ cs) = (refl, cards-numbered t (n + 1) cs)
 
@@ -110,17 +110,18 @@ unfolding held
 held-length ds = from-length 0 ds
 
 -- Counting cards, and one card.
-past : (c n : ℕ) → c < n → (ps : List Part) → Numbered n ps → sum (cardW (λ i. gate (eqb i c) 1)) ps ≡ 0
+past : (c n : ℕ) → c < n → (ps : List NamedCard) → Numbered n ps → sum (cardW (λ i. gate (eqb i c) 1)) ps ≡ 0
 past c n h [] a = refl
 past c n h (p ∷ ps) a =
     let e : eqb (p .number) c ≡ false = ne-eqb (p .number) c (omega (arith, a .0)) in
     simp (e, past c (n + 1) (omega arith) ps (a .1))
 
-once : (c n : ℕ) (ps : List Part) → Numbered n ps → sum (cardW (λ i. gate (eqb i c) 1)) ps ≤ 1
+once : (c n : ℕ) (ps : List NamedCard) → Numbered n ps → sum (cardW (λ i. gate (eqb i c) 1)) ps ≤ 1
 once c n [] a = omega arith
 once c n (p ∷ ps) a = go (eqb (p .number) c) refl (once c (n + 1) ps (a .1))
   where
-    go : (b : Bool) → eqb (p .number) c ≡ b → sum (cardW (λ i. gate (eqb i c) 1)) ps ≤ 1 → gate (eqb (p .number) c) 1 + sum (cardW (λ i. gate (eqb i c) 1)) ps ≤ 1
+    go : (b : Bool) → eqb (p .number) c ≡ b → sum (cardW (λ i. gate (eqb i c) 1)) ps ≤ 1 →
+        gate (eqb (p .number) c) 1 + sum (cardW (λ i. gate (eqb i c) 1)) ps ≤ 1
     go true e ih = omega (arith, gate-le (eqb (p .number) c) 1, past c (n + 1) (omega (arith, a .0, eqb-true (p .number) c e)) ps (a .1))
     go false e ih = simp e (omega arith)
 
@@ -175,12 +176,12 @@ unfolding held
 held-joined ds es = held-from-joined 0 ds es ∙ ap (λ m. heldFrom 0 ds ++ heldFrom m es) (zero-add (cardsHeld ds))
 
 -- What holds of all cards holds of the headings and their parts.
-module _ (P : Part → Type 0) where
+module _ (P : NamedCard → Type 0) where
   abbrev pub OfCards : Heading → Type 0
   OfCards h = P (record { number = h .number; kind = h .kind; name = h .name }) × All P (h .parts)
 
   group-cards : (t : List ℕ) (b i : Bool) (n : ℕ) (cs : List Card) → All P (cardsNamed t n cs) → All P (group t b i n cs .0) × All OfCards (group t b i n cs .1)
-  unfolding group cardsNamed partFrom headingFrom
+  unfolding group cardsNamed namedCard headingFrom
   group-cards t b i n [] a = (tt, tt)
   group-cards t b i n (c ∷ cs) a = go (isPart (c .kind)) refl (group-cards t b i (n + 1) cs (a .1))
     where
@@ -202,14 +203,14 @@ module _ (P : Part → Type 0) where
   headings-cards ds a = from-cards true 0 ds a
 
 -- Each card is found by its number.
-abbrev pub Found : List Part → Part → Type 0
+abbrev pub Found : List NamedCard → NamedCard → Type 0
 Found ps p = getElem? ps (p .number) ≡ some p
 
-elem-at : (xs : List Part) (y : Part) (ys : List Part) → getElem? (xs ++ (y ∷ ys)) (length xs) ≡ some y
+elem-at : (xs : List NamedCard) (y : NamedCard) (ys : List NamedCard) → getElem? (xs ++ (y ∷ ys)) (length xs) ≡ some y
 elem-at [] y ys = refl
 elem-at (x ∷ xs) y ys = elem-at xs y ys
 
-found-from : (xs ys : List Part) → Numbered (length xs) ys → All (Found (xs ++ ys)) ys
+found-from : (xs ys : List NamedCard) → Numbered (length xs) ys → All (Found (xs ++ ys)) ys
 found-from xs [] a = tt
 found-from xs (y ∷ ys) a =
     let e : length xs + 1 ≡ length (xs ++ (y ∷ [])) = omega (arith, length-append xs (y ∷ [])) in
@@ -224,7 +225,7 @@ held-found ds = found-from [] (heldFrom 0 ds) (held-numbered 0 ds)
 pub headings-held : (ds : List Document) → All (OfCards (Found (held ds))) (headings ds)
 headings-held ds = headings-cards (Found (held ds)) ds (held-found ds)
 
-name-found : (ps : List Part) (p : Part) → Found ps p → nameNumbered ps (p .number) ≡ p .name
+name-found : (ps : List NamedCard) (p : NamedCard) → Found ps p → nameNumbered ps (p .number) ≡ p .name
 unfolding nameNumbered
 name-found ps p e = rw e
 

@@ -8,16 +8,22 @@ use native.Mathlib.Omega.{arith}
 use native.Mathlib.Nat.{le-refl}
 use lib.Dec.{eqb, leb}
 use borrow.Author.Tests.{eqb-true, ne-eqb, leb-true, le-leb, lt-leb}
-use Rattle.definition.specs.Lists.{keep, isEmpty, firstWhere, flatMap, firsts, repeats}
+use Rattle.definition.specs.Lists.{filter, isEmpty, find, flatMap, firsts, repeats}
 use Rattle.definition.specs.Names.{sameName}
 use Rattle.definition.specs.Cards.{isType}
 use Rattle.definition.specs.Answers.{absent}
-use Rattle.definition.specs.Headings.{Heading, Part, isKind, isTypeDefinition, isTypeExtension, isNamed, sameNamed, isMissing, isOrphan, orphans, alike, extensionsOf, isOf, definition, definesType, directiveNamed, schemaDefinition, schemaExtensions, parts, partsOf}
-use Rattle.definition.specs.Errors.{Error, error, headingError, lateExtensionErrors, clash, clashes, directiveErrors, schemaErrors, schemaExtensionErrors, redefinitionErrors, typeErrors, typeExtensionErrors, errorsAt, reading, adoptionErrors, orphanErrors, noSchemaErrors, drawing}
+use Rattle.definition.specs.Headings.{Heading, NamedCard, isKind, isTypeDefinition, isTypeExtension, isNamed, sameNamed, isMissing, isOrphan, orphans}
+use Rattle.definition.specs.Headings.{alike, extensionsOf, isOf, definition, definesType, directiveNamed, schemaDefinition, schemaExtensions, parts}
+use Rattle.definition.specs.Headings.{partsOf}
+use Rattle.definition.specs.Errors.{Error, error, headingError, lateExtensionErrors, collision, collisions, directiveErrors, schemaErrors}
+use Rattle.definition.specs.Errors.{schemaExtensionErrors, redefinitionErrors, typeErrors, typeExtensionErrors, errorsAt, readingErrors, adoptionErrors}
+use Rattle.definition.specs.Errors.{orphanErrors, noSchemaErrors, drawingErrors}
 use Rattle.definition.specs.Catalogue.{defaultRoots, partIn}
 use Rattle.definition.proofs.Tests.{and-true}
-use Rattle.definition.proofs.Lists.{keep-nil, keep-append, first-nil, first-yes, first-no, first-append-some, first-append-none, sameName-eq, sameName-refl}
-use Rattle.definition.proofs.Sums.{sum, gate, gate-le, sum-append, sum-to, sum-gate, sum-keep, sum-two, sum-implies, sum-kept, sum-map, sum-flatMap, sum-groups}
+use Rattle.definition.proofs.Lists.{filter-nil, filter-append, first-nil, first-yes, first-no, first-append-some, first-append-none, sameName-eq}
+use Rattle.definition.proofs.Lists.{sameName-refl}
+use Rattle.definition.proofs.Sums.{sum, gate, gate-le, sum-append, sum-to, sum-gate, sum-filter, sum-two, sum-implies, sum-kept, sum-map, sum-flatMap}
+use Rattle.definition.proofs.Sums.{sum-groups}
 use Rattle.definition.proofs.RowBound.{one-named}
 use Rattle.definition.proofs.DocumentHeadings.{partsW, whole}
 
@@ -25,19 +31,19 @@ abbrev pub errorW : (ℕ → ℕ) → Error → ℕ
 errorW w e = w (e .card)
 
 module _ (w : ℕ → ℕ) where
-  clashes-weigh : (k : ℕ) (seen ps : List Part) → sum (errorW w) (clashes k seen ps) ≤ sum (λ p. w (p .number)) ps
-  unfolding clashes clash error
-  clashes-weigh k seen ps =
-      omega (arith, sum-map (errorW w) (clash k) (repeats alike seen ps), sum-kept alike (λ p. w (p .number)) seen ps)
+  collisions-weigh : (k : ℕ) (seen ps : List NamedCard) → sum (errorW w) (collisions k seen ps) ≤ sum (λ p. w (p .number)) ps
+  unfolding collisions collision error
+  collisions-weigh k seen ps =
+      omega (arith, sum-map (errorW w) (collision k) (repeats alike seen ps), sum-kept alike (λ p. w (p .number)) seen ps)
 
   parts-weigh : (hs : List Heading) → sum (λ p. w (p .number)) (partsOf hs) ≡ sum (partsW w) hs
   unfolding partsOf parts
   parts-weigh hs = sum-flatMap (λ p. w (p .number)) parts hs
 
   own-weighs : (h : Heading) (before : List Heading) (k : ℕ) →
-      sum (errorW w) (clashes k [] (h .parts ++ partsOf before)) ≤ partsW w h + sum (partsW w) before
+      sum (errorW w) (collisions k [] (h .parts ++ partsOf before)) ≤ partsW w h + sum (partsW w) before
   own-weighs h before k =
-      omega (arith, clashes-weigh k [] (h .parts ++ partsOf before), sum-append (λ p. w (p .number)) (h .parts) (partsOf before), parts-weigh before)
+      omega (arith, collisions-weigh k [] (h .parts ++ partsOf before), sum-append (λ p. w (p .number)) (h .parts) (partsOf before), parts-weigh before)
 
   parts-le : (hs : List Heading) → sum (partsW w) hs ≤ sum (whole w) hs
   parts-le hs = sum-to (partsW w) (whole w) (λ h. omega arith) hs
@@ -45,17 +51,17 @@ module _ (w : ℕ → ℕ) where
 -- What may still give an error later: extensions that have met no definition.
 module _ (w : ℕ → ℕ) where
   waitingTypes : List Heading → ℕ
-  waitingTypes hs = sum (whole w) (keep (isOrphan hs) hs)
+  waitingTypes hs = sum (whole w) (filter (isOrphan hs) hs)
 
   waitingSchema : List Heading → ℕ
-  waitingSchema hs = gate (isMissing (schemaDefinition hs)) (sum (whole w) (keep (isKind 11) hs))
+  waitingSchema hs = gate (isMissing (schemaDefinition hs)) (sum (whole w) (filter (isKind 11) hs))
 
 missing-more : (p : Heading → Bool) (hs : List Heading) (h : Heading) →
-    isMissing (firstWhere p (hs ++ (h ∷ []))) ≡ (isMissing (firstWhere p hs) && not (p h))
+    isMissing (find p (hs ++ (h ∷ []))) ≡ (isMissing (find p hs) && not (p h))
 unfolding isMissing
-missing-more p hs h = go (firstWhere p hs) (p h) refl refl
+missing-more p hs h = go (find p hs) (p h) refl refl
   where
-    go : (o : Option Heading) (b : Bool) → firstWhere p hs ≡ o → p h ≡ b → isMissing (firstWhere p (hs ++ (h ∷ []))) ≡ (isMissing (firstWhere p hs) && not (p h))
+    go : (o : Option Heading) (b : Bool) → find p hs ≡ o → p h ≡ b → isMissing (find p (hs ++ (h ∷ []))) ≡ (isMissing (find p hs) && not (p h))
     go (some d) b e f = simp (first-append-some p hs (h ∷ []) d e, e)
     go none true e f = simp (first-append-none p hs (h ∷ []) e, first-yes p h [] f, e, f)
     go none false e f = simp (first-append-none p hs (h ∷ []) e, first-no p h [] f, first-nil, e, f)
@@ -67,10 +73,10 @@ module _ (w : ℕ → ℕ) (before : List Heading) (h : Heading) where
   types-wait =
       omega (
         arith,
-        ap (sum (whole w)) (keep-append (isOrphan (before ++ (h ∷ []))) before (h ∷ [])),
-        sum-append (whole w) (keep (isOrphan (before ++ (h ∷ []))) before) (keep (isOrphan (before ++ (h ∷ []))) (h ∷ [])),
+        ap (sum (whole w)) (filter-append (isOrphan (before ++ (h ∷ []))) before (h ∷ [])),
+        sum-append (whole w) (filter (isOrphan (before ++ (h ∷ []))) before) (filter (isOrphan (before ++ (h ∷ []))) (h ∷ [])),
         sum-gate (whole w) (isOrphan (before ++ (h ∷ []))) h [],
-        ap (sum (whole w)) (keep-nil (isOrphan (before ++ (h ∷ [])))),
+        ap (sum (whole w)) (filter-nil (isOrphan (before ++ (h ∷ [])))),
         sum-implies (whole w) (isOrphan (before ++ (h ∷ []))) (isOrphan before) fewer before,
         fewer h (whole w h),
       )
@@ -81,7 +87,8 @@ module _ (w : ℕ → ℕ) (before : List Heading) (h : Heading) where
       less false m d v = omega arith
 
       fewer : (e : Heading) (v : ℕ) → gate (isOrphan (before ++ (h ∷ [])) e) v ≤ gate (isOrphan before e) v
-      fewer e v = rw (missing-more (definesType (e .name)) before h) (less (isTypeExtension e) (isMissing (firstWhere (definesType (e .name)) before)) (not (definesType (e .name) h)) v)
+      fewer e v = rw (missing-more (definesType (e .name)) before h)
+          (less (isTypeExtension e) (isMissing (find (definesType (e .name)) before)) (not (definesType (e .name) h)) v)
 
   no-extension : isTypeExtension h ≡ false → waitingTypes w (before ++ (h ∷ [])) ≤ waitingTypes w before
   unfolding isOrphan
@@ -92,15 +99,15 @@ module _ (w : ℕ → ℕ) (before : List Heading) (h : Heading) where
   isEarly e = isTypeExtension e && isNamed (h .name) e
 
   types-met : isTypeDefinition h ≡ true → definition (h .name) before ≡ none →
-      waitingTypes w (before ++ (h ∷ [])) + sum (whole w) (keep isEarly before) ≤ waitingTypes w before
+      waitingTypes w (before ++ (h ∷ [])) + sum (whole w) (filter isEarly before) ≤ waitingTypes w before
   unfolding waitingTypes isOrphan definition isMissing isNamed isTypeExtension isTypeDefinition isType definesType isEarly
   types-met t n =
       omega (
         arith,
-        ap (sum (whole w)) (keep-append (isOrphan (before ++ (h ∷ []))) before (h ∷ [])),
-        sum-append (whole w) (keep (isOrphan (before ++ (h ∷ []))) before) (keep (isOrphan (before ++ (h ∷ []))) (h ∷ [])),
+        ap (sum (whole w)) (filter-append (isOrphan (before ++ (h ∷ []))) before (h ∷ [])),
+        sum-append (whole w) (filter (isOrphan (before ++ (h ∷ []))) before) (filter (isOrphan (before ++ (h ∷ []))) (h ∷ [])),
         sum-gate (whole w) (isOrphan (before ++ (h ∷ []))) h [],
-        ap (sum (whole w)) (keep-nil (isOrphan (before ++ (h ∷ [])))),
+        ap (sum (whole w)) (filter-nil (isOrphan (before ++ (h ∷ [])))),
         own,
         sum-two (whole w) (isOrphan (before ++ (h ∷ []))) isEarly (isOrphan before) (λ e v. each e v (isEarly e) refl) before,
       )
@@ -118,21 +125,21 @@ module _ (w : ℕ → ℕ) (before : List Heading) (h : Heading) where
       each e v true x =
           let k : isTypeExtension e ≡ true = and-true (isTypeExtension e) (sameName (h .name) (e .name)) x .0 in
           let m : h .name ≡ e .name = sameName-eq (h .name) (e .name) (and-true (isTypeExtension e) (sameName (h .name) (e .name)) x .1) in
-          let f : firstWhere (definesType (e .name)) before ≡ none = subst (λ s. firstWhere (definesType s) before ≡ none) m n in
+          let f : find (definesType (e .name)) before ≡ none = subst (λ s. find (definesType s) before ≡ none) m n in
           let g : definesType (e .name) h ≡ true = simp (m, sameName-refl, t) in
-          let o : isMissing (firstWhere (definesType (e .name)) (before ++ (h ∷ []))) ≡ false = missing-more (definesType (e .name)) before h ∙ simp (f, g) in
+          let o : isMissing (find (definesType (e .name)) (before ++ (h ∷ []))) ≡ false = missing-more (definesType (e .name)) before h ∙ simp (f, g) in
           simp (k, f, o) (omega (arith, gate-le (sameName (h .name) (e .name)) v))
       each e v false x =
           rw (x, missing-more (definesType (e .name)) before h)
-          (less (isTypeExtension e) (isMissing (firstWhere (definesType (e .name)) before)) (not (definesType (e .name) h)) v)
+          (less (isTypeExtension e) (isMissing (find (definesType (e .name)) before)) (not (definesType (e .name) h)) v)
 
   -- those that it merges are among them
-  early : isTypeDefinition h ≡ true → sum (partsW w) (keep (isOf (h .kind + 7) (h .name)) before) ≤ sum (whole w) (keep isEarly before)
+  early : isTypeDefinition h ≡ true → sum (partsW w) (filter (isOf (h .kind + 7) (h .name)) before) ≤ sum (whole w) (filter isEarly before)
   unfolding isEarly isOf isKind isTypeExtension isTypeDefinition isType
   early t =
       omega (
         arith,
-        parts-le w (keep (isOf (h .kind + 7) (h .name)) before),
+        parts-le w (filter (isOf (h .kind + 7) (h .name)) before),
         sum-implies (whole w) (isOf (h .kind + 7) (h .name)) isEarly (λ e v. each e v (eqb (e .kind) (h .kind + 7)) refl) before,
       )
     where
@@ -148,23 +155,24 @@ module _ (w : ℕ → ℕ) (before : List Heading) (h : Heading) where
 
   -- so with the schema
   schema-more : waitingSchema w (before ++ (h ∷ [])) ≡
-      gate (isMissing (schemaDefinition before) && not (isKind 4 h)) (sum (whole w) (keep (isKind 11) before) + gate (isKind 11 h) (whole w h))
+      gate (isMissing (schemaDefinition before) && not (isKind 4 h)) (sum (whole w) (filter (isKind 11) before) + gate (isKind 11 h) (whole w h))
   unfolding waitingSchema schemaDefinition
   schema-more =
-      rw (missing-more (isKind 4) before h) (ap (gate (isMissing (firstWhere (isKind 4) before) && not (isKind 4 h)))
+      rw (missing-more (isKind 4) before h) (ap (gate (isMissing (find (isKind 4) before) && not (isKind 4 h)))
       (omega (
         arith,
-        ap (sum (whole w)) (keep-append (isKind 11) before (h ∷ [])),
-        sum-append (whole w) (keep (isKind 11) before) (keep (isKind 11) (h ∷ [])),
+        ap (sum (whole w)) (filter-append (isKind 11) before (h ∷ [])),
+        sum-append (whole w) (filter (isKind 11) before) (filter (isKind 11) (h ∷ [])),
         sum-gate (whole w) (isKind 11) h [],
-        ap (sum (whole w)) (keep-nil (isKind 11)),
+        ap (sum (whole w)) (filter-nil (isKind 11)),
       )))
 
   no-schema-extension : isKind 11 h ≡ false → waitingSchema w (before ++ (h ∷ [])) ≤ waitingSchema w before
   unfolding waitingSchema
   no-schema-extension e = omega (arith, schema-more, less (isMissing (schemaDefinition before)) (isKind 4 h))
     where
-      less : (m d : Bool) → gate (m && not d) (sum (whole w) (keep (isKind 11) before) + gate (isKind 11 h) (whole w h)) ≤ gate m (sum (whole w) (keep (isKind 11) before))
+      less : (m d : Bool) → gate (m && not d) (sum (whole w) (filter (isKind 11) before) + gate (isKind 11 h) (whole w h)) ≤
+          gate m (sum (whole w) (filter (isKind 11) before))
       less true true = omega arith
       less true false = simp e (omega arith)
       less false d = omega arith
@@ -173,8 +181,8 @@ module _ (w : ℕ → ℕ) (before : List Heading) (h : Heading) where
   unfolding waitingSchema
   schema-waits = omega (arith, schema-more, less (isMissing (schemaDefinition before)) (isKind 4 h))
     where
-      less : (m d : Bool) → gate (m && not d) (sum (whole w) (keep (isKind 11) before) + gate (isKind 11 h) (whole w h)) ≤
-          gate m (sum (whole w) (keep (isKind 11) before)) + gate m (whole w h)
+      less : (m d : Bool) → gate (m && not d) (sum (whole w) (filter (isKind 11) before) + gate (isKind 11 h) (whole w h)) ≤
+          gate m (sum (whole w) (filter (isKind 11) before)) + gate m (whole w h)
       less true true = omega arith
       less true false = omega (arith, gate-le (isKind 11 h) (whole w h))
       less false d = omega arith
@@ -182,7 +190,7 @@ module _ (w : ℕ → ℕ) (before : List Heading) (h : Heading) where
   schema-met : isKind 4 h ≡ true → waitingSchema w (before ++ (h ∷ [])) ≡ 0
   schema-met e = schema-more ∙ go (isMissing (schemaDefinition before))
     where
-      go : (m : Bool) → gate (m && not (isKind 4 h)) (sum (whole w) (keep (isKind 11) before) + gate (isKind 11 h) (whole w h)) ≡ 0
+      go : (m : Bool) → gate (m && not (isKind 4 h)) (sum (whole w) (filter (isKind 11) before) + gate (isKind 11 h) (whole w h)) ≡ 0
       go true = simp e
       go false = refl
 
@@ -247,10 +255,10 @@ module _ (w : ℕ → ℕ) where
   extension-weighs before h d = go (isKind (d .kind + 7) h) refl
     where
       go : (b : Bool) → isKind (d .kind + 7) h ≡ b → sum (errorW w) (lateExtensionErrors before h d) ≤ whole w h
-      go true e = rw e (omega (arith, clashes-weigh w (d .kind) (d .parts ++ partsOf (extensionsOf (h .kind) (h .name) before)) (h .parts)))
+      go true e = rw e (omega (arith, collisions-weigh w (d .kind) (d .parts ++ partsOf (extensionsOf (h .kind) (h .name) before)) (h .parts)))
       go false e = rw e (omega (arith, error-weighs 8 (d .number) h))
 
-  adoption-weighs : (g : Heading) (seen : List Part) (es : List Heading) → sum (errorW w) (adoptionErrors g seen es) ≤ sum (whole w) es
+  adoption-weighs : (g : Heading) (seen : List NamedCard) (es : List Heading) → sum (errorW w) (adoptionErrors g seen es) ≤ sum (whole w) es
   unfolding adoptionErrors
   adoption-weighs g seen [] = omega arith
   adoption-weighs g seen (e ∷ es) = go (isKind (g .kind) e) refl (adoption-weighs g (seen ++ e .parts) es) (adoption-weighs g seen es)
@@ -260,8 +268,8 @@ module _ (w : ℕ → ℕ) where
       go true b ih _ =
           rw b (omega (
             arith,
-            sum-append (errorW w) (clashes (g .kind - 7) seen (e .parts)) (adoptionErrors g (seen ++ e .parts) es),
-            clashes-weigh w (g .kind - 7) seen (e .parts),
+            sum-append (errorW w) (collisions (g .kind - 7) seen (e .parts)) (adoptionErrors g (seen ++ e .parts) es),
+            collisions-weigh w (g .kind - 7) seen (e .parts),
           ))
       go false b _ ih =
           rw b (omega (arith, sum-append (errorW w) (headingError 8 (g .number) e) (adoptionErrors g seen es), error-weighs 8 (g .number) e))
@@ -274,10 +282,10 @@ module _ (w : ℕ → ℕ) where
         sum-to (λ e. sum (errorW w) (headingError n absent e)) (whole w) (λ e. omega (arith, error-weighs n absent e)) es,
       )
 
-  orphan-weighs : (a : Bool) (os : List Heading) (g : Heading) → sum (errorW w) (orphanErrors a os g) ≤ sum (whole w) (keep (sameNamed g) os)
+  orphan-weighs : (a : Bool) (os : List Heading) (g : Heading) → sum (errorW w) (orphanErrors a os g) ≤ sum (whole w) (filter (sameNamed g) os)
   unfolding orphanErrors
-  orphan-weighs true os g = adoption-weighs g [] (keep (sameNamed g) os)
-  orphan-weighs false os g = each-weighs 7 (keep (sameNamed g) os)
+  orphan-weighs true os g = adoption-weighs g [] (filter (sameNamed g) os)
+  orphan-weighs false os g = each-weighs 7 (filter (sameNamed g) os)
 
 -- Reading one more heading.
 module _ (w : ℕ → ℕ) (before : List Heading) (h : Heading) where
@@ -314,8 +322,8 @@ module _ (w : ℕ → ℕ) (before : List Heading) (h : Heading) where
         arith,
         no-extension w before h (not-extension (omega (arith, kind-is 4 k))),
         schema-met w before h k,
-        own-weighs w h (keep (isKind 11) before) 4,
-        parts-le w (keep (isKind 11) before),
+        own-weighs w h (filter (isKind 11) before) 4,
+        parts-le w (filter (isKind 11) before),
       ))
 
   type-step : (o : Option Heading) → definition (h .name) before ≡ o → isTypeDefinition h ≡ true → errorsAt before h ≡ typeErrors before h → Step
@@ -328,7 +336,7 @@ module _ (w : ℕ → ℕ) (before : List Heading) (h : Heading) where
         types-met w before h t o,
         early w before h t,
         no-schema-extension w before h (not-schema-extension (type-low t)),
-        own-weighs w h (keep (isOf (h .kind + 7) (h .name)) before) (h .kind),
+        own-weighs w h (filter (isOf (h .kind + 7) (h .name)) before) (h .kind),
       ))
 
   schemaExtension-step : (o : Option Heading) → schemaDefinition before ≡ o → isKind 11 h ≡ true → errorsAt before h ≡ schemaExtensionErrors before h → Step
@@ -338,7 +346,7 @@ module _ (w : ℕ → ℕ) (before : List Heading) (h : Heading) where
         arith,
         no-extension w before h (not-extension (omega (arith, kind-is 11 k))),
         rw o at (schema-waits w before h),
-        clashes-weigh w 4 (s .parts ++ partsOf (schemaExtensions before)) (h .parts),
+        collisions-weigh w 4 (s .parts ++ partsOf (schemaExtensions before)) (h .parts),
       ))
   schemaExtension-step none o k e =
       rw (e, o) (omega (arith, no-extension w before h (not-extension (omega (arith, kind-is 11 k))), rw o at (schema-waits w before h)))
@@ -387,13 +395,14 @@ module _ (w : ℕ → ℕ) (before : List Heading) (h : Heading) where
 
 module _ (w : ℕ → ℕ) where
   reading-weighs : (before hs : List Heading) →
-      sum (errorW w) (reading before hs) + waitingTypes w (before ++ hs) + waitingSchema w (before ++ hs) ≤ waitingTypes w before + waitingSchema w before + sum (whole w) hs
-  unfolding reading Step
+      sum (errorW w) (readingErrors before hs) + waitingTypes w (before ++ hs) + waitingSchema w (before ++ hs) ≤
+      waitingTypes w before + waitingSchema w before + sum (whole w) hs
+  unfolding readingErrors Step
   reading-weighs before [] = rw (append-nil before) (omega arith)
   reading-weighs before (h ∷ hs) =
       omega (
         arith,
-        sum-append (errorW w) (errorsAt before h) (reading (before ++ (h ∷ [])) hs),
+        sum-append (errorW w) (errorsAt before h) (readingErrors (before ++ (h ∷ [])) hs),
         step w before h,
         rw append-assoc at (reading-weighs (before ++ (h ∷ [])) hs),
       )
@@ -405,32 +414,33 @@ module _ (w : ℕ → ℕ) where
       omega (
         arith,
         sum-flatMap (errorW w) (orphanErrors a (orphans hs)) (firsts sameNamed [] (orphans hs)),
-        sum-to (λ g. sum (errorW w) (orphanErrors a (orphans hs) g)) (λ g. sum (whole w) (keep (sameNamed g) (orphans hs))) (orphan-weighs w a (orphans hs)) (firsts sameNamed [] (orphans hs)),
+        sum-to (λ g. sum (errorW w) (orphanErrors a (orphans hs) g)) (λ g. sum (whole w) (filter (sameNamed g) (orphans hs))) (orphan-weighs w a (orphans hs))
+            (firsts sameNamed [] (orphans hs)),
         sum-groups (whole w) sameNamed (λ e. true) (firsts sameNamed [] (orphans hs)) (λ e v. one-named e v (orphans hs)) (orphans hs),
-        sum-keep (whole w) (λ e. true) (orphans hs),
+        sum-filter (whole w) (λ e. true) (orphans hs),
       )
 
   schema-weighs : (a : Bool) (hs : List Heading) → schemaDefinition hs ≡ none → sum (errorW w) (noSchemaErrors a hs) ≤ waitingSchema w hs
   unfolding noSchemaErrors waitingSchema isMissing schemaExtensions
   schema-weighs true hs e =
-      rw e (omega (arith, clashes-weigh w 4 [] (partsOf (schemaExtensions hs)), parts-weigh w (schemaExtensions hs), parts-le w (schemaExtensions hs)))
+      rw e (omega (arith, collisions-weigh w 4 [] (partsOf (schemaExtensions hs)), parts-weigh w (schemaExtensions hs), parts-le w (schemaExtensions hs)))
   schema-weighs false hs e = rw e (go (isEmpty (defaultRoots false hs)) refl)
     where
-      go : (b : Bool) → isEmpty (defaultRoots false hs) ≡ b → sum (errorW w) (noSchemaErrors false hs) ≤ sum (whole w) (keep (isKind 11) hs)
+      go : (b : Bool) → isEmpty (defaultRoots false hs) ≡ b → sum (errorW w) (noSchemaErrors false hs) ≤ sum (whole w) (filter (isKind 11) hs)
       go true b = rw b (each-weighs w 6 (schemaExtensions hs))
       go false b =
           rw b (omega (
             arith,
-            clashes-weigh w 4 (map partIn (defaultRoots false hs)) (partsOf (schemaExtensions hs)),
+            collisions-weigh w 4 (map partIn (defaultRoots false hs)) (partsOf (schemaExtensions hs)),
             parts-weigh w (schemaExtensions hs),
             parts-le w (schemaExtensions hs),
           ))
 
-  drawing-weighs : (a : Bool) (hs : List Heading) → sum (errorW w) (drawing a hs) ≤ waitingTypes w hs + waitingSchema w hs
-  unfolding drawing
+  drawing-weighs : (a : Bool) (hs : List Heading) → sum (errorW w) (drawingErrors a hs) ≤ waitingTypes w hs + waitingSchema w hs
+  unfolding drawingErrors
   drawing-weighs a hs = go (schemaDefinition hs) refl
     where
-      go : (o : Option Heading) → schemaDefinition hs ≡ o → sum (errorW w) (drawing a hs) ≤ waitingTypes w hs + waitingSchema w hs
+      go : (o : Option Heading) → schemaDefinition hs ≡ o → sum (errorW w) (drawingErrors a hs) ≤ waitingTypes w hs + waitingSchema w hs
       go none e =
           rw e (omega (
             arith,
@@ -441,9 +451,9 @@ module _ (w : ℕ → ℕ) where
       go (some s) e = rw (e, append-nil) (omega (arith, orphans-weigh a hs))
 
   none-wait : waitingTypes w [] + waitingSchema w [] ≡ 0
-  unfolding waitingTypes waitingSchema keep firstWhere schemaDefinition
+  unfolding waitingTypes waitingSchema filter find schemaDefinition
   none-wait = omega (arith, gate-le (isMissing (schemaDefinition [])) 0)
 
-  pub errors-weigh : (a : Bool) (hs : List Heading) → sum (errorW w) (reading [] hs ++ drawing a hs) ≤ sum (whole w) hs
+  pub errors-weigh : (a : Bool) (hs : List Heading) → sum (errorW w) (readingErrors [] hs ++ drawingErrors a hs) ≤ sum (whole w) hs
   errors-weigh a hs =
-      omega (arith, sum-append (errorW w) (reading [] hs) (drawing a hs), reading-weighs [] hs, drawing-weighs a hs, none-wait)
+      omega (arith, sum-append (errorW w) (readingErrors [] hs) (drawingErrors a hs), reading-weighs [] hs, drawing-weighs a hs, none-wait)

@@ -21,21 +21,21 @@ pub mod StoreWrites
 pub mod StoredNames
 pub mod RefusedCalls
 -- Drawings.
-pub mod DrawnRows
-pub mod DrawnTypes
+pub mod BuiltRows
+pub mod BuiltTypes
 pub mod TypesGrow
-pub mod DrawingsGrow
+pub mod BuildsGrow
 pub mod RowBound
 pub mod ErrorBound
 pub mod Bounds
 pub mod PartKinds
 pub mod RowOrder
 pub mod RowCards
-pub mod DrawnWords
+pub mod BuiltWords
 pub mod RowsPass
 pub mod RowsStay
 -- Runs.
 pub mod RunPlaces
 pub mod StoreGrowth
 pub mod Demand3
-mod Runs
+mod RunExamples

@@ -11,11 +11,14 @@ use native.Mathlib.Omega.{arith}
 use borrow.Author.Tests.{eqb-false, eqb-true, ne-eqb}
 use Rattle.definition.specs.Lists.{choose}
 use Rattle.definition.specs.Names.{isName, bytesAt}
-use Rattle.definition.specs.Cards.{Card, Place, isPart, isUnnamed, itemEnd, nameEnd, unknownKind, emptyItem, itemOutsideText, itemBeforeSiblingEnd, itemOutsideHeading, nameAmiss, nameOutsideItem, nameNoName, nameNotItem, misplacedUnder, misplaced, fault, faults, faultAmong, faultFrom}
+use Rattle.definition.specs.Cards.{Card, Place, isPart, isUnnamed, itemEnd, nameEnd, unknownKind, emptyItem, itemOutsideText, itemBeforeSiblingEnd}
+use Rattle.definition.specs.Cards.{itemOutsideHeading, nameAmiss, nameOutsideItem, nameNoName, nameNotItem, misplacedUnder, misplaced, fault, faults}
+use Rattle.definition.specs.Cards.{faultAmong, faultFrom}
 use Rattle.definition.specs.Headings.{nameOf}
 use Rattle.definition.specs.Store.{moved, unmoved}
 use Rattle.definition.proofs.Tests.{choices, eqb-shift, ltb-shift}
-use Rattle.definition.proofs.CleanCards.{Clean, placed, item-within, name-within-item, unnamed-parts, name-within, place-part, place-heading, fault-step, clean-part, clean-heading}
+use Rattle.definition.proofs.CleanCards.{Clean, placed, item-within, name-within-item, unnamed-parts, name-within, place-part, place-heading, fault-step}
+use Rattle.definition.proofs.CleanCards.{clean-part, clean-heading}
 
 -- ---- A moved card.
 
@@ -74,7 +77,10 @@ module _ (text own : List ℕ) (k : ℕ) (lies : (n m : ℕ) → n + m ≤ lengt
   text-same : (h s : Option Card) (c : Card) → itemOutsideText (there text own k h s) (moved k c) ≡ itemOutsideText (here own h s) c
   unfolding itemOutsideText itemEnd moved
   text-same h s c =
-      rw (ltb-shift (c .itemAt) 0 (c .itemAt + k) k k refl (omega arith), ltb-shift (0 + length own) (c .itemAt + c .itemLen) (k + length own) (c .itemAt + k + c .itemLen) k (omega arith) (omega arith))
+      rw (
+        ltb-shift (c .itemAt) 0 (c .itemAt + k) k k refl (omega arith),
+        ltb-shift (0 + length own) (c .itemAt + c .itemLen) (k + length own) (c .itemAt + k + c .itemLen) k (omega arith) (omega arith),
+      )
 
   sibling-same : (h s : Option Card) (c : Card) → itemBeforeSiblingEnd (there text own k h s) (moved k c) ≡ itemBeforeSiblingEnd (here own h s) c
   unfolding itemBeforeSiblingEnd itemEnd moved
@@ -85,7 +91,10 @@ module _ (text own : List ℕ) (k : ℕ) (lies : (n m : ℕ) → n + m ≤ lengt
   unfolding itemOutsideHeading itemEnd moved
   heading-same none s c = refl
   heading-same (some h) s c =
-      rw (ltb-shift (c .itemAt) (h .itemAt) (c .itemAt + k) (h .itemAt + k) k refl refl, ltb-shift (h .itemAt + h .itemLen) (c .itemAt + c .itemLen) (h .itemAt + k + h .itemLen) (c .itemAt + k + c .itemLen) k (omega arith) (omega arith))
+      rw (
+        ltb-shift (c .itemAt) (h .itemAt) (c .itemAt + k) (h .itemAt + k) k refl refl,
+        ltb-shift (h .itemAt + h .itemLen) (c .itemAt + c .itemLen) (h .itemAt + k + h .itemLen) (c .itemAt + k + c .itemLen) k (omega arith) (omega arith),
+      )
 
   amiss-same : (h s : Option Card) (c : Card) → nameAmiss (there text own k h s) (moved k c) ≡ nameAmiss (here own h s) c
   unfolding nameAmiss
@@ -117,7 +126,8 @@ module _ (text own : List ℕ) (k : ℕ) (lies : (n m : ℕ) → n + m ≤ lengt
       go true u = rw (unnamed-moved k c, u)
       go false u = rw (unnamed-moved k c, u, nameAt-named k c u, nameLen-moved k c, lies (c .nameAt) (c .nameLen) w)
 
-  item-same : (h s : Option Card) (c : Card) → emptyItem (here own h s) c ≡ false → nameNotItem (there text own k h s) (moved k c) ≡ nameNotItem (here own h s) c
+  item-same : (h s : Option Card) (c : Card) → emptyItem (here own h s) c ≡ false →
+      nameNotItem (there text own k h s) (moved k c) ≡ nameNotItem (here own h s) c
   unfolding nameNotItem emptyItem
   item-same h s c f = go (isUnnamed c) refl
     where
@@ -125,7 +135,14 @@ module _ (text own : List ℕ) (k : ℕ) (lies : (n m : ℕ) → n + m ≤ lengt
       go true u =
           let q = unnamed-parts c u in
           let d : eqb (c .nameLen) (c .itemLen) ≡ false = ne-eqb (c .nameLen) (c .itemLen) (λ r. eqb-false (c .itemLen) 0 f (omega arith)) in
-          rw (kind-moved k c, nameLen-moved k c, itemLen-moved k c, d, and-false (eqb (moved k c .nameAt) (moved k c .itemAt)), and-false (eqb (c .nameAt) (c .itemAt)))
+          rw (
+            kind-moved k c,
+            nameLen-moved k c,
+            itemLen-moved k c,
+            d,
+            and-false (eqb (moved k c .nameAt) (moved k c .itemAt)),
+            and-false (eqb (c .nameAt) (c .itemAt)),
+          )
       go false u = rw (kind-moved k c, nameLen-moved k c, itemLen-moved k c, nameAt-named k c u, itemAt-moved k c, eqb-shift (c .nameAt) (c .itemAt) k)
 
   place-same : (h s : Option Card) (c : Card) → misplaced (there text own k h s) (moved k c) ≡ misplaced (here own h s) c
@@ -269,9 +286,11 @@ moved-unmoved text k size h s c q = λ i. record {
     named : isUnnamed c ≡ false → (eqb (c .nameLen) 0 ≡ false) × (k ≤ c .nameAt)
     named u = (no-empty-name (placed text k size h s) c u (q .nameIsName), omega (arith, low, name-within-item (placed text k size h s) c u (q .nameInItem) .0))
 
-pub moved-all : (text : List ℕ) (k size i : ℕ) (h s : Option Card) (cs : List Card) → faultFrom text k size i h s cs ≡ none → map (moved k) (map (unmoved k) cs) ≡ cs
+pub moved-all : (text : List ℕ) (k size i : ℕ) (h s : Option Card) (cs : List Card) → faultFrom text k size i h s cs ≡ none →
+    map (moved k) (map (unmoved k) cs) ≡ cs
 moved-all text k size i h s [] e = refl
-moved-all text k size i h s (c ∷ cs) e = go (isPart (c .kind)) refl (moved-all text k size (i + 1) h (some c) cs) (moved-all text k size (i + 1) (some c) none cs)
+moved-all text k size i h s (c ∷ cs) e = go (isPart (c .kind)) refl (moved-all text k size (i + 1) h (some c) cs)
+    (moved-all text k size (i + 1) (some c) none cs)
   where
     go : (b : Bool) → isPart (c .kind) ≡ b →
         (faultFrom text k size (i + 1) h (some c) cs ≡ none → map (moved k) (map (unmoved k) cs) ≡ cs) →

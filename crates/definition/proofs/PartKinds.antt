@@ -7,31 +7,32 @@ use Prim.Native.Nat.{ℕ, _+_}
 use lib.Dec.{ltb}
 use lib.ListN.{length}
 use Rattle.definition.specs.Lists.{All}
-use Rattle.definition.specs.Cards.{Card, isPart, extended, partOrder, placeIn, faultFrom, cardFault, misplaced, misplacedUnder}
-use Rattle.definition.specs.Headings.{Document, Heading, Part, partFrom, headingFrom, group, headingsFrom, headings}
+use Rattle.definition.specs.Cards.{Card, isPart, definitionOf, partOrder, placeIn, faultFrom, cardFault, misplaced, misplacedUnder}
+use Rattle.definition.specs.Headings.{Document, Heading, NamedCard, namedCard, headingFrom, group, headingsFrom, headings}
 use Rattle.definition.proofs.All.{all-append}
 use Rattle.definition.proofs.CleanCards.{Faultless, placed, clean-part, clean-heading}
 use Rattle.definition.proofs.DocumentHeadings.{group-heading, group-part}
 
 -- A part of a kind that a heading of kind k has.
-abbrev pub Fit : ℕ → Part → Type 0
-Fit k p = ltb (placeIn (partOrder (extended k)) (p .kind)) (length (partOrder (extended k))) ≡ true
+abbrev pub Fit : ℕ → NamedCard → Type 0
+Fit k p = ltb (placeIn (partOrder (definitionOf k)) (p .kind)) (length (partOrder (definitionOf k))) ≡ true
 
 abbrev pub Kinded : Heading → Type 0
 Kinded h = All (Fit (h .kind)) (h .parts)
 
-abbrev FitUnder : Option Card → Part → Type 0
+abbrev FitUnder : Option Card → NamedCard → Type 0
 FitUnder none p = Unit {0}
 FitUnder (some c) p = Fit (c .kind) p
 
 fits : (bytes : List ℕ) (base size : ℕ) (h s : Option Card) (c : Card) → isPart (c .kind) ≡ true → misplaced (placed bytes base size h s) c ≡ false →
-    (text : List ℕ) (n : ℕ) → FitUnder h (partFrom text n c)
-unfolding misplaced misplacedUnder partFrom
+    (text : List ℕ) (n : ℕ) → FitUnder h (namedCard text n c)
+unfolding misplaced misplacedUnder namedCard
 fits bytes base size none s c i e text n = tt
-fits bytes base size (some g) s c i e text n = go (ltb (placeIn (partOrder (extended (g .kind))) (c .kind)) (length (partOrder (extended (g .kind))))) refl
+fits bytes base size (some g) s c i e text n = go (ltb (placeIn (partOrder (definitionOf (g .kind))) (c .kind)) (length (partOrder (definitionOf (g .kind)))))
+    refl
   where
-    go : (b : Bool) → ltb (placeIn (partOrder (extended (g .kind))) (c .kind)) (length (partOrder (extended (g .kind)))) ≡ b →
-        ltb (placeIn (partOrder (extended (g .kind))) (c .kind)) (length (partOrder (extended (g .kind)))) ≡ true
+    go : (b : Bool) → ltb (placeIn (partOrder (definitionOf (g .kind))) (c .kind)) (length (partOrder (definitionOf (g .kind)))) ≡ b →
+        ltb (placeIn (partOrder (definitionOf (g .kind))) (c .kind)) (length (partOrder (definitionOf (g .kind)))) ≡ true
     go true q = q
     go false q = let z : true ≡ false = rw (i, q) at e in cc
 
@@ -45,7 +46,8 @@ module _ (bytes : List ℕ) (base size : ℕ) (t : List ℕ) (b i : Bool) where
     where
       go : (q : Bool) → isPart (c .kind) ≡ q →
           (faultFrom bytes base size (k + 1) h (some c) cs ≡ none → All (FitUnder h) (group t b i (n + 1) cs .0) × All Kinded (group t b i (n + 1) cs .1)) →
-          (faultFrom bytes base size (k + 1) (some c) none cs ≡ none → All (Fit (c .kind)) (group t b i (n + 1) cs .0) × All Kinded (group t b i (n + 1) cs .1)) →
+          (faultFrom bytes base size (k + 1) (some c) none cs ≡ none →
+          All (Fit (c .kind)) (group t b i (n + 1) cs .0) × All Kinded (group t b i (n + 1) cs .1)) →
           All (FitUnder h) (group t b i n (c ∷ cs) .0) × All Kinded (group t b i n (c ∷ cs) .1)
       go true q ih _ =
           let f = clean-part bytes base size k h s c cs q e in

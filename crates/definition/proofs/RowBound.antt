@@ -7,19 +7,26 @@ use Prim.Native.Nat.{ℕ, suc, _+_, _≤_, _*_}
 use native.Mathlib.Omega.{arith}
 use lib.Dec.{eqb, leb}
 use borrow.Author.Tests.{eqb-true, eqb-false, ne-eqb, leb-true, leb-false, le-leb}
-use Rattle.definition.specs.Lists.{All, keep, any, isEmpty, firstWhere, flatMap, firsts}
+use Rattle.definition.specs.Lists.{All, filter, any, isEmpty, find, flatMap, firsts}
 use Rattle.definition.specs.Names.{sameName}
 use Rattle.definition.specs.Cards.{isType}
 use Rattle.definition.specs.Answers.{absent}
-use Rattle.definition.specs.Headings.{Heading, isKind, isTypeDefinition, isTypeExtension, isNamed, sameNamed, isMissing, isOrphan, orphans, extensionsOf, isOf, definition, definesType, types, standing, directives, directiveNamed, schemaDefinition, schemaExtensions, numberOf}
-use Rattle.definition.specs.Catalogue.{Component, Row, alikeComponents, component, components, ownComponents, ofExtensions, kept, listed, componentRow, isComponentOf, underType, underSchema, block, typeRow, typeComponents, typeRows, adoptedRow, adoptedRows, adopted, directiveRow, directiveRowAt, directiveRows, defaultRoot, defaultRoots, defaultName, kindNamed, isRootComponent, unadoptedSchema, adoptedSchema, schemaComponents, schemaRows, rows}
+use Rattle.definition.specs.Headings.{Heading, isKind, isTypeDefinition, isTypeExtension, isNamed, sameNamed, isMissing, isOrphan, orphans, extensionsOf}
+use Rattle.definition.specs.Headings.{isOf, definition, definesType, definedTypes, standing, directives, directiveNamed, schemaDefinition}
+use Rattle.definition.specs.Headings.{schemaExtensions, numberOf}
+use Rattle.definition.specs.Catalogue.{Component, Row, alikeComponents, component, components, ownComponents, ofExtensions, kept, listOfKind}
+use Rattle.definition.specs.Catalogue.{componentRow, isComponentOf, underType, underSchema, block, typeRow, typeComponents, typeRows, adoptedRow}
+use Rattle.definition.specs.Catalogue.{adoptedRows, adopted, directiveRow, directiveRowAt, directiveRows, defaultRoot, defaultRoots, defaultName}
+use Rattle.definition.specs.Catalogue.{kindNamed, isRootComponent, unadoptedSchema, adoptedSchema, schemaComponents, schemaRows, rows}
 use Rattle.definition.proofs.Tests.{and-true}
-use Rattle.definition.proofs.Lists.{any-nil, any-yes, any-no, any-append, firsts-nil, firsts-old, firsts-new, first-yes, first-no, none-head, sameName-eq, sameName-refl}
-use Rattle.definition.proofs.All.{all-to, all-with, all-keep, all-firsts, keep-pass}
+use Rattle.definition.proofs.Lists.{any-nil, any-yes, any-no, any-append, firsts-nil, firsts-old, firsts-new, first-yes, first-no, none-head}
+use Rattle.definition.proofs.Lists.{sameName-eq, sameName-refl}
+use Rattle.definition.proofs.All.{all-to, all-with, all-filter, all-firsts, filter-pass}
 use Rattle.definition.proofs.DocumentHeadings.{partsW, whole}
-use Rattle.definition.proofs.DrawnRows.{Fresh}
+use Rattle.definition.proofs.BuiltRows.{Fresh}
 use native.Mathlib.Nat.{le-of-eq, le-refl}
-use Rattle.definition.proofs.Sums.{sum, gate, gate-le, sum-append, sum-to, sum-plus, sum-none, sum-keep, sum-first, sum-two, sum-kept, sum-map, sum-flatMap, sum-groups}
+use Rattle.definition.proofs.Sums.{sum, gate, gate-le, sum-append, sum-to, sum-plus, sum-none, sum-filter, sum-first, sum-two, sum-kept, sum-map}
+use Rattle.definition.proofs.Sums.{sum-flatMap, sum-groups}
 
 -- Of the firsts of a list, at most one is like a given element.
 module _ {ℓ} {A : Type ℓ} (alike : A → A → Bool) (through : (x y z : A) → alike x z ≡ true → alike y z ≡ true → alike x y ≡ true) where
@@ -87,19 +94,19 @@ one-kind j v (k ∷ ks) f = go (eqb j k) refl (one-kind j v ks (f .1))
     go false e ih = simp e (omega arith)
 
 module _ (w : ℕ → ℕ) where
-  listed-weigh : (cs : List Component) (k : ℕ) → sum (rowW w) (listed cs k) ≡ sum (compW w) (keep (isComponentOf k) cs)
-  unfolding listed componentRow
-  listed-weigh cs k = sum-map (rowW w) componentRow (keep (isComponentOf k) cs)
+  listed-weigh : (cs : List Component) (k : ℕ) → sum (rowW w) (listOfKind cs k) ≡ sum (compW w) (filter (isComponentOf k) cs)
+  unfolding listOfKind componentRow
+  listed-weigh cs k = sum-map (rowW w) componentRow (filter (isComponentOf k) cs)
 
-  lists-weigh : (cs : List Component) (ks : List ℕ) → Fresh ks → sum (rowW w) (flatMap (listed cs) ks) ≤ sum (compW w) cs
+  lists-weigh : (cs : List Component) (ks : List ℕ) → Fresh ks → sum (rowW w) (flatMap (listOfKind cs) ks) ≤ sum (compW w) cs
   unfolding isComponentOf
   lists-weigh cs ks f =
       omega (
         arith,
-        sum-flatMap (rowW w) (listed cs) ks,
-        sum-to (λ k. sum (rowW w) (listed cs k)) (λ k. sum (compW w) (keep (isComponentOf k) cs)) (λ k. le-of-eq (listed-weigh cs k)) ks,
+        sum-flatMap (rowW w) (listOfKind cs) ks,
+        sum-to (λ k. sum (rowW w) (listOfKind cs k)) (λ k. sum (compW w) (filter (isComponentOf k) cs)) (λ k. le-of-eq (listed-weigh cs k)) ks,
         sum-groups (compW w) isComponentOf (λ c. true) ks (λ c v. one-kind (c .part .kind) v ks f) cs,
-        sum-keep (compW w) (λ c. true) cs,
+        sum-filter (compW w) (λ c. true) cs,
       )
 
   kept-weigh : (cs : List Component) → sum (compW w) (kept cs) ≤ sum (compW w) cs
@@ -121,7 +128,7 @@ module _ (w : ℕ → ℕ) where
 
   -- a type that a definition brings, and one that is adopted
   type-weighs : (hs : List Heading) (d : Heading) →
-      sum (rowW w) (typeRows hs d) ≤ whole w d + sum (partsW w) (keep (isOf (d .kind + 7) (d .name)) hs)
+      sum (rowW w) (typeRows hs d) ≤ whole w d + sum (partsW w) (filter (isOf (d .kind + 7) (d .name)) hs)
   unfolding typeRows typeRow typeComponents extensionsOf
   type-weighs hs d =
       omega (
@@ -133,7 +140,7 @@ module _ (w : ℕ → ℕ) where
       )
 
   adopted-weighs : (hs : List Heading) (g : Heading) →
-      sum (rowW w) (adoptedRows hs g) ≤ w (g .number) + sum (partsW w) (keep (isOf (g .kind) (g .name)) hs)
+      sum (rowW w) (adoptedRows hs g) ≤ w (g .number) + sum (partsW w) (filter (isOf (g .kind) (g .name)) hs)
   unfolding adoptedRows adoptedRow extensionsOf
   adopted-weighs hs g =
       omega (arith, block-weigh (adoptedRow g) (ofExtensions (extensionsOf (g .kind) (g .name) hs)), extensions-weigh (extensionsOf (g .kind) (g .name) hs))
@@ -142,27 +149,27 @@ module _ (w : ℕ → ℕ) where
 pub isMatched : List Heading → Heading → Bool
 isMatched hs e = isTypeExtension e && not (isMissing (definition (e .name) hs))
 
-found-all : (xs : List Heading) → All (λ d. (p : Heading → Bool) → p d ≡ true → isMissing (firstWhere p xs) ≡ false) xs
+found-all : (xs : List Heading) → All (λ d. (p : Heading → Bool) → p d ≡ true → isMissing (find p xs) ≡ false) xs
 unfolding isMissing
 found-all [] = tt
 found-all (x ∷ xs) = (
   (λ p e. simp (first-yes p x xs e)),
-  all-to (λ d. (p : Heading → Bool) → p d ≡ true → isMissing (firstWhere p xs) ≡ false) (λ d. (p : Heading → Bool) → p d ≡ true → isMissing (firstWhere p (x ∷ xs)) ≡ false)
+  all-to (λ d. (p : Heading → Bool) → p d ≡ true → isMissing (find p xs) ≡ false) (λ d. (p : Heading → Bool) → p d ≡ true → isMissing (find p (x ∷ xs)) ≡ false)
       (λ d h p e. go p (p x) refl (h p e)) xs (found-all xs),
 )
   where
-    go : (p : Heading → Bool) (b : Bool) → p x ≡ b → isMissing (firstWhere p xs) ≡ false → isMissing (firstWhere p (x ∷ xs)) ≡ false
+    go : (p : Heading → Bool) (b : Bool) → p x ≡ b → isMissing (find p xs) ≡ false → isMissing (find p (x ∷ xs)) ≡ false
     go p true e h = simp (first-yes p x xs e)
     go p false e h = simp (first-no p x xs e, h)
 
-pub present : (hs : List Heading) → All (λ d. isMissing (definition (d .name) hs) ≡ false) (keep isTypeDefinition hs)
+pub present : (hs : List Heading) → All (λ d. isMissing (definition (d .name) hs) ≡ false) (filter isTypeDefinition hs)
 unfolding definition definesType isNamed
 present hs =
-    all-with (λ d. (p : Heading → Bool) → p d ≡ true → isMissing (firstWhere p hs) ≡ false) (λ d. isTypeDefinition d ≡ true)
+    all-with (λ d. (p : Heading → Bool) → p d ≡ true → isMissing (find p hs) ≡ false) (λ d. isTypeDefinition d ≡ true)
     (λ d. isMissing (definition (d .name) hs) ≡ false)
     (λ d h e. h (definesType (d .name)) (simp (e, sameName-refl)))
-    (keep isTypeDefinition hs) (all-keep (λ d. (p : Heading → Bool) → p d ≡ true → isMissing (firstWhere p hs) ≡ false) isTypeDefinition hs (found-all hs))
-    (keep-pass isTypeDefinition hs)
+    (filter isTypeDefinition hs) (all-filter (λ d. (p : Heading → Bool) → p d ≡ true → isMissing (find p hs) ≡ false) isTypeDefinition hs (found-all hs))
+    (filter-pass isTypeDefinition hs)
 
 gate-and : (b c : Bool) (v : ℕ) → gate (b && c) v ≤ gate c v
 gate-and true c v = le-refl (gate c v)
@@ -184,8 +191,8 @@ module _ (hs : List Heading) where
       let g : isMissing (definition (e .name) hs) ≡ false = subst (λ s. isMissing (definition s hs) ≡ false) (sameName-eq (d .name) (e .name) n) m in
       simp (c, f, g)
 
-  one-type : (e : Heading) (v : ℕ) → sum (λ d. gate (isOf (d .kind + 7) (d .name) e) v) (types hs) ≤ gate (isMatched hs e) v
-  unfolding types isOf sameNamed
+  one-type : (e : Heading) (v : ℕ) → sum (λ d. gate (isOf (d .kind + 7) (d .name) e) v) (definedTypes hs) ≤ gate (isMatched hs e) v
+  unfolding definedTypes isOf sameNamed
   one-type e v = go (isMatched hs e) refl
     where
       zero : isMatched hs e ≡ false → (d : Heading) → isTypeDefinition d ≡ true → isMissing (definition (d .name) hs) ≡ false →
@@ -193,18 +200,19 @@ module _ (hs : List Heading) where
       zero m d t p true x = let q : true ≡ false = sym (extends d e t p x) ∙ m in cc
       zero m d t p false x = simp x
 
-      go : (b : Bool) → isMatched hs e ≡ b → sum (λ d. gate (isOf (d .kind + 7) (d .name) e) v) (types hs) ≤ gate (isMatched hs e) v
+      go : (b : Bool) → isMatched hs e ≡ b → sum (λ d. gate (isOf (d .kind + 7) (d .name) e) v) (definedTypes hs) ≤ gate (isMatched hs e) v
       go true m =
           simp m (omega (
             arith,
-            one-named e v (keep isTypeDefinition hs),
-            sum-to (λ d. gate (isOf (d .kind + 7) (d .name) e) v) (λ d. gate (sameNamed d e) v) (λ d. gate-and (isKind (d .kind + 7) e) (isNamed (d .name) e) v) (types hs),
+            one-named e v (filter isTypeDefinition hs),
+            sum-to (λ d. gate (isOf (d .kind + 7) (d .name) e) v) (λ d. gate (sameNamed d e) v)
+                (λ d. gate-and (isKind (d .kind + 7) e) (isNamed (d .name) e) v) (definedTypes hs),
           ))
       go false m =
-          simp m (le-of-eq (sum-none (λ d. gate (isOf (d .kind + 7) (d .name) e) v) (types hs)
-          (all-firsts (λ d. gate (isOf (d .kind + 7) (d .name) e) v ≡ 0) sameNamed [] (keep isTypeDefinition hs)
+          simp m (le-of-eq (sum-none (λ d. gate (isOf (d .kind + 7) (d .name) e) v) (definedTypes hs)
+          (all-firsts (λ d. gate (isOf (d .kind + 7) (d .name) e) v ≡ 0) sameNamed [] (filter isTypeDefinition hs)
           (all-with (λ d. isTypeDefinition d ≡ true) (λ d. isMissing (definition (d .name) hs) ≡ false) (λ d. gate (isOf (d .kind + 7) (d .name) e) v ≡ 0)
-          (λ d t p. zero m d t p (isOf (d .kind + 7) (d .name) e) refl) (keep isTypeDefinition hs) (keep-pass isTypeDefinition hs) (present hs)))))
+          (λ d t p. zero m d t p (isOf (d .kind + 7) (d .name) e) refl) (filter isTypeDefinition hs) (filter-pass isTypeDefinition hs) (present hs)))))
 
   adopts : (g e : Heading) → isOrphan hs g ≡ true → isOf (g .kind) (g .name) e ≡ true → isOrphan hs e ≡ true
   unfolding isOf isKind isNamed isOrphan isTypeExtension
@@ -235,7 +243,7 @@ module _ (hs : List Heading) where
           simp m (le-of-eq (sum-none (λ g. gate (isOf (g .kind) (g .name) e) v) (firsts sameNamed [] (orphans hs))
           (all-firsts (λ g. gate (isOf (g .kind) (g .name) e) v ≡ 0) sameNamed [] (orphans hs)
           (all-to (λ g. isOrphan hs g ≡ true) (λ g. gate (isOf (g .kind) (g .name) e) v ≡ 0)
-          (λ g o. zero m g o (isOf (g .kind) (g .name) e) refl) (orphans hs) (keep-pass (isOrphan hs) hs)))))
+          (λ g o. zero m g o (isOf (g .kind) (g .name) e) refl) (orphans hs) (filter-pass (isOrphan hs) hs)))))
 
 -- The default root of a kind, as a component.
 unfoldable pub rootComponent : ℕ → Component
@@ -278,7 +286,8 @@ module _ (hs : List Heading) (o : schemaDefinition hs ≡ none) where
 defined-weighs : (w : ℕ → ℕ) (a : Bool) (hs : List Heading) (s : Heading) → schemaDefinition hs ≡ some s →
     w (numberOf (some s)) + sum (compW w) (schemaComponents a hs) ≤ whole w s + sum (compW w) (schemaBrought hs)
 unfolding numberOf
-defined-weighs w a hs s e = rw (schema-defined a hs s e) (omega (arith, sum-append (compW w) (components absent s) (schemaBrought hs), components-weigh w absent s))
+defined-weighs w a hs s e = rw (schema-defined a hs s e)
+    (omega (arith, sum-append (compW w) (components absent s) (schemaBrought hs), components-weigh w absent s))
 
 absent-number : (w : ℕ → ℕ) → w (numberOf none) ≡ w absent
 unfolding numberOf
@@ -286,30 +295,32 @@ absent-number w = refl
 
 -- The rows of types, adopted ones too.
 module _ (w : ℕ → ℕ) (hs : List Heading) where
-  types-weigh : sum (rowW w) (flatMap (typeRows hs) (types hs)) ≤ sum (whole w) (keep isTypeDefinition hs) + sum (partsW w) (keep (isMatched hs) hs)
-  unfolding types
+  types-weigh : sum (rowW w) (flatMap (typeRows hs) (definedTypes hs)) ≤ sum (whole w) (filter isTypeDefinition hs) + sum (partsW w) (filter (isMatched hs) hs)
+  unfolding definedTypes
   types-weigh =
       omega (
         arith,
-        sum-flatMap (rowW w) (typeRows hs) (types hs),
-        sum-to (λ d. sum (rowW w) (typeRows hs d)) (λ d. whole w d + sum (partsW w) (keep (isOf (d .kind + 7) (d .name)) hs)) (type-weighs w hs) (types hs),
-        sum-plus (whole w) (λ d. sum (partsW w) (keep (isOf (d .kind + 7) (d .name)) hs)) (types hs),
-        sum-kept sameNamed (whole w) [] (keep isTypeDefinition hs),
-        sum-groups (partsW w) (λ d. isOf (d .kind + 7) (d .name)) (isMatched hs) (types hs) (one-type hs) hs,
+        sum-flatMap (rowW w) (typeRows hs) (definedTypes hs),
+        sum-to (λ d. sum (rowW w) (typeRows hs d)) (λ d. whole w d + sum (partsW w) (filter (isOf (d .kind + 7) (d .name)) hs)) (type-weighs w hs)
+            (definedTypes hs),
+        sum-plus (whole w) (λ d. sum (partsW w) (filter (isOf (d .kind + 7) (d .name)) hs)) (definedTypes hs),
+        sum-kept sameNamed (whole w) [] (filter isTypeDefinition hs),
+        sum-groups (partsW w) (λ d. isOf (d .kind + 7) (d .name)) (isMatched hs) (definedTypes hs) (one-type hs) hs,
       )
 
-  adopted-weigh : (a : Bool) → sum (rowW w) (adopted a hs) ≤ sum (whole w) (keep (isOrphan hs) hs)
+  adopted-weigh : (a : Bool) → sum (rowW w) (adopted a hs) ≤ sum (whole w) (filter (isOrphan hs) hs)
   unfolding adopted orphans
   adopted-weigh false = omega arith
   adopted-weigh true =
       omega (
         arith,
         sum-flatMap (rowW w) (adoptedRows hs) (firsts sameNamed [] (orphans hs)),
-        sum-to (λ g. sum (rowW w) (adoptedRows hs g)) (λ g. w (g .number) + sum (partsW w) (keep (isOf (g .kind) (g .name)) hs)) (adopted-weighs w hs) (firsts sameNamed [] (orphans hs)),
-        sum-plus (λ g. w (g .number)) (λ g. sum (partsW w) (keep (isOf (g .kind) (g .name)) hs)) (firsts sameNamed [] (orphans hs)),
+        sum-to (λ g. sum (rowW w) (adoptedRows hs g)) (λ g. w (g .number) + sum (partsW w) (filter (isOf (g .kind) (g .name)) hs)) (adopted-weighs w hs)
+            (firsts sameNamed [] (orphans hs)),
+        sum-plus (λ g. w (g .number)) (λ g. sum (partsW w) (filter (isOf (g .kind) (g .name)) hs)) (firsts sameNamed [] (orphans hs)),
         sum-kept sameNamed (λ g. w (g .number)) [] (orphans hs),
         sum-groups (partsW w) (λ g. isOf (g .kind) (g .name)) (isOrphan hs) (firsts sameNamed [] (orphans hs)) (one-adopted hs) hs,
-        sum-plus (λ g. w (g .number)) (partsW w) (keep (isOrphan hs) hs),
+        sum-plus (λ g. w (g .number)) (partsW w) (filter (isOrphan hs) hs),
       )
 
   -- directive definitions
@@ -325,16 +336,16 @@ module _ (w : ℕ → ℕ) (hs : List Heading) where
       go true e ih = rw e (omega arith)
       go false e ih = rw e (omega arith)
 
-  directives-weigh : sum (rowW w) (directiveRows hs) ≤ sum (whole w) (keep (isKind 3) hs)
+  directives-weigh : sum (rowW w) (directiveRows hs) ≤ sum (whole w) (filter (isKind 3) hs)
   unfolding directiveRows directiveRowAt directiveNamed directiveRow directives sameNamed
   directives-weigh =
       omega (
         arith,
         sum-flatMap (rowW w) (directiveRowAt hs) (firsts sameNamed [] (directives hs)),
-        sum-to (λ h. sum (rowW w) (directiveRowAt hs h)) (λ h. sum (λ e. w (e .number)) (keep (sameNamed h) (directives hs)))
-            (λ h. omega (arith, standing-weighs none (keep (sameNamed h) (directives hs)))) (firsts sameNamed [] (directives hs)),
+        sum-to (λ h. sum (rowW w) (directiveRowAt hs h)) (λ h. sum (λ e. w (e .number)) (filter (sameNamed h) (directives hs)))
+            (λ h. omega (arith, standing-weighs none (filter (sameNamed h) (directives hs)))) (firsts sameNamed [] (directives hs)),
         sum-groups (λ e. w (e .number)) sameNamed (λ e. true) (firsts sameNamed [] (directives hs)) (λ e v. one-named e v (directives hs)) (directives hs),
-        sum-keep (λ e. w (e .number)) (λ e. true) (directives hs),
+        sum-filter (λ e. w (e .number)) (λ e. true) (directives hs),
         sum-to (λ e. w (e .number)) (whole w) (λ e. omega arith) (directives hs),
       )
 
@@ -371,7 +382,7 @@ module _ (w : ℕ → ℕ) (hs : List Heading) where
       go true e = rw (no-roots hs o e) (omega arith)
       go false e = rw (some-roots hs o e) (omega (arith, sum-append (compW w) (defaultRoots false hs) (schemaBrought hs), roots-weigh false))
 
-  schema-weighs : (a : Bool) → sum (rowW w) (schemaRows a hs) ≤ sum (whole w) (keep (isKind 4) hs) + sum (whole w) (keep (isKind 11) hs) + 4 * w absent
+  schema-weighs : (a : Bool) → sum (rowW w) (schemaRows a hs) ≤ sum (whole w) (filter (isKind 4) hs) + sum (whole w) (filter (isKind 11) hs) + 4 * w absent
   unfolding schemaRows underSchema any schemaDefinition schemaExtensions schemaBrought
   schema-weighs a =
       omega (
@@ -380,12 +391,12 @@ module _ (w : ℕ → ℕ) (hs : List Heading) where
         kept-weigh w (schemaComponents a hs),
         made (schemaDefinition hs) refl,
         extensions-weigh w (schemaExtensions hs),
-        sum-to (partsW w) (whole w) (λ e. omega arith) (keep (isKind 11) hs),
+        sum-to (partsW w) (whole w) (λ e. omega arith) (filter (isKind 11) hs),
       )
     where
       made : (o : Option Heading) → schemaDefinition hs ≡ o →
           w (numberOf (schemaDefinition hs)) + sum (compW w) (schemaComponents a hs) ≤
-          sum (whole w) (keep (isKind 4) hs) + sum (compW w) (schemaBrought hs) + 4 * w absent
+          sum (whole w) (filter (isKind 4) hs) + sum (compW w) (schemaBrought hs) + 4 * w absent
       made none e = rw e (omega (arith, undefined-weighs a e, absent-number w))
       made (some s) e = rw e (omega (arith, defined-weighs w a hs s e, sum-first (whole w) (isKind 4) hs s e))
 
@@ -415,8 +426,8 @@ from : ℕ → Heading → Bool
 from k h = leb k (h .kind)
 
 module _ (w : ℕ → ℕ) (hs : List Heading) where
-  pub sorts : sum (whole w) (keep (isKind 3) hs) + sum (whole w) (keep (isKind 4) hs) + sum (whole w) (keep isTypeDefinition hs) +
-      sum (whole w) (keep (isKind 11) hs) + sum (whole w) (keep isTypeExtension hs) ≤ sum (whole w) hs
+  pub sorts : sum (whole w) (filter (isKind 3) hs) + sum (whole w) (filter (isKind 4) hs) + sum (whole w) (filter isTypeDefinition hs) +
+      sum (whole w) (filter (isKind 11) hs) + sum (whole w) (filter isTypeExtension hs) ≤ sum (whole w) hs
   unfolding isKind isTypeDefinition isType isTypeExtension from
   sorts =
       omega (
@@ -426,10 +437,10 @@ module _ (w : ℕ → ℕ) (hs : List Heading) where
         sum-two (whole w) isTypeDefinition (from 11) (from 5) (λ h v. one-range (h .kind) 5 10 v (omega arith)) hs,
         sum-two (whole w) (isKind 11) (from 12) (from 11) (λ h v. one-of (h .kind) 11 v) hs,
         sum-two (whole w) isTypeExtension (from 18) (from 12) (λ h v. one-range (h .kind) 12 17 v (omega arith)) hs,
-        sum-keep (whole w) (from 3) hs,
+        sum-filter (whole w) (from 3) hs,
       )
 
-  matched-or-not : sum (whole w) (keep (isMatched hs) hs) + sum (whole w) (keep (isOrphan hs) hs) ≤ sum (whole w) (keep isTypeExtension hs)
+  matched-or-not : sum (whole w) (filter (isMatched hs) hs) + sum (whole w) (filter (isOrphan hs) hs) ≤ sum (whole w) (filter isTypeExtension hs)
   unfolding isMatched isOrphan
   matched-or-not =
       sum-two (whole w) (isMatched hs) (isOrphan hs) isTypeExtension
@@ -445,14 +456,14 @@ module _ (w : ℕ → ℕ) (hs : List Heading) where
   rows-weigh a =
       omega (
         arith,
-        sum-append (rowW w) (schemaRows a hs) (directiveRows hs ++ (flatMap (typeRows hs) (types hs) ++ adopted a hs)),
-        sum-append (rowW w) (directiveRows hs) (flatMap (typeRows hs) (types hs) ++ adopted a hs),
-        sum-append (rowW w) (flatMap (typeRows hs) (types hs)) (adopted a hs),
+        sum-append (rowW w) (schemaRows a hs) (directiveRows hs ++ (flatMap (typeRows hs) (definedTypes hs) ++ adopted a hs)),
+        sum-append (rowW w) (directiveRows hs) (flatMap (typeRows hs) (definedTypes hs) ++ adopted a hs),
+        sum-append (rowW w) (flatMap (typeRows hs) (definedTypes hs)) (adopted a hs),
         schema-weighs w hs a,
         directives-weigh w hs,
         types-weigh w hs,
         adopted-weigh w hs a,
-        sum-to (partsW w) (whole w) (λ e. omega arith) (keep (isMatched hs) hs),
+        sum-to (partsW w) (whole w) (λ e. omega arith) (filter (isMatched hs) hs),
         matched-or-not,
         sorts,
       )

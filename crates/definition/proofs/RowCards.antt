@@ -7,17 +7,22 @@ use Prim.Native.Nat.{ℕ, _+_, _-_, _≤_}
 use native.Mathlib.Omega.{arith}
 use lib.Dec.{eqb, leb}
 use borrow.Author.Tests.{eqb-true, leb-true}
-use Rattle.definition.specs.Lists.{All, keep, any, isEmpty, flatMap, firsts}
+use Rattle.definition.specs.Lists.{All, filter, any, isEmpty, flatMap, firsts}
 use Rattle.definition.specs.Cards.{isType}
 use Rattle.definition.specs.Answers.{absent}
-use Rattle.definition.specs.Headings.{Heading, isKind, isTypeDefinition, isTypeExtension, isOrphan, orphans, sameNamed, isNamed, extensionsOf, isOf, types, standing, directives, directiveNamed, schemaDefinition, schemaExtensions, numberOf}
-use Rattle.definition.specs.Catalogue.{Component, Row, alikeComponents, component, components, ownComponents, ofExtensions, kept, listed, componentRow, isComponentOf, underType, underSchema, block, typeRow, typeComponents, typeRows, adoptedRow, adoptedRows, adopted, directiveRow, directiveRowAt, directiveRows, defaultRoot, defaultRoots, defaultName, kindNamed, isRootComponent, schemaComponents, schemaRows, rows}
+use Rattle.definition.specs.Headings.{Heading, isKind, isTypeDefinition, isTypeExtension, isOrphan, orphans, sameNamed, isNamed, extensionsOf, isOf}
+use Rattle.definition.specs.Headings.{definedTypes, standing, directives, directiveNamed, schemaDefinition, schemaExtensions, numberOf}
+use Rattle.definition.specs.Catalogue.{Component, Row, alikeComponents, component, components, ownComponents, ofExtensions, kept, listOfKind}
+use Rattle.definition.specs.Catalogue.{componentRow, isComponentOf, underType, underSchema, block, typeRow, typeComponents, typeRows, adoptedRow}
+use Rattle.definition.specs.Catalogue.{adoptedRows, adopted, directiveRow, directiveRowAt, directiveRows, defaultRoot, defaultRoots, defaultName}
+use Rattle.definition.specs.Catalogue.{kindNamed, isRootComponent, schemaComponents, schemaRows, rows}
 use Rattle.definition.specs.LentRows.{isTypeRow}
 use Rattle.definition.proofs.Tests.{and-true}
 use Rattle.definition.proofs.Lists.{split}
-use Rattle.definition.proofs.All.{all-append, all-keep, all-firsts, all-map, all-flatMap, all-every, all-to, all-with, keep-pass, all-found}
-use Rattle.definition.proofs.DrawnRows.{extension-row, orphans-extend}
-use Rattle.definition.proofs.RowBound.{rootComponent, root-set, root-unset, schemaBrought, schema-defined, adopting-set, adopting-unset, no-roots, some-roots}
+use Rattle.definition.proofs.All.{all-append, all-filter, all-firsts, all-map, all-flatMap, all-every, all-to, all-with, filter-pass, all-found}
+use Rattle.definition.proofs.BuiltRows.{extension-row, orphans-extend}
+use Rattle.definition.proofs.RowBound.{rootComponent, root-set, root-unset, schemaBrought, schema-defined, adopting-set, adopting-unset, no-roots}
+use Rattle.definition.proofs.RowBound.{some-roots}
 
 module _ (S : ℕ → ℕ → Type 0) (D : ℕ → Type 0) where
   -- a heading of kind 11 to 17
@@ -50,14 +55,14 @@ module _ (S : ℕ → ℕ → Type 0) (D : ℕ → Type 0) where
   row-fits c t (extended s e) = extended t s e
   row-fits c t (default l u d n o) = default l u d n o
 
-  lists-fit : (cs : List Component) (ks : List ℕ) → All (λ k. isType k ≡ false) ks → All PartFits cs → All RowFits (flatMap (listed cs) ks)
-  unfolding listed isTypeRow componentRow isComponentOf
+  lists-fit : (cs : List Component) (ks : List ℕ) → All (λ k. isType k ≡ false) ks → All PartFits cs → All RowFits (flatMap (listOfKind cs) ks)
+  unfolding listOfKind isTypeRow componentRow isComponentOf
   lists-fit cs ks p a =
-      all-flatMap RowFits (listed cs) ks (all-to (λ k. isType k ≡ false) (λ k. All RowFits (listed cs k))
-      (λ k t. all-map RowFits componentRow (keep (isComponentOf k) cs)
+      all-flatMap RowFits (listOfKind cs) ks (all-to (λ k. isType k ≡ false) (λ k. All RowFits (listOfKind cs k))
+      (λ k t. all-map RowFits componentRow (filter (isComponentOf k) cs)
       (all-with PartFits (λ c. isComponentOf k c ≡ true) (λ c. RowFits (componentRow c))
-      (λ c f e. row-fits c (subst (λ i. isType i ≡ false) (sym (eqb-true (c .part .kind) k e)) t) f) (keep (isComponentOf k) cs)
-      (all-keep PartFits (isComponentOf k) cs a) (keep-pass (isComponentOf k) cs))) ks p)
+      (λ c f e. row-fits c (subst (λ i. isType i ≡ false) (sym (eqb-true (c .part .kind) k e)) t) f) (filter (isComponentOf k) cs)
+      (all-filter PartFits (isComponentOf k) cs a) (filter-pass (isComponentOf k) cs))) ks p)
 
   plain-types : All (λ k. isType k ≡ false) underType
   unfolding underType isType
@@ -70,7 +75,8 @@ module _ (S : ℕ → ℕ → Type 0) (D : ℕ → Type 0) where
   of-definition : (h : Heading) → Stored h → All PartFits (components absent h)
   unfolding components component
   of-definition h s =
-      all-map PartFits (component absent) (h .parts) (all-to (λ p. S (p .kind) (p .number)) (λ p. PartFits (component absent p)) (λ p t. defined t refl) (h .parts) (s .1))
+      all-map PartFits (component absent) (h .parts)
+      (all-to (λ p. S (p .kind) (p .number)) (λ p. PartFits (component absent p)) (λ p t. defined t refl) (h .parts) (s .1))
 
   of-extension : (h : Heading) → Stored h → 11 ≤ h .kind → h .kind ≤ 17 → All PartFits (ownComponents h)
   unfolding ownComponents components component
@@ -80,12 +86,12 @@ module _ (S : ℕ → ℕ → Type 0) (D : ℕ → Type 0) where
       (λ p t. extended t (record { kind = h .kind; low = l; high = u; stored = s .0 })) (h .parts) (s .1))
 
   of-extensions : (k : ℕ) → 11 ≤ k → k ≤ 17 → (p : Heading → Bool) → ((e : Heading) → p e ≡ true → e .kind ≡ k) → (hs : List Heading) → All Stored hs →
-      All PartFits (ofExtensions (keep p hs))
+      All PartFits (ofExtensions (filter p hs))
   unfolding ofExtensions
   of-extensions k l u p is hs a =
-      all-flatMap PartFits ownComponents (keep p hs)
+      all-flatMap PartFits ownComponents (filter p hs)
       (all-with Stored (λ e. p e ≡ true) (λ e. All PartFits (ownComponents e))
-      (λ e s t. let q = is e t in of-extension e s (omega arith) (omega arith)) (keep p hs) (all-keep Stored p hs a) (keep-pass p hs))
+      (λ e s t. let q = is e t in of-extension e s (omega arith) (omega arith)) (filter p hs) (all-filter Stored p hs a) (filter-pass p hs))
 
   is-extension : (k : ℕ) (n : List ℕ) (e : Heading) → isOf k n e ≡ true → e .kind ≡ k
   unfolding isOf isKind
@@ -103,7 +109,7 @@ module _ (S : ℕ → ℕ → Type 0) (D : ℕ → Type 0) where
         let u = leb-true (d .kind) 10 (and-true (leb 5 (d .kind)) (leb (d .kind) 10) t .1) in (
           defined (s .0) refl,
           lists-fit (kept (typeComponents hs d)) underType plain-types (kept-fit (typeComponents hs d)
-              (all-append PartFits (components absent d) (ofExtensions (keep (isOf (d .kind + 7) (d .name)) hs)) (of-definition d s)
+              (all-append PartFits (components absent d) (ofExtensions (filter (isOf (d .kind + 7) (d .name)) hs)) (of-definition d s)
               (of-extensions (d .kind + 7) (omega arith) (omega arith) (isOf (d .kind + 7) (d .name)) (is-extension (d .kind + 7) (d .name)) hs a))),
         )
 
@@ -114,7 +120,8 @@ module _ (S : ℕ → ℕ → Type 0) (D : ℕ → Type 0) where
         let u = leb-true (g .kind) 17 (and-true (leb 12 (g .kind)) (leb (g .kind) 17) t .1) in
         let q : g .kind ≡ g .kind - 7 + 7 = omega arith in (
           adopting (extension-row g t) (subst (λ k. S k (g .number)) q (s .0)) refl,
-          lists-fit (kept (ofExtensions (extensionsOf (g .kind) (g .name) hs))) underType plain-types (kept-fit (ofExtensions (extensionsOf (g .kind) (g .name) hs))
+          lists-fit (kept (ofExtensions (extensionsOf (g .kind) (g .name) hs))) underType plain-types
+              (kept-fit (ofExtensions (extensionsOf (g .kind) (g .name) hs))
               (of-extensions (g .kind) (omega arith) (omega arith) (isOf (g .kind) (g .name)) (is-extension (g .kind) (g .name)) hs a)),
         )
 
@@ -137,10 +144,10 @@ module _ (S : ℕ → ℕ → Type 0) (D : ℕ → Type 0) where
     directives-fit =
         all-flatMap RowFits (directiveRowAt hs) (firsts sameNamed [] (directives hs))
         (all-every (λ h. All RowFits (directiveRowAt hs h))
-        (λ h. standing-fits none (keep (isNamed (h .name)) (directives hs)) tt
-        (all-keep Directive (isNamed (h .name)) (directives hs)
+        (λ h. standing-fits none (filter (isNamed (h .name)) (directives hs)) tt
+        (all-filter Directive (isNamed (h .name)) (directives hs)
         (all-with Stored (λ d. isKind 3 d ≡ true) Directive (λ d s t. subst (λ k. S k (d .number)) (eqb-true (d .kind) 3 t) (s .0)) (directives hs)
-        (all-keep Stored (isKind 3) hs a) (keep-pass (isKind 3) hs))))
+        (all-filter Stored (isKind 3) hs a) (filter-pass (isKind 3) hs))))
         (firsts sameNamed [] (directives hs)))
 
     -- the schema
@@ -157,7 +164,8 @@ module _ (S : ℕ → ℕ → Type 0) (D : ℕ → Type 0) where
       unfolding defaultRoots
       roots-fit =
           all-append PartFits (defaultRoot b hs 26 ++ defaultRoot b hs 27) (defaultRoot b hs 28)
-          (all-append PartFits (defaultRoot b hs 26) (defaultRoot b hs 27) (root-fits 26 (omega arith) (omega arith)) (root-fits 27 (omega arith) (omega arith)))
+          (all-append PartFits (defaultRoot b hs 26) (defaultRoot b hs 27) (root-fits 26 (omega arith) (omega arith))
+          (root-fits 27 (omega arith) (omega arith)))
           (root-fits 28 (omega arith) (omega arith))
 
     is-eleven : (e : Heading) → isKind 11 e ≡ true → e .kind ≡ 11
@@ -191,16 +199,17 @@ module _ (S : ℕ → ℕ → Type 0) (D : ℕ → Type 0) where
     schema-fits b set = (
       schema-row (schemaDefinition hs) refl,
       lists-fit (kept (schemaComponents b hs)) underSchema plain-schema
-          (kept-fit (schemaComponents b hs) (schema-parts b set (schemaDefinition hs) refl (of-extensions 11 (omega arith) (omega arith) (isKind 11) is-eleven hs a))),
+          (kept-fit (schemaComponents b hs) (schema-parts b set (schemaDefinition hs) refl
+          (of-extensions 11 (omega arith) (omega arith) (isKind 11) is-eleven hs a))),
     )
 
-    types-fit : All RowFits (flatMap (typeRows hs) (types hs))
-    unfolding types
+    types-fit : All RowFits (flatMap (typeRows hs) (definedTypes hs))
+    unfolding definedTypes
     types-fit =
-        all-flatMap RowFits (typeRows hs) (types hs)
-        (all-with (λ d. isTypeDefinition d ≡ true) Stored (λ d. All RowFits (typeRows hs d)) type-fits (types hs)
-        (all-firsts (λ d. isTypeDefinition d ≡ true) sameNamed [] (keep isTypeDefinition hs) (keep-pass isTypeDefinition hs))
-        (all-firsts Stored sameNamed [] (keep isTypeDefinition hs) (all-keep Stored isTypeDefinition hs a)))
+        all-flatMap RowFits (typeRows hs) (definedTypes hs)
+        (all-with (λ d. isTypeDefinition d ≡ true) Stored (λ d. All RowFits (typeRows hs d)) type-fits (definedTypes hs)
+        (all-firsts (λ d. isTypeDefinition d ≡ true) sameNamed [] (filter isTypeDefinition hs) (filter-pass isTypeDefinition hs))
+        (all-firsts Stored sameNamed [] (filter isTypeDefinition hs) (all-filter Stored isTypeDefinition hs a)))
 
     adoption-fits : (b : Bool) → All RowFits (adopted b hs)
     unfolding adopted orphans
@@ -209,12 +218,12 @@ module _ (S : ℕ → ℕ → Type 0) (D : ℕ → Type 0) where
         all-flatMap RowFits (adoptedRows hs) (firsts sameNamed [] (orphans hs))
         (all-with (λ g. isTypeExtension g ≡ true) Stored (λ g. All RowFits (adoptedRows hs g)) adopted-fits (firsts sameNamed [] (orphans hs))
         (all-firsts (λ g. isTypeExtension g ≡ true) sameNamed [] (orphans hs) (orphans-extend hs))
-        (all-firsts Stored sameNamed [] (orphans hs) (all-keep Stored (isOrphan hs) hs a)))
+        (all-firsts Stored sameNamed [] (orphans hs) (all-filter Stored (isOrphan hs) hs a)))
 
     -- Every row of a drawing.
     pub rows-fit : (b : Bool) → ((k : ℕ) → eqb (kindNamed b hs (defaultName k)) 6 ≡ true → D k) → All RowFits (rows b hs)
     unfolding rows
     rows-fit b set =
-        all-append RowFits (schemaRows b hs) (directiveRows hs ++ (flatMap (typeRows hs) (types hs) ++ adopted b hs)) (schema-fits b set)
-        (all-append RowFits (directiveRows hs) (flatMap (typeRows hs) (types hs) ++ adopted b hs) directives-fit
-        (all-append RowFits (flatMap (typeRows hs) (types hs)) (adopted b hs) types-fit (adoption-fits b)))
+        all-append RowFits (schemaRows b hs) (directiveRows hs ++ (flatMap (typeRows hs) (definedTypes hs) ++ adopted b hs)) (schema-fits b set)
+        (all-append RowFits (directiveRows hs) (flatMap (typeRows hs) (definedTypes hs) ++ adopted b hs) directives-fit
+        (all-append RowFits (flatMap (typeRows hs) (definedTypes hs)) (adopted b hs) types-fit (adoption-fits b)))

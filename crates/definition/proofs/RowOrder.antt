@@ -8,24 +8,26 @@ use native.Mathlib.Omega.{arith}
 use lib.Dec.{eqb, leb, ltb}
 use lib.ListN.{length}
 use borrow.Author.Tests.{eqb-true, eqb-false, eq-eqb, ne-eqb, leb-true, le-leb}
-use Rattle.definition.specs.Lists.{All, choose, keep, any, flatMap, firsts}
-use Rattle.definition.specs.Cards.{isRoot, isType, partOrder, placeIn, extended}
+use Rattle.definition.specs.Lists.{All, choose, filter, any, flatMap, firsts}
+use Rattle.definition.specs.Cards.{isRoot, isType, partOrder, placeIn, definitionOf}
 use Rattle.definition.specs.Answers.{absent}
-use Rattle.definition.specs.Headings.{Heading, Part, isKind, isTypeDefinition, isTypeExtension, isNamed, sameNamed, isOf, alike, extensionsOf, types, directives, directiveNamed}
-use Rattle.definition.specs.Catalogue.{Component, Row, alikeComponents, component, components, ownComponents, ofExtensions, kept, listed, componentRow, isComponentOf, underType, underSchema, typeRow, typeComponents, typeRows, adoptedRow, adoptedRows, adopted, directiveRow, directiveRowAt, directiveRows, schemaComponents, schemaRows, rows}
-use Rattle.definition.specs.LentRows.{isTypeRow, rowOrder, inOrder, orderPasses}
+use Rattle.definition.specs.Headings.{Heading, NamedCard, isKind, isTypeDefinition, isTypeExtension, isNamed, sameNamed, isOf, alike, extensionsOf}
+use Rattle.definition.specs.Headings.{definedTypes, directives, directiveNamed}
+use Rattle.definition.specs.Catalogue.{Component, Row, alikeComponents, component, components, ownComponents, ofExtensions, kept, listOfKind}
+use Rattle.definition.specs.Catalogue.{componentRow, isComponentOf, underType, underSchema, typeRow, typeComponents, typeRows, adoptedRow, adoptedRows}
+use Rattle.definition.specs.Catalogue.{adopted, directiveRow, directiveRowAt, directiveRows, schemaComponents, schemaRows, rows}
+use Rattle.definition.specs.LentRows.{isTypeRow, rowOrder, rowPlace, inOrder, orderPasses}
 use Rattle.definition.proofs.Tests.{and-true}
-use Rattle.definition.proofs.Lists.{flatMap-nil, flatMap-cons, keep-nil, keep-none, keep-firsts, any-yes, firsts-nil, firsts-old, firsts-new, any-nil}
-use Rattle.definition.proofs.All.{all-append, all-keep, all-firsts, all-map, all-flatMap, all-every, all-to, all-with, keep-pass, any-none}
+use Rattle.definition.proofs.Lists.{flatMap-nil, flatMap-cons, filter-nil, filter-none, filter-firsts, any-yes, firsts-nil, firsts-old, firsts-new}
+use Rattle.definition.proofs.Lists.{any-nil}
+use Rattle.definition.proofs.All.{all-append, all-filter, all-firsts, all-map, all-flatMap, all-every, all-to, all-with, filter-pass, any-none}
 use Rattle.definition.proofs.PartKinds.{Fit, Kinded}
-use Rattle.definition.proofs.DrawnRows.{listed-kind, partRows, typeRows-are, adoptedParts, adoptedRows-are, adopted-of, adoptees, adoptees-extend, types-define, extension-row}
+use Rattle.definition.proofs.BuiltRows.{listed-kind, partRows, typeRows-are, adoptedParts, adoptedRows-are, adopted-of, adoptees, adoptees-extend}
+use Rattle.definition.proofs.BuiltRows.{types-define, extension-row}
 
--- The place of a kind under a row of kind k, and whether it has one.
-unfoldable pub place : ℕ → ℕ → ℕ
-place k j = placeIn (rowOrder k) j
-
+-- Whether a kind has a place under a row of kind k.
 unfoldable pub allowed : ℕ → ℕ → Bool
-allowed k j = ltb (place k j) (length (rowOrder k))
+allowed k j = ltb (rowPlace k j) (length (rowOrder k))
 
 order-nil : (k p : ℕ) → inOrder k p [] ≡ true
 unfolding inOrder
@@ -35,17 +37,19 @@ order-type : (k p : ℕ) (r : Row) (rs : List Row) → isTypeRow r ≡ true → 
 unfolding inOrder
 order-type k p r rs e = rw e
 
-order-part : (k p : ℕ) (r : Row) (rs : List Row) → isTypeRow r ≡ false → isRoot (r .what) ≡ false → allowed k (r .what) ≡ true → leb p (place k (r .what)) ≡ true →
-    inOrder k p (r ∷ rs) ≡ inOrder k (place k (r .what)) rs
-unfolding inOrder allowed place
+order-part : (k p : ℕ) (r : Row) (rs : List Row) → isTypeRow r ≡ false → isRoot (r .what) ≡ false → allowed k (r .what) ≡ true →
+    leb p (rowPlace k (r .what)) ≡ true →
+    inOrder k p (r ∷ rs) ≡ inOrder k (rowPlace k (r .what)) rs
+unfolding inOrder allowed
 order-part k p r rs t o a l = rw (t, o, a, l)
 
-order-root : (k p : ℕ) (r : Row) (rs : List Row) → isTypeRow r ≡ false → allowed k (r .what) ≡ true → leb p (place k (r .what)) ≡ true → eqb p (place k (r .what)) ≡ false →
-    inOrder k p (r ∷ rs) ≡ inOrder k (place k (r .what)) rs
-unfolding inOrder allowed place
+order-root : (k p : ℕ) (r : Row) (rs : List Row) → isTypeRow r ≡ false → allowed k (r .what) ≡ true → leb p (rowPlace k (r .what)) ≡ true →
+    eqb p (rowPlace k (r .what)) ≡ false →
+    inOrder k p (r ∷ rs) ≡ inOrder k (rowPlace k (r .what)) rs
+unfolding inOrder allowed
 order-root k p r rs t a l n = go (isRoot (r .what)) refl
   where
-    go : (b : Bool) → isRoot (r .what) ≡ b → inOrder k p (r ∷ rs) ≡ inOrder k (place k (r .what)) rs
+    go : (b : Bool) → isRoot (r .what) ≡ b → inOrder k p (r ∷ rs) ≡ inOrder k (rowPlace k (r .what)) rs
     go true e = rw (t, e, a, l, n)
     go false e = rw (t, e, a, l)
 
@@ -57,40 +61,40 @@ abbrev Below : ℕ → ℕ → List Row → Type 0
 Below k q rs = (p : ℕ) → p ≤ q → inOrder k p rs ≡ true
 
 run : (k j : ℕ) (xs ys : List Row) → isType j ≡ false → isRoot j ≡ false → allowed k j ≡ true → All (λ r. r .what ≡ j) xs →
-    Below k (place k j) ys → Below k (place k j) (xs ++ ys)
+    Below k (rowPlace k j) ys → Below k (rowPlace k j) (xs ++ ys)
 unfolding isTypeRow
 run k j [] ys t o a e b = b
 run k j (x ∷ xs) ys t o a e b = λ p l.
     let q = sym (e .0) in
     order-part k p x (xs ++ ys) (subst (λ i. isType i ≡ false) q t) (subst (λ i. isRoot i ≡ false) q o) (subst (λ i. allowed k i ≡ true) q a)
-    (subst (λ i. leb p (place k i) ≡ true) q (le-leb p (place k j) l))
-    ∙ subst (λ i. inOrder k (place k i) (xs ++ ys) ≡ true) q (run k j xs ys t o a (e .1) b (place k j) (omega arith))
+    (subst (λ i. leb p (rowPlace k i) ≡ true) q (le-leb p (rowPlace k j) l))
+    ∙ subst (λ i. inOrder k (rowPlace k i) (xs ++ ys) ≡ true) q (run k j xs ys t o a (e .1) b (rowPlace k j) (omega arith))
 
 -- at most one row of a kind
 abbrev Few : ℕ → List Row → Type 0
 Few j [] = Unit {0}
 Few j (r ∷ rs) = (r .what ≡ j) × (rs ≡ [])
 
-root : (k j q : ℕ) (xs ys : List Row) → isType j ≡ false → allowed k j ≡ true → Few j xs → q < place k j → Below k (place k j) ys → Below k q (xs ++ ys)
+root : (k j q : ℕ) (xs ys : List Row) → isType j ≡ false → allowed k j ≡ true → Few j xs → q < rowPlace k j → Below k (rowPlace k j) ys → Below k q (xs ++ ys)
 unfolding isTypeRow
 root k j q [] ys t a f l b = λ p m. b p (omega arith)
 root k j q (r ∷ rs) ys t a f l b = λ p m.
     let s = sym (f .0) in
     ap (λ x. inOrder k p (r ∷ (x ++ ys))) (f .1)
     ∙ (order-root k p r ys (subst (λ i. isType i ≡ false) s t) (subst (λ i. allowed k i ≡ true) s a)
-    (subst (λ i. leb p (place k i) ≡ true) s (le-leb p (place k j) (omega arith)))
-    (subst (λ i. eqb p (place k i) ≡ false) s (ne-eqb p (place k j) (omega arith)))
-    ∙ subst (λ i. inOrder k (place k i) ys ≡ true) s (b (place k j) (omega arith)))
+    (subst (λ i. leb p (rowPlace k i) ≡ true) s (le-leb p (rowPlace k j) (omega arith)))
+    (subst (λ i. eqb p (rowPlace k i) ≡ false) s (ne-eqb p (rowPlace k j) (omega arith)))
+    ∙ subst (λ i. inOrder k (rowPlace k i) ys ≡ true) s (b (rowPlace k j) (omega arith)))
 
 -- The lists of kinds js under a row of kind k come in order.
 unfoldable sorted : ℕ → ℕ → List ℕ → Bool
 sorted k p [] = true
 sorted k p (j ∷ js) =
-    let listed : Bool = leb p (place k j) && sorted k (place k j) js in
+    let listOfKind : Bool = leb p (rowPlace k j) && sorted k (rowPlace k j) js in
     let empty = sorted k p js in
-    choose (allowed k j) listed empty
+    choose (allowed k j) listOfKind empty
 
-sorted-in : (k p j : ℕ) (js : List ℕ) → allowed k j ≡ true → sorted k p (j ∷ js) ≡ (leb p (place k j) && sorted k (place k j) js)
+sorted-in : (k p j : ℕ) (js : List ℕ) → allowed k j ≡ true → sorted k p (j ∷ js) ≡ (leb p (rowPlace k j) && sorted k (rowPlace k j) js)
 unfolding sorted
 sorted-in k p j js e = rw e
 
@@ -105,9 +109,9 @@ Plain j = (isType j ≡ false) × (isRoot j ≡ false)
 abbrev pub Allowed : ℕ → Component → Type 0
 Allowed k c = allowed k (c .part .kind) ≡ true
 
-none-listed : (k j : ℕ) (cs : List Component) → All (Allowed k) cs → allowed k j ≡ false → listed cs j ≡ []
-unfolding listed isComponentOf
-none-listed k j cs a n = ap (map componentRow) (keep-none (isComponentOf j) cs (any-none (isComponentOf j) cs
+none-listed : (k j : ℕ) (cs : List Component) → All (Allowed k) cs → allowed k j ≡ false → listOfKind cs j ≡ []
+unfolding listOfKind isComponentOf
+none-listed k j cs a n = ap (map componentRow) (filter-none (isComponentOf j) cs (any-none (isComponentOf j) cs
     (all-to (Allowed k) (λ c. isComponentOf j c ≡ false) (λ c e. go c e (eqb (c .part .kind) j) refl) cs a)))
   where
     go : (c : Component) → Allowed k c → (b : Bool) → eqb (c .part .kind) j ≡ b → isComponentOf j c ≡ false
@@ -115,18 +119,19 @@ none-listed k j cs a n = ap (map componentRow) (keep-none (isComponentOf j) cs (
     go c e false q = q
 
 order-lists : (k : ℕ) (cs : List Component) (ys : List Row) → All (Allowed k) cs → Ends ys → (js : List ℕ) → All Plain js → (p : ℕ) → sorted k p js ≡ true →
-    Below k p (flatMap (listed cs) js ++ ys)
+    Below k p (flatMap (listOfKind cs) js ++ ys)
 order-lists k cs ys a e [] f p s = λ q l. rw flatMap-nil (e k q)
 order-lists k cs ys a e (j ∷ js) f p s = go (allowed k j) refl (λ q t. order-lists k cs ys a e js (f .1) q t)
   where
-    go : (b : Bool) → allowed k j ≡ b → ((q : ℕ) → sorted k q js ≡ true → Below k q (flatMap (listed cs) js ++ ys)) → Below k p (flatMap (listed cs) (j ∷ js) ++ ys)
+    go : (b : Bool) → allowed k j ≡ b → ((q : ℕ) → sorted k q js ≡ true → Below k q (flatMap (listOfKind cs) js ++ ys)) →
+        Below k p (flatMap (listOfKind cs) (j ∷ js) ++ ys)
     go true h ih =
-        let (l, r) = and-true (leb p (place k j)) (sorted k (place k j) js) (sym (sorted-in k p j js h) ∙ s) in
-        let w : flatMap (listed cs) (j ∷ js) ++ ys ≡ listed cs j ++ (flatMap (listed cs) js ++ ys) = simp (flatMap-cons, append-assoc) in
-        let b = run k j (listed cs j) (flatMap (listed cs) js ++ ys) (f .0 .0) (f .0 .1) h (listed-kind cs j) (ih (place k j) r) in
-        λ q m. ap (inOrder k q) w ∙ b q (omega (arith, leb-true p (place k j) l))
+        let (l, r) = and-true (leb p (rowPlace k j)) (sorted k (rowPlace k j) js) (sym (sorted-in k p j js h) ∙ s) in
+        let w : flatMap (listOfKind cs) (j ∷ js) ++ ys ≡ listOfKind cs j ++ (flatMap (listOfKind cs) js ++ ys) = simp (flatMap-cons, append-assoc) in
+        let b = run k j (listOfKind cs j) (flatMap (listOfKind cs) js ++ ys) (f .0 .0) (f .0 .1) h (listed-kind cs j) (ih (rowPlace k j) r) in
+        λ q m. ap (inOrder k q) w ∙ b q (omega (arith, leb-true p (rowPlace k j) l))
     go false h ih =
-        let w : flatMap (listed cs) (j ∷ js) ++ ys ≡ flatMap (listed cs) js ++ ys = simp (flatMap-cons, none-listed k j cs a h) in
+        let w : flatMap (listOfKind cs) (j ∷ js) ++ ys ≡ flatMap (listOfKind cs) js ++ ys = simp (flatMap-cons, none-listed k j cs a h) in
         λ q m. ap (inOrder k q) w ∙ ih p (sym (sorted-out k p j js h) ∙ s) q m
 
 -- Six kinds of types.
@@ -159,7 +164,7 @@ type-cases P p5 p6 p7 p8 p9 p10 k e =
     go5 false q a b = let n = eqb-false k 5 q in go6 (eqb k 6) refl (omega arith) b
 
 sorted-types : (k : ℕ) → isType k ≡ true → sorted k 0 underType ≡ true
-unfolding sorted underType allowed place rowOrder partOrder placeIn any
+unfolding sorted underType allowed rowOrder partOrder placeIn any
 sorted-types = type-cases (λ k. sorted k 0 underType ≡ true) refl refl refl refl refl refl
 
 plain-types : All Plain underType
@@ -168,40 +173,43 @@ plain-types = ((refl, refl), ((refl, refl), ((refl, refl), ((refl, refl), ((refl
 
 -- A type's rows, after whatever, and before whatever may follow a type.
 pub type-order : (r : Row) (cs : List Component) (ys : List Row) → isTypeRow r ≡ true → All (Allowed (r .what)) cs → Ends ys →
-    Ends (r ∷ (flatMap (listed cs) underType ++ ys))
+    Ends (r ∷ (flatMap (listOfKind cs) underType ++ ys))
 unfolding isTypeRow
 type-order r cs ys t a e k p =
-    order-type k p r (flatMap (listed cs) underType ++ ys) t
+    order-type k p r (flatMap (listOfKind cs) underType ++ ys) t
     ∙ order-lists (r .what) cs ys a e underType plain-types 0 (sorted-types (r .what) t) 0 (omega arith)
 
 row-order : (k : ℕ) → isType k ≡ true → rowOrder k ≡ partOrder k
 unfolding rowOrder
 row-order = type-cases (λ k. rowOrder k ≡ partOrder k) refl refl refl refl refl refl
 
-extended-type : (k : ℕ) → isType k ≡ true → extended k ≡ k
-unfolding extended
-extended-type = type-cases (λ k. extended k ≡ k) refl refl refl refl refl refl
+extended-type : (k : ℕ) → isType k ≡ true → definitionOf k ≡ k
+unfolding definitionOf
+extended-type = type-cases (λ k. definitionOf k ≡ k) refl refl refl refl refl refl
 
-extended-extension : (k : ℕ) → isType k ≡ true → extended (k + 7) ≡ k
-unfolding extended
-extended-extension = type-cases (λ k. extended (k + 7) ≡ k) refl refl refl refl refl refl
+extended-extension : (k : ℕ) → isType k ≡ true → definitionOf (k + 7) ≡ k
+unfolding definitionOf
+extended-extension = type-cases (λ k. definitionOf (k + 7) ≡ k) refl refl refl refl refl refl
 
-fit-allowed : (k j i : ℕ) → isType k ≡ true → extended j ≡ k → ltb (placeIn (partOrder (extended j)) i) (length (partOrder (extended j))) ≡ true → allowed k i ≡ true
-unfolding allowed place
+fit-allowed : (k j i : ℕ) → isType k ≡ true → definitionOf j ≡ k → ltb (placeIn (partOrder (definitionOf j)) i) (length (partOrder (definitionOf j))) ≡ true →
+    allowed k i ≡ true
+unfolding allowed
 fit-allowed k j i t e f = rw (row-order k t) (rw e at f)
 
-of-heading : (k o : ℕ) (h : Heading) → isType k ≡ true → extended (h .kind) ≡ k → Kinded h → All (Allowed k) (components o h)
+of-heading : (k o : ℕ) (h : Heading) → isType k ≡ true → definitionOf (h .kind) ≡ k → Kinded h → All (Allowed k) (components o h)
 unfolding components component
 of-heading k o h t e f =
-    all-map (Allowed k) (component o) (h .parts) (all-to (Fit (h .kind)) (λ p. allowed k (p .kind) ≡ true) (λ p x. fit-allowed k (h .kind) (p .kind) t e x) (h .parts) f)
+    all-map (Allowed k) (component o) (h .parts) (all-to (Fit (h .kind)) (λ p. allowed k (p .kind) ≡ true) (λ p x. fit-allowed k (h .kind) (p .kind) t e x)
+    (h .parts) f)
 
-of-extensions : (k : ℕ) (j : ℕ) (n : List ℕ) → isType k ≡ true → extended j ≡ k → (hs : List Heading) → All Kinded hs → All (Allowed k) (ofExtensions (extensionsOf j n hs))
+of-extensions : (k : ℕ) (j : ℕ) (n : List ℕ) → isType k ≡ true → definitionOf j ≡ k → (hs : List Heading) → All Kinded hs →
+    All (Allowed k) (ofExtensions (extensionsOf j n hs))
 unfolding ofExtensions extensionsOf ownComponents isOf isKind
 of-extensions k j n t e hs a =
-    all-flatMap (Allowed k) ownComponents (keep (isOf j n) hs)
+    all-flatMap (Allowed k) ownComponents (filter (isOf j n) hs)
     (all-with Kinded (λ h. isOf j n h ≡ true) (λ h. All (Allowed k) (ownComponents h))
-    (λ h f i. of-heading k (h .number) h t (ap extended (eqb-true (h .kind) j (and-true (eqb (h .kind) j) (isNamed n h) i .0)) ∙ e) f)
-    (keep (isOf j n) hs) (all-keep Kinded (isOf j n) hs a) (keep-pass (isOf j n) hs))
+    (λ h f i. of-heading k (h .number) h t (ap definitionOf (eqb-true (h .kind) j (and-true (eqb (h .kind) j) (isNamed n h) i .0)) ∙ e) f)
+    (filter (isOf j n) hs) (all-filter Kinded (isOf j n) hs a) (filter-pass (isOf j n) hs))
 
 kept-all : (k : ℕ) (cs : List Component) → All (Allowed k) cs → All (Allowed k) (kept cs)
 unfolding kept
@@ -220,14 +228,16 @@ module _ (hs : List Heading) (kinded : All Kinded hs) where
   unfolding partRows typeRow isTypeDefinition isTypeRow
   type-head d t f ys e = type-order (typeRow d) (kept (typeComponents hs d)) ys t (type-allowed d t f) e
 
-  types-order : (ds : List Heading) → All (λ d. isTypeDefinition d ≡ true) ds → All Kinded ds → (zs : List Row) → Ends zs → Ends (flatMap (typeRows hs) ds ++ zs)
+  types-order : (ds : List Heading) → All (λ d. isTypeDefinition d ≡ true) ds → All Kinded ds → (zs : List Row) → Ends zs →
+      Ends (flatMap (typeRows hs) ds ++ zs)
   types-order [] t f zs e = rw flatMap-nil e
   types-order (d ∷ ds) t f zs e =
-      let w : flatMap (typeRows hs) (d ∷ ds) ++ zs ≡ typeRow d ∷ (partRows hs d ++ (flatMap (typeRows hs) ds ++ zs)) = simp (flatMap-cons, typeRows-are, append-assoc) in
+      let w : flatMap (typeRows hs) (d ∷ ds) ++ zs ≡ typeRow d ∷ (partRows hs d ++ (flatMap (typeRows hs) ds ++ zs)) =
+      simp (flatMap-cons, typeRows-are, append-assoc) in
       rw w (type-head d (t .0) (f .0) (flatMap (typeRows hs) ds ++ zs) (types-order ds (t .1) (f .1) zs e))
 
   adopted-allowed : (g : Heading) → isTypeExtension g ≡ true → All (Allowed (g .kind - 7)) (kept (ofExtensions (extensionsOf (g .kind) (g .name) hs)))
-  unfolding isTypeExtension extended isType
+  unfolding isTypeExtension definitionOf isType
   adopted-allowed g t =
       let (l, u) = and-true (leb 12 (g .kind)) (leb (g .kind) 17) t in
       let a = leb-true 12 (g .kind) l in
@@ -235,7 +245,7 @@ module _ (hs : List Heading) (kinded : All Kinded hs) where
       let c : leb 5 (g .kind - 7) ≡ true = le-leb 5 (g .kind - 7) (omega arith) in
       let d : leb (g .kind - 7) 10 ≡ true = le-leb (g .kind - 7) 10 (omega arith) in
       let i : isType (g .kind - 7) ≡ true = simp (c, d) in
-      let e : extended (g .kind) ≡ g .kind - 7 = rw (le-leb 11 (g .kind) (omega arith)) in
+      let e : definitionOf (g .kind) ≡ g .kind - 7 = rw (le-leb 11 (g .kind) (omega arith)) in
       kept-all (g .kind - 7) (ofExtensions (extensionsOf (g .kind) (g .name) hs)) (of-extensions (g .kind - 7) (g .kind) (g .name) i e hs kinded)
 
   adopted-head : (g : Heading) → isTypeExtension g ≡ true → (ys : List Row) → Ends ys → Ends (adoptedRow g ∷ (adoptedParts hs g ++ ys))
@@ -249,10 +259,11 @@ module _ (hs : List Heading) (kinded : All Kinded hs) where
       rw w (adopted-head g (t .0) (flatMap (adoptedRows hs) gs) (adopted-order gs (t .1)))
 
   -- All types, defined and adopted.
-  all-types : (a : Bool) → Ends (flatMap (typeRows hs) (types hs) ++ adopted a hs)
-  unfolding types
+  all-types : (a : Bool) → Ends (flatMap (typeRows hs) (definedTypes hs) ++ adopted a hs)
+  unfolding definedTypes
   all-types a =
-      types-order (types hs) (types-define hs) (all-firsts Kinded sameNamed [] (keep isTypeDefinition hs) (all-keep Kinded isTypeDefinition hs kinded)) (adopted a hs)
+      types-order (definedTypes hs) (types-define hs)
+      (all-firsts Kinded sameNamed [] (filter isTypeDefinition hs) (all-filter Kinded isTypeDefinition hs kinded)) (adopted a hs)
       (rw (adopted-of a hs) (adopted-order (adoptees a hs) (adoptees-extend a hs)))
 
 -- Directive definitions.
@@ -295,25 +306,29 @@ few-of k r (x ∷ xs) a =
     firsts-new alikeComponents [] x xs (any-nil (alikeComponents x)) ∙ ap (λ l. x ∷ l) (no-more k r x (a .0) xs (a .1)) in
     rw w (eqb-true (x .part .kind) k (a .0), refl)
 
-few-roots : (k : ℕ) → isRoot k ≡ true → (cs : List Component) → Few k (listed (kept cs) k)
-unfolding listed kept
+few-roots : (k : ℕ) → isRoot k ≡ true → (cs : List Component) → Few k (listOfKind (kept cs) k)
+unfolding listOfKind kept
 few-roots k r cs =
-    rw (keep-firsts alikeComponents (isComponentOf k) (alike-kind k) [] cs, keep-nil (isComponentOf k))
-    (few-of k r (keep (isComponentOf k) cs) (keep-pass (isComponentOf k) cs))
+    rw (filter-firsts alikeComponents (isComponentOf k) (alike-kind k) [] cs, filter-nil (isComponentOf k))
+    (few-of k r (filter (isComponentOf k) cs) (filter-pass (isComponentOf k) cs))
 
 -- The rows after row 4.
-schema-order : (cs : List Component) (ds ys : List Row) → All (λ r. r .what ≡ 3) ds → Ends ys → inOrder 4 0 (flatMap (listed (kept cs)) underSchema ++ (ds ++ ys)) ≡ true
-unfolding underSchema allowed place rowOrder placeIn any isType isRoot
+schema-order : (cs : List Component) (ds ys : List Row) → All (λ r. r .what ≡ 3) ds → Ends ys →
+    inOrder 4 0 (flatMap (listOfKind (kept cs)) underSchema ++ (ds ++ ys)) ≡ true
+unfolding underSchema allowed rowOrder placeIn any isType isRoot
 schema-order cs ds ys a e =
-    let l : ℕ → List Row = listed (kept cs) in
-    let w : flatMap l (20 ∷ 26 ∷ 27 ∷ 28 ∷ []) ++ (ds ++ ys) ≡ l 20 ++ (l 26 ++ (l 27 ++ (l 28 ++ (ds ++ ys)))) = simp (flatMap-cons, flatMap-nil, append-nil, append-assoc) in
+    let l : ℕ → List Row = listOfKind (kept cs) in
+    let w : flatMap l (20 ∷ 26 ∷ 27 ∷ 28 ∷ []) ++ (ds ++ ys) ≡ l 20 ++ (l 26 ++ (l 27 ++ (l 28 ++ (ds ++ ys)))) =
+    simp (flatMap-cons, flatMap-nil, append-nil, append-assoc) in
     let b4 : Below 4 4 (ds ++ ys) = run 4 3 ds ys refl refl refl a (λ p m. e 4 p) in
     let b3 : Below 4 2 (l 28 ++ (ds ++ ys)) = root 4 28 2 (l 28) (ds ++ ys) refl refl (few-roots 28 refl cs) (omega arith) (λ p m. b4 p (omega arith)) in
     let b2 : Below 4 1 (l 27 ++ (l 28 ++ (ds ++ ys))) = root 4 27 1 (l 27) (l 28 ++ (ds ++ ys)) refl refl (few-roots 27 refl cs) (omega arith) b3 in
-    let b1 : Below 4 0 (l 26 ++ (l 27 ++ (l 28 ++ (ds ++ ys)))) = root 4 26 0 (l 26) (l 27 ++ (l 28 ++ (ds ++ ys))) refl refl (few-roots 26 refl cs) (omega arith) b2 in
+    let b1 : Below 4 0 (l 26 ++ (l 27 ++ (l 28 ++ (ds ++ ys)))) =
+    root 4 26 0 (l 26) (l 27 ++ (l 28 ++ (ds ++ ys))) refl refl (few-roots 26 refl cs) (omega arith) b2 in
     ap (inOrder 4 0) w ∙ run 4 20 (l 20) (l 26 ++ (l 27 ++ (l 28 ++ (ds ++ ys)))) refl refl refl (listed-kind (kept cs) 20) b1 0 (omega arith)
 
 -- Drawn rows are in the catalogue's order of kinds.
-pub drawn-order : (ps : List Part) (a : Bool) (hs : List Heading) → All Kinded hs → orderPasses ps (rows a hs) ≡ true
+pub built-order : (ps : List NamedCard) (a : Bool) (hs : List Heading) → All Kinded hs → orderPasses ps (rows a hs) ≡ true
 unfolding orderPasses rows schemaRows
-drawn-order ps a hs kinded = schema-order (schemaComponents a hs) (directiveRows hs) (flatMap (typeRows hs) (types hs) ++ adopted a hs) (directive-kinds hs) (all-types hs kinded a)
+built-order ps a hs kinded = schema-order (schemaComponents a hs) (directiveRows hs) (flatMap (typeRows hs) (definedTypes hs) ++ adopted a hs)
+    (directive-kinds hs) (all-types hs kinded a)

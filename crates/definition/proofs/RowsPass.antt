@@ -8,14 +8,15 @@ use native.Mathlib.Omega.{arith}
 use lib.Dec.{eqb, leb}
 use lib.ListN.{length, getElem?}
 use borrow.Author.Tests.{eqb-true, eq-eqb, ne-eqb, leb-true, le-leb}
-use Rattle.definition.specs.Lists.{All, found, all, firstWhere, repeats, flatMap}
+use Rattle.definition.specs.Lists.{All, found, all, find, repeats, flatMap}
 use Rattle.definition.specs.Cards.{isRoot, isType, isExtension}
 use Rattle.definition.specs.Answers.{absent}
-use Rattle.definition.specs.Headings.{Document, Part, headings}
+use Rattle.definition.specs.Headings.{Document, NamedCard, headings}
 use Rattle.definition.specs.Catalogue.{Row, rows, defaultName, kindNamed}
-use Rattle.definition.specs.Merge.{draw}
-use Rattle.definition.specs.Refusals.{cardsHeld, cardRoom}
-use Rattle.definition.specs.LentRows.{held, isTypeRow, firstTypeRow, isDefaultRoot, sameCard, cardsOnce, wantedKind, cardPasses, cardsPass, originPasses, originsPass, defaultRootPasses, defaultRootsPass, rowClauses, passes, rowsRefusal}
+use Rattle.definition.specs.Merge.{merge}
+use Rattle.definition.specs.Refusals.{cardsHeld, cardCapacity}
+use Rattle.definition.specs.LentRows.{held, isTypeRow, firstTypeRow, isDefaultRoot, sameCard, cardsOnce, wantedKind, cardPasses, cardsPass, originPasses}
+use Rattle.definition.specs.LentRows.{originsPass, defaultRootPasses, defaultRootsPass, rowClauses, passes, rowsRefusal}
 use Rattle.definition.specs.Outcomes.{wordsOfRow}
 use Rattle.definition.proofs.Tests.{zero-one, and-true}
 use Rattle.definition.proofs.Lists.{repeats-nil, repeats-new, split}
@@ -23,18 +24,18 @@ use Rattle.definition.proofs.All.{all-to, all-pass}
 use Rattle.definition.proofs.Sums.{sum, gate, sum-append, count}
 use Rattle.definition.proofs.CleanCards.{Faultless}
 use Rattle.definition.proofs.DocumentHeadings.{OfCards, Found, headings-held, headings-named, held-length}
-use Rattle.definition.proofs.Bounds.{drawn-row-once}
-use Rattle.definition.proofs.DrawnTypes.{rowKind, kind-named}
+use Rattle.definition.proofs.Bounds.{built-row-once}
+use Rattle.definition.proofs.BuiltTypes.{rowKind, kind-named}
 use Rattle.definition.proofs.RowCards.{RowFits, defined, extended, adopting, default, undefined, Stored, rows-fit}
-use Rattle.definition.proofs.DrawnWords.{words-whole, rows-back}
-use Rattle.definition.proofs.RowOrder.{drawn-order}
+use Rattle.definition.proofs.BuiltWords.{words-whole, rows-back}
+use Rattle.definition.proofs.RowOrder.{built-order}
 use Rattle.definition.proofs.PartKinds.{headings-kinded}
 
 -- Card i is held with kind k.
-abbrev pub Has : List Part → ℕ → ℕ → Type 0
-Has ps k i = (c : Part) × (getElem? ps i ≡ some c) × (c .kind ≡ k)
+abbrev pub Has : List NamedCard → ℕ → ℕ → Type 0
+Has ps k i = (c : NamedCard) × (getElem? ps i ≡ some c) × (c .kind ≡ k)
 
-elem-bound : (ps : List Part) (i : ℕ) (c : Part) → getElem? ps i ≡ some c → i < length ps
+elem-bound : (ps : List NamedCard) (i : ℕ) (c : NamedCard) → getElem? ps i ≡ some c → i < length ps
 elem-bound [] i c e = absurd (zero-one cc)
 elem-bound (p ∷ ps) zero c e = omega arith
 elem-bound (p ∷ ps) (suc i) c e = omega (arith, elem-bound ps i c e)
@@ -51,7 +52,7 @@ or-yes : (b : Bool) → (b || true) ≡ true
 or-yes true = refl
 or-yes false = refl
 
-module _ (ps : List Part) (small : length ps ≤ cardRoom) (D : ℕ → Type 0) where
+module _ (ps : List NamedCard) (small : length ps ≤ cardCapacity) (D : ℕ → Type 0) where
   present : (k i : ℕ) → Has ps k i → eqb i absent ≡ false
   present k i h = ne-eqb i absent (λ e. omega (arith, elem-bound ps i (h .0) (h .1)))
 
@@ -119,7 +120,7 @@ module _ (ps : List Part) (small : length ps ≤ cardRoom) (D : ℕ → Type 0) 
   default-passes rs f r (undefined w c o) = no-default rs r (rw w)
 
 -- No stored card in two rows.
-seen-counts : (x y : Row) (seen : List Row) → firstWhere (sameCard x) seen ≡ some y →
+seen-counts : (x y : Row) (seen : List Row) → find (sameCard x) seen ≡ some y →
     (x .card ≡ absent → ⊥) × (1 ≤ sum (λ r. gate (eqb (r .card) (x .card)) 1) seen)
 unfolding sameCard
 seen-counts x y seen e =
@@ -136,9 +137,9 @@ seen-counts x y seen e =
 
 once-repeats : (seen xs : List Row) → ((c : ℕ) → (c ≡ absent → ⊥) → sum (λ r. gate (eqb (r .card) c) 1) (seen ++ xs) ≤ 1) → repeats sameCard seen xs ≡ []
 once-repeats seen [] h = repeats-nil sameCard seen
-once-repeats seen (x ∷ xs) h = go (firstWhere (sameCard x) seen) refl (once-repeats (seen ++ (x ∷ [])) xs)
+once-repeats seen (x ∷ xs) h = go (find (sameCard x) seen) refl (once-repeats (seen ++ (x ∷ [])) xs)
   where
-    go : (o : Option Row) → firstWhere (sameCard x) seen ≡ o →
+    go : (o : Option Row) → find (sameCard x) seen ≡ o →
         (((c : ℕ) → (c ≡ absent → ⊥) → sum (λ r. gate (eqb (r .card) c) 1) ((seen ++ (x ∷ [])) ++ xs) ≤ 1) → repeats sameCard (seen ++ (x ∷ [])) xs ≡ []) →
         repeats sameCard seen (x ∷ xs) ≡ []
     go none e ih = repeats-new sameCard seen x xs e ∙ ih (λ c n. rw append-assoc (h c n))
@@ -153,11 +154,11 @@ once-repeats seen (x ∷ xs) h = go (firstWhere (sameCard x) seen) refl (once-re
         ))
 
 -- What a drawing gives passes.
-has-found : (ps : List Part) (p : Part) → Found ps p → Has ps (p .kind) (p .number)
+has-found : (ps : List NamedCard) (p : NamedCard) → Found ps p → Has ps (p .kind) (p .number)
 has-found ps p e = (p, e, refl)
 
 -- The default root k finds an object.
-abbrev Object : List Part → List Row → ℕ → Type 0
+abbrev Object : List NamedCard → List Row → ℕ → Type 0
 Object ps rs k = found (firstTypeRow ps rs (defaultName k)) (λ t. eqb (t .what) 6) false ≡ true
 
 kind-six : (o : Option Row) → rowKind o ≡ 6 → found o (λ t. eqb (t .what) 6) false ≡ true
@@ -181,14 +182,14 @@ module _ (a : Bool) (ds : List Document) where
   fit : All (RowFits (Has (held ds)) (Object (held ds) (rows a (headings ds)))) (rows a (headings ds))
   fit = rows-fit (Has (held ds)) (Object (held ds) (rows a (headings ds))) (headings ds) stored a roots-set
 
-  module _ (faultless : All Faultless ds) (small : cardsHeld ds ≤ cardRoom) where
-    few : length (held ds) ≤ cardRoom
+  module _ (faultless : All Faultless ds) (small : cardsHeld ds ≤ cardCapacity) where
+    few : length (held ds) ≤ cardCapacity
     few = omega (arith, held-length ds)
 
     cards-once : cardsOnce (held ds) (rows a (headings ds)) ≡ true
-    unfolding cardsOnce draw
+    unfolding cardsOnce merge
     cards-once =
-        rw (once-repeats [] (rows a (headings ds)) (λ c n. omega (arith, drawn-row-once a ds c n, count (λ r. eqb (r .card) c) (rows a (headings ds)))))
+        rw (once-repeats [] (rows a (headings ds)) (λ c n. omega (arith, built-row-once a ds c n, count (λ r. eqb (r .card) c) (rows a (headings ds)))))
 
     cards-pass : cardsPass (held ds) (rows a (headings ds)) ≡ true
     unfolding cardsPass
@@ -215,9 +216,9 @@ module _ (a : Bool) (ds : List Document) where
     unfolding passes rowClauses
     rows-pass =
         all-pass (passes (held ds) (rows a (headings ds))) rowClauses
-        (drawn-order (held ds) a (headings ds) (headings-kinded ds faultless), (cards-once, (cards-pass, (origins-pass, (defaults-pass, tt)))))
+        (built-order (held ds) a (headings ds) (headings-kinded ds faultless), (cards-once, (cards-pass, (origins-pass, (defaults-pass, tt)))))
 
     -- A drawing's own rows are not refused.
-    pub drawn-unrefused : rowsRefusal ds (flatMap wordsOfRow (draw a ds .rows)) ≡ 0
-    unfolding rowsRefusal draw
-    drawn-unrefused = rw (words-whole (rows a (headings ds)), rows-back (rows a (headings ds)), rows-pass)
+    pub built-unrefused : rowsRefusal ds (flatMap wordsOfRow (merge a ds .rows)) ≡ 0
+    unfolding rowsRefusal merge
+    built-unrefused = rw (words-whole (rows a (headings ds)), rows-back (rows a (headings ds)), rows-pass)

@@ -11,8 +11,11 @@ use borrow.Author.Tests.{leb-true, leb-false}
 use Rattle.definition.specs.declared.Answer.{Answer}
 use Rattle.definition.specs.Lists.{Prefix}
 use Rattle.definition.specs.Answers.{answer}
-use Rattle.definition.specs.Refusals.{Account, document, openingRefusal, filingRefusal}
-use Rattle.definition.specs.Account.{Call, opening, filing, adopting, ignoring, drawing, checking, rootAsked, fieldAsked, subtypeAsked, originsAsked, extensionsAsked, implementersAsked, answered, opened, joined, adoptingFrom, ignoringFrom, orRefused, step, after, Store, stepStore, runStore}
+use Rattle.definition.specs.Account.{Account}
+use Rattle.definition.specs.Refusals.{document, openingRefusal, filingRefusal}
+use Rattle.definition.specs.Calls.{Call, opening, filing, adopting, ignoring, building, checking, rootAsked, fieldAsked, subtypeAsked, originsAsked}
+use Rattle.definition.specs.Calls.{extensionsAsked, implementersAsked, answered, openedAccount, joined, adoptingFrom, ignoringFrom, orRefused, step}
+use Rattle.definition.specs.Calls.{accountAfter, Store, stepStore, runStore}
 use Rattle.definition.specs.Runs.{storeAfter, OpenedAt, NoneOpenedBetween}
 use Rattle.definition.proofs.Tests.{zero-one}
 use Rattle.definition.proofs.StoreAgrees.{HoldsIn, kept, holds-after}
@@ -27,8 +30,8 @@ reply-at s (x ∷ cs) zero c e = let q : x ≡ c = cc in ap (λ y. some (stepSto
 reply-at s (x ∷ cs) (suc k) c e = reply-at (stepStore s x .0) cs k c e
 
 pub account-next : (a : Account) (calls : List Call) (k : ℕ) (c : Call) → getElem? calls k ≡ some c →
-    after a (take (suc k) calls) ≡ step (after a (take k calls)) c .0
-unfolding after
+    accountAfter a (take (suc k) calls) ≡ step (accountAfter a (take k calls)) c .0
+unfolding accountAfter
 account-next a [] k c e = absurd (zero-one cc)
 account-next a (x ∷ cs) zero c e = let q : x ≡ c = cc in ap (λ y. step a y .0) q
 account-next a (x ∷ cs) (suc k) c e = account-next (step a x .0) cs k c e
@@ -61,11 +64,11 @@ Adds c = (text cards : List ℕ) → c ≡ opening text cards → openingRefusal
 
 pub step-later : (a : Account) (c : Call) → Adds c → Later a (step a c .0)
 unfolding step joined adoptingFrom ignoringFrom
-step-later a (opening text ws) n = refused-or a (opened text ws) (openingRefusal text ws) (λ e. absurd (n text ws refl e))
+step-later a (opening text ws) n = refused-or a (openedAccount text ws) (openingRefusal text ws) (λ e. absurd (n text ws refl e))
 step-later a (filing text ws) n = refused-or a (joined a text ws) (filingRefusal a text ws) (λ e. (document (a .ignore) text ws ∷ [], refl))
-step-later a adopting n = later-same a
-step-later a ignoring n = later-same a
-step-later a (drawing rows errors) n = later-same a
+step-later a adopting n = refused-or a (adoptingFrom a) none (λ e. later-same a)
+step-later a ignoring n = refused-or a (ignoringFrom a) none (λ e. later-same a)
+step-later a (building rows errors) n = later-same a
 step-later a (checking rows) n = later-same a
 step-later a (rootAsked rows op) n = later-same a
 step-later a (fieldAsked rows type field) n = later-same a
@@ -77,40 +80,42 @@ step-later a (implementersAsked rows lent) n = later-same a
 -- ---- Between two places of a run of a store s that holds the account a.
 
 module _ (s : Store) (a : Account) (h : HoldsIn s a) (calls : List Call) where
-  holds-at : (k : ℕ) → HoldsIn (storeAfter s (take k calls)) (after a (take k calls))
+  holds-at : (k : ℕ) → HoldsIn (storeAfter s (take k calls)) (accountAfter a (take k calls))
   holds-at k = holds-after (take k calls) s a h
 
   accepted-reply : (b : Account) (text ws : List ℕ) → openingRefusal text ws ≡ none → step b (opening text ws) .1 ≡ answered (answer 0 0)
   unfolding step orRefused
   accepted-reply b text ws e = rw e
 
-  next-later : (k : ℕ) → (OpenedAt s calls k → ⊥) → Later (after a (take k calls)) (after a (take (suc k) calls))
+  next-later : (k : ℕ) → (OpenedAt s calls k → ⊥) → Later (accountAfter a (take k calls)) (accountAfter a (take (suc k) calls))
   next-later k n = go (getElem? calls k) refl
     where
-      go : (o : Option Call) → getElem? calls k ≡ o → Later (after a (take k calls)) (after a (take (suc k) calls))
-      go none e = subst (λ l. Later (after a (take k calls)) (after a l)) (sym (past-end calls k e)) (later-same (after a (take k calls)))
+      go : (o : Option Call) → getElem? calls k ≡ o → Later (accountAfter a (take k calls)) (accountAfter a (take (suc k) calls))
+      go none e = subst (λ l. Later (accountAfter a (take k calls)) (accountAfter a l)) (sym (past-end calls k e)) (later-same (accountAfter a (take k calls)))
       go (some c) e =
-          subst (Later (after a (take k calls))) (sym (account-next a calls k c e))
-          (step-later (after a (take k calls)) c (λ text ws q r. n (record {
+          subst (Later (accountAfter a (take k calls))) (sym (account-next a calls k c e))
+          (step-later (accountAfter a (take k calls)) c (λ text ws q r. n (record {
             text = text;
             cards = ws;
             call = e ∙ ap some q;
             reply =
                 reply-at s calls k c e
-                ∙ ap some (kept (storeAfter s (take k calls)) (after a (take k calls)) (holds-at k) c .reply ∙ ap (λ y. step (after a (take k calls)) y .1) q
-                ∙ accepted-reply (after a (take k calls)) text ws r);
+                ∙ ap some (kept (storeAfter s (take k calls)) (accountAfter a (take k calls)) (holds-at k) c .reply
+                ∙ ap (λ y. step (accountAfter a (take k calls)) y .1) q
+                ∙ accepted-reply (accountAfter a (take k calls)) text ws r);
           })))
 
-  pub later-between : (i j : ℕ) → i < j → NoneOpenedBetween s calls i j → Later (after a (take (suc i) calls)) (after a (take j calls))
+  pub later-between : (i j : ℕ) → i < j → NoneOpenedBetween s calls i j → Later (accountAfter a (take (suc i) calls)) (accountAfter a (take j calls))
   later-between i zero l n = absurd (omega arith)
   later-between i (suc j) l n = go (leb (suc i) j) refl (later-between i j)
     where
-      go : (b : Bool) → leb (suc i) j ≡ b → (i < j → NoneOpenedBetween s calls i j → Later (after a (take (suc i) calls)) (after a (take j calls))) →
-          Later (after a (take (suc i) calls)) (after a (take (suc j) calls))
+      go : (b : Bool) → leb (suc i) j ≡ b → (i < j → NoneOpenedBetween s calls i j →
+          Later (accountAfter a (take (suc i) calls)) (accountAfter a (take j calls))) →
+          Later (accountAfter a (take (suc i) calls)) (accountAfter a (take (suc j) calls))
       go true e ih =
           let m : i < j = omega (arith, leb-true (suc i) j e) in
-          later-then (after a (take (suc i) calls)) (after a (take j calls)) (after a (take (suc j) calls))
+          later-then (accountAfter a (take (suc i) calls)) (accountAfter a (take j calls)) (accountAfter a (take (suc j) calls))
           (ih m (λ k u v. n k u (omega arith))) (next-later j (n j m (omega arith)))
       go false e ih =
           let q : i ≡ j = omega (arith, leb-false (suc i) j e, l) in
-          subst (λ k. Later (after a (take (suc i) calls)) (after a (take (suc k) calls))) q (later-same (after a (take (suc i) calls)))
+          subst (λ k. Later (accountAfter a (take (suc i) calls)) (accountAfter a (take (suc k) calls))) q (later-same (accountAfter a (take (suc i) calls)))

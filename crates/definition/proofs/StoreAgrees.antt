@@ -6,16 +6,20 @@ use mathlib.Core.Option.{Option, none, some}
 use Prim.Native.Nat.{ℕ}
 use Rattle.definition.specs.declared.Answer.{Answer}
 use Rattle.definition.specs.declared.OperationType.{OperationType}
-use Rattle.definition.specs.Refusals.{Account, openingRefusal, filingRefusal}
+use Rattle.definition.specs.Account.{Account}
+use Rattle.definition.specs.Refusals.{openingRefusal, filingRefusal}
 use Rattle.definition.specs.Store.{accountIn, tooShort, storeRefusal}
-use Rattle.definition.specs.Outcomes.{unchanged, accepted, open-store, add-ast, turned, adopt-orphan-extensions, ignore-builtin-redefinitions, build, check-rows, root-operation, type-field, is-subtype, iter-origins, extensions, implementers-map}
-use Rattle.definition.specs.Account.{Call, opening, filing, adopting, ignoring, drawing, checking, rootAsked, fieldAsked, subtypeAsked, originsAsked, extensionsAsked, implementersAsked, Reply, answered, drawn, named, fielded, subtyped, listed, opened, joined, adoptingFrom, ignoringFrom, orRefused, step, runAccount, Store, store, leaves, stepStore, runStore, after}
+use Rattle.definition.specs.Outcomes.{unchanged, accepted, open-store, add-ast, turned, adopt-orphan-extensions, ignore-builtin-redefinitions, build}
+use Rattle.definition.specs.Outcomes.{check-rows, root-operation, type-field, is-subtype, iter-origins, extensions, implementers-map}
+use Rattle.definition.specs.Calls.{Call, opening, filing, adopting, ignoring, building, checking, rootAsked, fieldAsked, subtypeAsked, originsAsked}
+use Rattle.definition.specs.Calls.{extensionsAsked, implementersAsked, Reply, answered, built, named, fielded, subtyped, listed, openedAccount, joined}
+use Rattle.definition.specs.Calls.{adoptingFrom, ignoringFrom, orRefused, step, runAccount, Store, store, leaves, stepStore, runStore, accountAfter}
 use Rattle.definition.specs.Runs.{storeAfter}
-use Rattle.definition.proofs.StoreHolds.{Holds, account-held, refusal-held, long-held, adopting-held, ignoring-held, opening-held, filing-held}
+use Rattle.definition.proofs.StoreHolds.{LaidOut, account-held, refusal-held, long-held, adopting-held, ignoring-held, opening-held, filing-held}
 use Rattle.definition.proofs.RootNames.{root-part}
 
 abbrev pub HoldsIn : Store → Account → Type 0
-HoldsIn s a = Holds (s .text) (s .words) (a .documents) (a .adopt) (a .ignore)
+HoldsIn s a = LaidOut (s .text) (s .words) (a .documents) (a .adopt) (a .ignore)
 
 -- After a call the two replies are the same, and the store holds the account.
 pub record Same (s : Store × Reply) (t : Account × Reply) : Type 0 where
@@ -34,9 +38,9 @@ module _ (s : Store) (a : Account) (h : HoldsIn s a) where
 
   -- ---- One lemma a call.
 
-  kept-drawing : (rows errors : List ℕ) → Same (stepStore s (drawing rows errors)) (step a (drawing rows errors))
+  kept-drawing : (rows errors : List ℕ) → Same (stepStore s (building rows errors)) (step a (building rows errors))
   unfolding stepStore step
-  kept-drawing rows errors = record { reply = ap drawn (unfold build in rw (sound, same)); holds = h }
+  kept-drawing rows errors = record { reply = ap built (unfold build in rw (sound, same)); holds = h }
 
   kept-checking : (rows : List ℕ) → Same (stepStore s (checking rows)) (step a (checking rows))
   unfolding stepStore step
@@ -44,7 +48,10 @@ module _ (s : Store) (a : Account) (h : HoldsIn s a) where
 
   kept-root : (rows : List ℕ) (op : OperationType) → Same (stepStore s (rootAsked rows op)) (step a (rootAsked rows op))
   unfolding stepStore step root-operation
-  kept-root rows op = record { reply = ap named (rw (sound, same) (root-part (s .text) (h .after) a rows op (h .textLaid) (h .admitted .faultless))); holds = h }
+  kept-root rows op = record {
+    reply = ap named (rw (sound, same) (root-part (s .text) (h .after) a rows op (h .textLaid) (h .admitted .faultless)));
+    holds = h;
+  }
 
   kept-field : (rows type field : List ℕ) → Same (stepStore s (fieldAsked rows type field)) (step a (fieldAsked rows type field))
   unfolding stepStore step
@@ -67,15 +74,15 @@ module _ (s : Store) (a : Account) (h : HoldsIn s a) where
   kept-implementers rows lent = record { reply = ap listed (unfold implementers-map in rw (sound, same)); holds = h }
 
   kept-adopting : Same (stepStore s adopting) (step a adopting)
-  unfolding stepStore step leaves store adopt-orphan-extensions turned accepted adoptingFrom
+  unfolding stepStore step leaves store adopt-orphan-extensions turned orRefused accepted adoptingFrom
   kept-adopting = rw sound (record { reply = refl; holds = adopting-held (s .text) (s .words) (a .documents) (a .adopt) (a .ignore) h })
 
   kept-ignoring : Same (stepStore s ignoring) (step a ignoring)
-  unfolding stepStore step leaves store ignore-builtin-redefinitions turned accepted ignoringFrom
+  unfolding stepStore step leaves store ignore-builtin-redefinitions turned orRefused accepted ignoringFrom
   kept-ignoring = rw sound (record { reply = refl; holds = ignoring-held (s .text) (s .words) (a .documents) (a .adopt) (a .ignore) h })
 
   kept-opening : (lent ws : List ℕ) → Same (stepStore s (opening lent ws)) (step a (opening lent ws))
-  unfolding stepStore step leaves store open-store orRefused unchanged accepted opened
+  unfolding stepStore step leaves store open-store orRefused unchanged accepted openedAccount
   kept-opening lent ws = go (openingRefusal lent ws) refl
     where
       go : (o : Option Answer) → openingRefusal lent ws ≡ o → Same (stepStore s (opening lent ws)) (step a (opening lent ws))
@@ -95,7 +102,7 @@ module _ (s : Store) (a : Account) (h : HoldsIn s a) where
   kept (filing lent ws) = kept-filing lent ws
   kept adopting = kept-adopting
   kept ignoring = kept-ignoring
-  kept (drawing rows errors) = kept-drawing rows errors
+  kept (building rows errors) = kept-drawing rows errors
   kept (checking rows) = kept-checking rows
   kept (rootAsked rows op) = kept-root rows op
   kept (fieldAsked rows type field) = kept-field rows type field
@@ -115,7 +122,7 @@ agree (c ∷ cs) s a h =
     λ i. k .reply i ∷ later i
 
 -- The store after a list of calls holds the account after it.
-pub holds-after : (calls : List Call) (s : Store) (a : Account) → HoldsIn s a → HoldsIn (storeAfter s calls) (after a calls)
-unfolding storeAfter after
+pub holds-after : (calls : List Call) (s : Store) (a : Account) → HoldsIn s a → HoldsIn (storeAfter s calls) (accountAfter a calls)
+unfolding storeAfter accountAfter
 holds-after [] s a h = h
 holds-after (c ∷ cs) s a h = holds-after cs (stepStore s c .0) (step a c .0) (kept s a h c .holds)

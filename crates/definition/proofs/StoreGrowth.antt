@@ -13,17 +13,17 @@ use Rattle.definition.specs.Lists.{Prefix, choose, flatMap}
 use Rattle.definition.specs.Answers.{answer}
 use Rattle.definition.specs.Headings.{Heading}
 use Rattle.definition.specs.Catalogue.{typeRow}
-use Rattle.definition.specs.Merge.{draw}
-use Rattle.definition.specs.Refusals.{Account}
+use Rattle.definition.specs.Merge.{merge}
+use Rattle.definition.specs.Account.{Account}
 use Rattle.definition.specs.LentRows.{held, lentRows, rowsRefusal}
 use Rattle.definition.specs.Lookups.{isRowOf, fieldNamed, isSubtype}
-use Rattle.definition.specs.Outcomes.{DrawOutcome, wordsOfError, checkOf, check-rows, fieldOfType, type-field, subtypeAnswer, is-subtype}
-use Rattle.definition.specs.Account.{Store}
-use Rattle.definition.specs.Growth.{Brings, cardOf, placeOf, listOf, rowsOf, readingErrorsOf, documentsIn, Kept, Grown}
+use Rattle.definition.specs.Outcomes.{BuildOutcome, wordsOfError, checkOf, check-rows, fieldOfType, type-field, subtypeAnswer, is-subtype}
+use Rattle.definition.specs.Calls.{Store}
+use Rattle.definition.specs.Growth.{Brings, cardOf, placeOf, listOf, rowsOf, readingErrorsOf, documentsIn, TypeGrown, Grown}
 use Rattle.definition.proofs.Lists.{flatMap-append}
-use Rattle.definition.proofs.DrawnWords.{rows-back, rowWordsOf, readingWordsOf}
-use Rattle.definition.proofs.DrawingsGrow.{errors-begin, card-found, brings-stays, same-place, lists-begin, same-field, same-subtype, same-member}
-use Rattle.definition.proofs.RowsPass.{drawn-unrefused}
+use Rattle.definition.proofs.BuiltWords.{rows-back, rowWordsOf, readingWordsOf}
+use Rattle.definition.proofs.BuildsGrow.{errors-begin, card-found, brings-stays, same-place, lists-begin, same-field, same-subtype, same-member}
+use Rattle.definition.proofs.RowsPass.{built-unrefused}
 use Rattle.definition.proofs.RowsStay.{rows-stay}
 use Rattle.definition.proofs.Admitted.{Admitted}
 use Rattle.definition.proofs.StoreAgrees.{HoldsIn, sound, same}
@@ -31,20 +31,21 @@ use Rattle.definition.proofs.RunPlaces.{Later}
 
 -- ---- An account's own rows, read by its lookups.
 
-rows-read : (a : Account) → lentRows (rowWordsOf a) ≡ draw (a .adopt) (a .documents) .rows
+rows-read : (a : Account) → lentRows (rowWordsOf a) ≡ merge (a .adopt) (a .documents) .rows
 unfolding rowWordsOf
-rows-read a = rows-back (draw (a .adopt) (a .documents) .rows)
+rows-read a = rows-back (merge (a .adopt) (a .documents) .rows)
 
 module _ (a : Account) (s : Admitted (a .documents)) where
   unrefused-rows : rowsRefusal (a .documents) (rowWordsOf a) ≡ 0
   unfolding rowWordsOf
-  unrefused-rows = drawn-unrefused (a .adopt) (a .documents) (s .faultless) (s .cards)
+  unrefused-rows = built-unrefused (a .adopt) (a .documents) (s .faultless) (s .cards)
 
-  field-over : (n f : List ℕ) → fieldOfType a (rowWordsOf a) n f ≡ fieldNamed (held (a .documents)) (draw (a .adopt) (a .documents) .rows) n f
+  field-over : (n f : List ℕ) → fieldOfType a (rowWordsOf a) n f ≡ fieldNamed (held (a .documents)) (merge (a .adopt) (a .documents) .rows) n f
   unfolding fieldOfType
   field-over n f = rw (unrefused-rows, rows-read a)
 
-  subtype-over : (n m : List ℕ) → subtypeAnswer a (rowWordsOf a) n m ≡ choose (isSubtype (held (a .documents)) (draw (a .adopt) (a .documents) .rows) n m) Subtype NotSubtype
+  subtype-over : (n m : List ℕ) → subtypeAnswer a (rowWordsOf a) n m ≡
+      choose (isSubtype (held (a .documents)) (merge (a .adopt) (a .documents) .rows) n m) Subtype NotSubtype
   unfolding subtypeAnswer
   subtype-over n m = rw (unrefused-rows, rows-read a)
 
@@ -65,9 +66,9 @@ module _ (a b : Account) (s : Admitted (a .documents)) (t : Admitted (b .documen
   errors-grow : Prefix (readingWordsOf a) (readingWordsOf b)
   unfolding readingWordsOf
   errors-grow =
-      let g : Prefix (draw (a .adopt) (a .documents) .readingErrors) (draw (b .adopt) (b .documents) .readingErrors) =
+      let g : Prefix (merge (a .adopt) (a .documents) .readingErrors) (merge (b .adopt) (b .documents) .readingErrors) =
       rw (l .1) (errors-begin (a .adopt) (b .adopt) (a .documents) (l .0)) in
-      (flatMap wordsOfError (g .0), ap (flatMap wordsOfError) (g .1) ∙ flatMap-append wordsOfError (draw (a .adopt) (a .documents) .readingErrors) (g .0))
+      (flatMap wordsOfError (g .0), ap (flatMap wordsOfError) (g .1) ∙ flatMap-append wordsOfError (merge (a .adopt) (a .documents) .readingErrors) (g .0))
 
   module _ (n : List ℕ) (d : Heading) (h : Brings (a .documents) n d) where
     later : Brings (b .documents) n d
@@ -83,10 +84,10 @@ module _ (a b : Account) (s : Admitted (a .documents)) (t : Admitted (b .documen
     field-grows f c e =
         field-over b t n f ∙ rw (l .1) (same-field (a .adopt) (b .adopt) (a .documents) (l .0) n d h f c (sym (field-over a s n f) ∙ e))
 
-    yes : (m : List ℕ) → subtypeAnswer a (rowWordsOf a) n m ≡ Subtype → isSubtype (held (a .documents)) (draw (a .adopt) (a .documents) .rows) n m ≡ true
-    yes m e = is-subtyped (isSubtype (held (a .documents)) (draw (a .adopt) (a .documents) .rows) n m) (sym (subtype-over a s n m) ∙ e)
+    yes : (m : List ℕ) → subtypeAnswer a (rowWordsOf a) n m ≡ Subtype → isSubtype (held (a .documents)) (merge (a .adopt) (a .documents) .rows) n m ≡ true
+    yes m e = is-subtyped (isSubtype (held (a .documents)) (merge (a .adopt) (a .documents) .rows) n m) (sym (subtype-over a s n m) ∙ e)
 
-    yes-again : (m : List ℕ) → isSubtype (held (b .documents)) (draw (b .adopt) (b .documents) .rows) n m ≡ true → subtypeAnswer b (rowWordsOf b) n m ≡ Subtype
+    yes-again : (m : List ℕ) → isSubtype (held (b .documents)) (merge (b .adopt) (b .documents) .rows) n m ≡ true → subtypeAnswer b (rowWordsOf b) n m ≡ Subtype
     yes-again m e = subtype-over b t n m ∙ ap (λ (q : Bool). choose q Subtype NotSubtype) e
 
     subtype-grows : (m : List ℕ) (e : Heading) → Brings (a .documents) m e →
@@ -124,9 +125,9 @@ module _ (s : Store) (a : Account) (h : HoldsIn s a) (rows : List ℕ) where
 documents-are : (s : Store) (a : Account) → HoldsIn s a → documentsIn s ≡ a .documents
 documents-are s a h = ap (λ (x : Account). x .documents) (same s a h)
 
-module _ (s t : Store) (a b : Account) (hs : HoldsIn s a) (ht : HoldsIn t b) (l : Later a b) (o p : DrawOutcome)
+module _ (s t : Store) (a b : Account) (hs : HoldsIn s a) (ht : HoldsIn t b) (l : Later a b) (o p : BuildOutcome)
     (ro : rowsOf o ≡ rowWordsOf a) (rp : rowsOf p ≡ rowWordsOf b) (eo : readingErrorsOf o ≡ readingWordsOf a) (ep : readingErrorsOf p ≡ readingWordsOf b) where
-  kept : (n : List ℕ) (d : Heading) → Brings (documentsIn s) n d → Kept s t o p n d
+  kept : (n : List ℕ) (d : Heading) → Brings (documentsIn s) n d → TypeGrown s t o p n d
   kept n d h =
       let u = hs .admitted in
       let v = ht .admitted in
@@ -137,7 +138,7 @@ module _ (s t : Store) (a b : Account) (hs : HoldsIn s a) (ht : HoldsIn t b) (l 
           rw (documents-are t b ht, rp) (card-is b n d (later a b u v l n d g)),
         );
         place = rw (documents-are s a hs, documents-are t b ht, ro, rp) (place-grows a b u v l n d g);
-        lists = λ k. rw (documents-are s a hs, documents-are t b ht, ro, rp) (lists-grow a b u v l n d g k);
+        eachList = λ k. rw (documents-are s a hs, documents-are t b ht, ro, rp) (lists-grow a b u v l n d g k);
         field = λ f c e.
             field-store t b ht (rowsOf p) n f
             ∙ rw rp (field-grows a b u v l n d g f c (rw ro at (sym (field-store s a hs (rowsOf o) n f) ∙ e)));

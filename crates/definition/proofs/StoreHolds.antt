@@ -13,11 +13,18 @@ use borrow.Author.Tests.{ltb-false, le-ltb, le-leb}
 use Rattle.definition.specs.Lists.{flatMap, chunks, written}
 use Rattle.definition.specs.Cards.{Card, cardWords, cardsFrom, wordsOfCard, cardsOf}
 use Rattle.definition.specs.Headings.{Document}
-use Rattle.definition.specs.Refusals.{Account, textHeld, cardsHeld, textRoom, documentRoom, cardRoom, document, openingRefusal, filingRefusal}
-use Rattle.definition.specs.Store.{rowsAt, rowWords, cardsAt, wordsRoom, rowFrom, moved, documentCount, adoptWord, ignoreWord, textUsed, cardsUsed, storedRows, storedCards, accountIn, tooShort, countsSound, rowsSound, switchesRise, zeroUnignored, cardsSound, zeroSound, sound, storeRefusal, movedWords, openedWords, openedText, filedRow, filedCounts, filedWords, filedText, adoptingWords, ignoringWords}
+use Rattle.definition.specs.Account.{Account}
+use Rattle.definition.specs.Refusals.{textHeld, cardsHeld, textCapacity, documentCapacity, cardCapacity, document, openingRefusal, filingRefusal}
+use Rattle.definition.specs.Store.{documentsAt, documentWords, cardsAt, wordsCapacity, documentRowFrom, moved, documentCount, adoptWord, ignoreWord}
+use Rattle.definition.specs.Store.{textUsed, cardsUsed, documentRows, storedCards, accountIn, tooShort, countsSound, rowsSound, switchesRise}
+use Rattle.definition.specs.Store.{zeroUnignored, cardsSound, zeroSound, sound, storeRefusal, movedWords, openedWords, openedText, filedRow, filedCounts}
+use Rattle.definition.specs.Store.{filedWords, filedText, adoptingWords, ignoringWords}
 use Rattle.definition.proofs.Tests.{zero-one, or-false}
 use Rattle.definition.proofs.Lists.{flatMap-append}
-use Rattle.definition.proofs.StoreLayout.{bit, bit-back, bit-le, rowsOf, wordsOfRows, storedOf, textOf, textHeld-cons, textHeld-nil, cardsHeld-cons, cardsHeld-nil, textHeld-joined, cardsHeld-joined, length-textOf, length-rows, length-stored, textOf-joined, rows-joined, stored-joined, rows-back, cards-stored, documents-back, rows-touch, cards-counted, rise-joined, rise-more, cards-sound, written-at, sets-at, written-long, length-words}
+use Rattle.definition.proofs.StoreLayout.{bit, bit-back, bit-le, rowsOf, wordsOfRows, storedOf, textOf, textHeld-cons, textHeld-nil, cardsHeld-cons}
+use Rattle.definition.proofs.StoreLayout.{cardsHeld-nil, textHeld-joined, cardsHeld-joined, length-textOf, length-rows, length-stored, textOf-joined}
+use Rattle.definition.proofs.StoreLayout.{rows-joined, stored-joined, rows-back, cards-stored, documents-back, rows-touch, cards-counted, rise-joined}
+use Rattle.definition.proofs.StoreLayout.{rise-more, cards-sound, written-at, sets-at, written-long, length-words}
 use Rattle.definition.proofs.Admitted.{Admitted, opening-admits, filing-admits}
 
 abbrev pub laid : ℕ → ℕ → ℕ → ℕ → ℕ → List ℕ → List ℕ → List ℕ
@@ -28,15 +35,15 @@ laidOf ds ad ig gap rest =
     laid (length ds) (bit ad) (bit ig) (textHeld ds) (cardsHeld ds) (wordsOfRows 0 ds ++ gap) (flatMap wordsOfCard (storedOf 0 ds) ++ rest)
 
 -- The store holds these documents and switches. What it has beyond them: between rows and cards, after the cards, after the text.
-pub record Holds (text words : List ℕ) (ds : List Document) (ad ig : Bool) : Type 0 where
+pub record LaidOut (text words : List ℕ) (ds : List Document) (ad ig : Bool) : Type 0 where
   pub gap : List ℕ
   pub rest : List ℕ
   pub after : List ℕ
   pub textLaid : text ≡ textOf ds ++ after
   pub wordsLaid : words ≡ laidOf ds ad ig gap rest
-  pub rowsFit : length (wordsOfRows 0 ds ++ gap) ≡ rowWords * documentRoom
-  pub textLong : textRoom ≤ length text
-  pub wordsLong : wordsRoom ≤ length words
+  pub rowsFit : length (wordsOfRows 0 ds ++ gap) ≡ documentWords * documentCapacity
+  pub textLong : textCapacity ≤ length text
+  pub wordsLong : wordsCapacity ≤ length words
   pub rise : switchesRise (bit ig) 0 (rowsOf 0 ds) ≡ true
   pub zeroBare : zeroUnignored (rowsOf 0 ds) ≡ true
   pub admitted : Admitted ds
@@ -48,7 +55,7 @@ unfolding zeroSound
 some-held [] e = absurd (zero-one cc)
 some-held (d ∷ ds) e = omega arith
 
-module _ (text words : List ℕ) (ds : List Document) (ad ig : Bool) (h : Holds text words ds ad ig) where
+module _ (text words : List ℕ) (ds : List Document) (ad ig : Bool) (h : LaidOut text words ds ad ig) where
   pub count-held : documentCount words ≡ length ds
   unfolding documentCount
   count-held = ap documentCount (h .wordsLaid)
@@ -69,18 +76,19 @@ module _ (text words : List ℕ) (ds : List Document) (ad ig : Bool) (h : Holds 
   unfolding cardsUsed
   cards-held = ap cardsUsed (h .wordsLaid)
 
-  rows-held : storedRows words ≡ rowsOf 0 ds
-  unfolding storedRows documentCount
+  rows-held : documentRows words ≡ rowsOf 0 ds
+  unfolding documentRows documentCount
   rows-held =
-      ap storedRows (h .wordsLaid)
-      ∙ ap (chunks rowWords rowFrom (length ds)) (append-assoc (wordsOfRows 0 ds) (h .gap) (flatMap wordsOfCard (storedOf 0 ds) ++ h .rest))
+      ap documentRows (h .wordsLaid)
+      ∙ ap (chunks documentWords documentRowFrom (length ds)) (append-assoc (wordsOfRows 0 ds) (h .gap) (flatMap wordsOfCard (storedOf 0 ds) ++ h .rest))
       ∙ rows-back 0 ds (h .gap ++ (flatMap wordsOfCard (storedOf 0 ds) ++ h .rest))
 
   pub stored-held : storedCards words ≡ storedOf 0 ds
   unfolding storedCards cardsUsed
   stored-held =
       ap storedCards (h .wordsLaid)
-      ∙ ap (cardsFrom (cardsHeld ds)) (drop-at (wordsOfRows 0 ds ++ h .gap) (flatMap wordsOfCard (storedOf 0 ds) ++ h .rest) (rowWords * documentRoom) (h .rowsFit))
+      ∙ ap (cardsFrom (cardsHeld ds)) (drop-at (wordsOfRows 0 ds ++ h .gap) (flatMap wordsOfCard (storedOf 0 ds) ++ h .rest)
+      (documentWords * documentCapacity) (h .rowsFit))
       ∙ cards-stored ds (h .rest)
 
   pub account-held : accountIn text words ≡ record { documents = ds; adopt = ad; ignore = ig }
@@ -89,11 +97,31 @@ module _ (text words : List ℕ) (ds : List Document) (ad ig : Bool) (h : Holds 
 
   counts-sound : countsSound words ≡ true
   unfolding countsSound
-  counts-sound = rw (count-held, adopt-held, ignore-held, text-held, cards-held, le-leb 1 (length ds) (some-held ds (h .admitted .zero)), le-leb (length ds) documentRoom (h .admitted .documents), le-leb (bit ad) 1 (bit-le ad), le-leb (bit ig) 1 (bit-le ig), le-leb (textHeld ds) textRoom (h .admitted .text), le-leb (cardsHeld ds) cardRoom (h .admitted .cards))
+  counts-sound = rw (
+    count-held,
+    adopt-held,
+    ignore-held,
+    text-held,
+    cards-held,
+    le-leb 1 (length ds) (some-held ds (h .admitted .zero)),
+    le-leb (length ds) documentCapacity (h .admitted .documents),
+    le-leb (bit ad) 1 (bit-le ad),
+    le-leb (bit ig) 1 (bit-le ig),
+    le-leb (textHeld ds) textCapacity (h .admitted .text),
+    le-leb (cardsHeld ds) cardCapacity (h .admitted .cards),
+  )
 
   rows-sound : rowsSound words (rowsOf 0 ds) ≡ true
   unfolding rowsSound
-  rows-sound = rw (text-held, cards-held, ignore-held, rows-touch 0 (textHeld ds) ds (zero-add _), cards-counted 0 (cardsHeld ds) 0 ds (zero-add _), h .rise, h .zeroBare)
+  rows-sound = rw (
+    text-held,
+    cards-held,
+    ignore-held,
+    rows-touch 0 (textHeld ds) ds (zero-add _),
+    cards-counted 0 (cardsHeld ds) 0 ds (zero-add _),
+    h .rise,
+    h .zeroBare,
+  )
 
   cards-sound-held : cardsSound text (rowsOf 0 ds) (storedOf 0 ds) ≡ true
   cards-sound-held = rw (h .textLaid) (cards-sound [] (h .after) 0 ds refl (h .admitted .faultless))
@@ -104,7 +132,7 @@ module _ (text words : List ℕ) (ds : List Document) (ad ig : Bool) (h : Holds 
 
   pub long-held : tooShort text words ≡ false
   unfolding tooShort
-  long-held = rw (le-ltb (length text) textRoom (h .textLong), le-ltb (length words) wordsRoom (h .wordsLong))
+  long-held = rw (le-ltb (length text) textCapacity (h .textLong), le-ltb (length words) wordsCapacity (h .wordsLong))
 
   pub refusal-held : storeRefusal text words ≡ 0
   unfolding storeRefusal
@@ -112,7 +140,7 @@ module _ (text words : List ℕ) (ds : List Document) (ad ig : Bool) (h : Holds 
 
 -- ---- Turning on.
 
-pub adopting-held : (text words : List ℕ) (ds : List Document) (ad ig : Bool) → Holds text words ds ad ig → Holds text (adoptingWords words) ds true ig
+pub adopting-held : (text words : List ℕ) (ds : List Document) (ad ig : Bool) → LaidOut text words ds ad ig → LaidOut text (adoptingWords words) ds true ig
 unfolding adoptingWords
 adopting-held text words ds ad ig h = record {
   gap = h .gap;
@@ -128,7 +156,7 @@ adopting-held text words ds ad ig h = record {
   admitted = h .admitted;
 }
 
-pub ignoring-held : (text words : List ℕ) (ds : List Document) (ad ig : Bool) → Holds text words ds ad ig → Holds text (ignoringWords words) ds ad true
+pub ignoring-held : (text words : List ℕ) (ds : List Document) (ad ig : Bool) → LaidOut text words ds ad ig → LaidOut text (ignoringWords words) ds ad true
 unfolding ignoringWords
 ignoring-held text words ds ad ig h = record {
   gap = h .gap;
@@ -151,30 +179,35 @@ doc b text cs = record { text = text; cards = cs; ignored = b }
 
 -- Opening writes the counts, the switches and the first row; the room of the other rows lies between them and the cards.
 abbrev openedHead : ℕ
-openedHead = rowsAt + rowWords
+openedHead = documentsAt + documentWords
 
 abbrev openedGap : ℕ
-openedGap = rowWords * documentRoom - rowWords
+openedGap = documentWords * documentCapacity - documentWords
 
-opened-laid : (words lent : List ℕ) (cs : List Card) → wordsRoom ≤ length words →
+opened-laid : (words lent : List ℕ) (cs : List Card) → wordsCapacity ≤ length words →
     openedWords words (doc false lent cs) ≡
-    laidOf (doc false lent cs ∷ []) false false (take openedGap (drop openedHead words)) (drop (length (movedWords 0 cs)) (drop openedGap (drop openedHead words)))
+    laidOf (doc false lent cs ∷ []) false false (take openedGap (drop openedHead words))
+    (drop (length (movedWords 0 cs)) (drop openedGap (drop openedHead words)))
 unfolding openedWords movedWords
 opened-laid words lent cs long =
     let vs : List ℕ = 1 ∷ 0 ∷ 0 ∷ length lent ∷ length cs ∷ 0 ∷ length lent ∷ length cs ∷ 0 ∷ [] in
     let g : List ℕ = take openedGap (drop openedHead words) in
     let q : List ℕ = drop openedGap (drop openedHead words) in
     let mw : List ℕ = flatMap wordsOfCard (map (moved 0) cs) in
-    let e0 : sets words 0 vs ≡ (vs ++ g) ++ q = sets-at [] words vs 0 refl (omega arith) ∙ ap (λ (l : List ℕ). vs ++ l) (sym (take-append-drop openedGap (drop openedHead words))) in
-    let e1 : length (vs ++ g) ≡ cardsAt = length-append vs g ∙ ap (λ (n : ℕ). openedHead + n) (length-take-le openedGap (drop openedHead words) (omega (arith, length-drop openedHead words))) in
-    let t : length lent ≡ textHeld (doc false lent cs ∷ []) = sym (textHeld-cons (doc false lent cs) [] ∙ ap (λ (n : ℕ). length lent + n) textHeld-nil ∙ add-zero (length lent)) in
-    let c : length cs ≡ cardsHeld (doc false lent cs ∷ []) = sym (cardsHeld-cons (doc false lent cs) [] ∙ ap (λ (n : ℕ). length cs + n) cardsHeld-nil ∙ add-zero (length cs)) in
+    let e0 : sets words 0 vs ≡ (vs ++ g) ++ q = sets-at [] words vs 0 refl (omega arith)
+    ∙ ap (λ (l : List ℕ). vs ++ l) (sym (take-append-drop openedGap (drop openedHead words))) in
+    let e1 : length (vs ++ g) ≡ cardsAt = length-append vs g
+    ∙ ap (λ (n : ℕ). openedHead + n) (length-take-le openedGap (drop openedHead words) (omega (arith, length-drop openedHead words))) in
+    let t : length lent ≡ textHeld (doc false lent cs ∷ []) =
+    sym (textHeld-cons (doc false lent cs) [] ∙ ap (λ (n : ℕ). length lent + n) textHeld-nil ∙ add-zero (length lent)) in
+    let c : length cs ≡ cardsHeld (doc false lent cs ∷ []) =
+    sym (cardsHeld-cons (doc false lent cs) [] ∙ ap (λ (n : ℕ). length cs + n) cardsHeld-nil ∙ add-zero (length cs)) in
     let s : map (moved 0) cs ≡ map (moved 0) cs ++ [] = sym (append-nil (map (moved 0) cs)) in
     ap (λ (l : List ℕ). written l cardsAt mw) e0
     ∙ written-at (vs ++ g) q mw cardsAt e1
     ∙ (λ i. laid 1 0 0 (t i) (c i) (0 ∷ length lent ∷ length cs ∷ 0 ∷ g) (flatMap wordsOfCard (s i) ++ drop (length mw) q))
 
-opened-long : (words : List ℕ) (d : Document) → wordsRoom ≤ length words → wordsRoom ≤ length (openedWords words d)
+opened-long : (words : List ℕ) (d : Document) → wordsCapacity ≤ length words → wordsCapacity ≤ length (openedWords words d)
 unfolding openedWords
 opened-long words d long =
     let vs : List ℕ = 1 ∷ 0 ∷ 0 ∷ length (d .text) ∷ length (d .cards) ∷ 0 ∷ length (d .text) ∷ length (d .cards) ∷ 0 ∷ [] in
@@ -182,14 +215,15 @@ opened-long words d long =
     let w = written-long (sets words 0 vs) (movedWords 0 (d .cards)) cardsAt (omega arith) in
     omega arith
 
-opened-held : (text words lent : List ℕ) (cs : List Card) → textRoom ≤ length text → wordsRoom ≤ length words → Admitted (doc false lent cs ∷ []) →
-    Holds (openedText text (doc false lent cs)) (openedWords words (doc false lent cs)) (doc false lent cs ∷ []) false false
+opened-held : (text words lent : List ℕ) (cs : List Card) → textCapacity ≤ length text → wordsCapacity ≤ length words → Admitted (doc false lent cs ∷ []) →
+    LaidOut (openedText text (doc false lent cs)) (openedWords words (doc false lent cs)) (doc false lent cs ∷ []) false false
 unfolding openedText switchesRise zeroUnignored
 opened-held text words lent cs longText longWords admitted =
     let g : List ℕ = take openedGap (drop openedHead words) in
     let q : List ℕ = drop openedGap (drop openedHead words) in
     let laidHere = opened-laid words lent cs longWords in
-    let textHere : written text 0 lent ≡ (lent ++ []) ++ drop (length lent) text = written-at [] text lent 0 refl ∙ ap (λ (l : List ℕ). l ++ drop (length lent) text) (sym (append-nil lent)) in
+    let textHere : written text 0 lent ≡ (lent ++ []) ++ drop (length lent) text =
+    written-at [] text lent 0 refl ∙ ap (λ (l : List ℕ). l ++ drop (length lent) text) (sym (append-nil lent)) in
     let lg : length g ≡ openedGap = length-take-le openedGap (drop openedHead words) (omega (arith, length-drop openedHead words)) in
     record {
       gap = g;
@@ -214,9 +248,9 @@ regroup-after : (s c m t : List ℕ) → (s ++ c) ++ (m ++ t) ≡ s ++ ((c ++ m)
 regroup-after s c m t = simp append-assoc
 
 filed-laid : (n ad ig tu cu : ℕ) (r gap c rest lent : List ℕ) (cs : List Card) →
-    length r ≡ rowWords * n → length c ≡ cardWords * cu → length (r ++ gap) ≡ rowWords * documentRoom → rowWords ≤ length gap →
+    length r ≡ documentWords * n → length c ≡ cardWords * cu → length (r ++ gap) ≡ documentWords * documentCapacity → documentWords ≤ length gap →
     filedWords (laid n ad ig tu cu (r ++ gap) (c ++ rest)) (doc false lent cs) ≡
-    laid (n + 1) ad ig (tu + length lent) (cu + length cs) ((r ++ (tu ∷ length lent ∷ length cs ∷ ig ∷ [])) ++ drop rowWords gap)
+    laid (n + 1) ad ig (tu + length lent) (cu + length cs) ((r ++ (tu ∷ length lent ∷ length cs ∷ ig ∷ [])) ++ drop documentWords gap)
     ((c ++ movedWords tu cs) ++ drop (length (movedWords tu cs)) rest)
 unfolding filedWords filedCounts filedRow documentCount textUsed ignoreWord cardsUsed
 filed-laid n ad ig tu cu r gap c rest lent cs hr hc hs hg =
@@ -224,31 +258,31 @@ filed-laid n ad ig tu cu r gap c rest lent cs hr hc hs hg =
     let mw : List ℕ = movedWords tu cs in
     let q : List ℕ = c ++ rest in
     let head : List ℕ → List ℕ = λ l. (n + 1) ∷ ad ∷ ig ∷ (tu + length lent) ∷ (cu + length cs) ∷ l in
-    let e0 : sets (head ((r ++ gap) ++ q)) (rowsAt + rowWords * n) row ≡ head (r ++ (row ++ drop rowWords (gap ++ q))) =
-    ap (λ (l : List ℕ). sets (head l) (rowsAt + rowWords * n) row) (append-assoc r gap q)
-    ∙ sets-at (head r) (gap ++ q) row (rowsAt + rowWords * n) (omega arith) (omega (arith, length-append gap q)) in
-    let e1 : head (r ++ (row ++ drop rowWords (gap ++ q))) ≡ head ((((r ++ row) ++ drop rowWords gap) ++ c) ++ rest) =
-    ap (λ (l : List ℕ). head (r ++ (row ++ l))) (drop-append-le rowWords gap q hg)
-    ∙ ap head (regroup-before r row (drop rowWords gap) c rest) in
-    let l0 = length-append ((r ++ row) ++ drop rowWords gap) c in
-    let l1 = length-append (r ++ row) (drop rowWords gap) in
+    let e0 : sets (head ((r ++ gap) ++ q)) (documentsAt + documentWords * n) row ≡ head (r ++ (row ++ drop documentWords (gap ++ q))) =
+    ap (λ (l : List ℕ). sets (head l) (documentsAt + documentWords * n) row) (append-assoc r gap q)
+    ∙ sets-at (head r) (gap ++ q) row (documentsAt + documentWords * n) (omega arith) (omega (arith, length-append gap q)) in
+    let e1 : head (r ++ (row ++ drop documentWords (gap ++ q))) ≡ head ((((r ++ row) ++ drop documentWords gap) ++ c) ++ rest) =
+    ap (λ (l : List ℕ). head (r ++ (row ++ l))) (drop-append-le documentWords gap q hg)
+    ∙ ap head (regroup-before r row (drop documentWords gap) c rest) in
+    let l0 = length-append ((r ++ row) ++ drop documentWords gap) c in
+    let l1 = length-append (r ++ row) (drop documentWords gap) in
     let l2 = length-append r row in
-    let l3 = length-drop rowWords gap in
+    let l3 = length-drop documentWords gap in
     let l4 = length-append r gap in
-    let e2 : length (head (((r ++ row) ++ drop rowWords gap) ++ c)) ≡ cardsAt + cardWords * cu = omega arith in
+    let e2 : length (head (((r ++ row) ++ drop documentWords gap) ++ c)) ≡ cardsAt + cardWords * cu = omega arith in
     ap (λ (l : List ℕ). written l (cardsAt + cardWords * cu) mw) (e0 ∙ e1)
-    ∙ written-at (head (((r ++ row) ++ drop rowWords gap) ++ c)) rest mw (cardsAt + cardWords * cu) e2
-    ∙ ap head (regroup-after ((r ++ row) ++ drop rowWords gap) c mw (drop (length mw) rest))
+    ∙ written-at (head (((r ++ row) ++ drop documentWords gap) ++ c)) rest mw (cardsAt + cardWords * cu) e2
+    ∙ ap head (regroup-after ((r ++ row) ++ drop documentWords gap) c mw (drop (length mw) rest))
 
-filed-long : (words : List ℕ) (d : Document) → wordsRoom ≤ length words → cardsUsed words ≤ cardRoom → wordsRoom ≤ length (filedWords words d)
+filed-long : (words : List ℕ) (d : Document) → wordsCapacity ≤ length words → cardsUsed words ≤ cardCapacity → wordsCapacity ≤ length (filedWords words d)
 unfolding filedWords filedCounts
 filed-long words d long few =
     let c0 : List ℕ = set words 0 (documentCount words + 1) in
     let c1 : List ℕ = sets c0 3 ((textUsed words + length (d .text)) ∷ (cardsUsed words + length (d .cards)) ∷ []) in
-    let c2 : List ℕ = sets c1 (rowsAt + rowWords * documentCount words) (filedRow words d) in
+    let c2 : List ℕ = sets c1 (documentsAt + documentWords * documentCount words) (filedRow words d) in
     let k0 : length c0 ≡ length words = length-set words 0 (documentCount words + 1) in
     let k1 : length c1 ≡ length c0 = length-sets c0 3 ((textUsed words + length (d .text)) ∷ (cardsUsed words + length (d .cards)) ∷ []) in
-    let k2 : length c2 ≡ length c1 = length-sets c1 (rowsAt + rowWords * documentCount words) (filedRow words d) in
+    let k2 : length c2 ≡ length c1 = length-sets c1 (documentsAt + documentWords * documentCount words) (filedRow words d) in
     let w = written-long c2 (movedWords (textUsed words) (d .cards)) (cardsAt + cardWords * cardsUsed words) (omega arith) in
     omega arith
 
@@ -261,9 +295,9 @@ moved-words : (base : ℕ) (cs : List Card) → flatMap wordsOfCard (map (moved 
 unfolding movedWords
 moved-words base cs = refl
 
-filed-held : (text words : List ℕ) (ds : List Document) (ad ig : Bool) (lent : List ℕ) (cs : List Card) → Holds text words ds ad ig →
-    length ds < documentRoom → Admitted (ds ++ (doc ig lent cs ∷ [])) →
-    Holds (filedText text words (doc false lent cs)) (filedWords words (doc false lent cs)) (ds ++ (doc ig lent cs ∷ [])) ad ig
+filed-held : (text words : List ℕ) (ds : List Document) (ad ig : Bool) (lent : List ℕ) (cs : List Card) → LaidOut text words ds ad ig →
+    length ds < documentCapacity → Admitted (ds ++ (doc ig lent cs ∷ [])) →
+    LaidOut (filedText text words (doc false lent cs)) (filedWords words (doc false lent cs)) (ds ++ (doc ig lent cs ∷ [])) ad ig
 unfolding filedText
 filed-held text words ds ad ig lent cs h few admitted =
     let d : Document = doc ig lent cs in
@@ -271,12 +305,12 @@ filed-held text words ds ad ig lent cs h few admitted =
     let c : List ℕ = flatMap wordsOfCard (storedOf 0 ds) in
     let row : List ℕ = textHeld ds ∷ length lent ∷ length cs ∷ bit ig ∷ [] in
     let mw : List ℕ = movedWords (textHeld ds) cs in
-    let lr : length r ≡ rowWords * length ds = length-rows 0 ds in
+    let lr : length r ≡ documentWords * length ds = length-rows 0 ds in
     let lc : length c ≡ cardWords * cardsHeld ds = length-words (storedOf 0 ds) ∙ ap (λ (n : ℕ). cardWords * n) (length-stored 0 ds) in
     let lg = length-append r (h .gap) in
     let fit = h .rowsFit in
-    let room : rowWords ≤ length (h .gap) = omega arith in
-    let used : cardsUsed words ≤ cardRoom = rw (cards-held text words ds ad ig h) (h .admitted .cards) in
+    let capacity : documentWords ≤ length (h .gap) = omega arith in
+    let used : cardsUsed words ≤ cardCapacity = rw (cards-held text words ds ad ig h) (h .admitted .cards) in
     let textHere : written text (textUsed words) lent ≡ textOf (ds ++ (d ∷ [])) ++ drop (length lent) (h .after) =
     ap (λ (n : ℕ). written text n lent) (text-held text words ds ad ig h)
     ∙ ap (λ (t : List ℕ). written t (textHeld ds) lent) (h .textLaid)
@@ -293,19 +327,21 @@ filed-held text words ds ad ig lent cs h few admitted =
     ∙ flatMap-append wordsOfCard (storedOf 0 ds) (map (moved (textHeld ds)) cs)
     ∙ ap (λ (l : List ℕ). c ++ l) (moved-words (textHeld ds) cs)) in
     let e-filed = ap (λ (w : List ℕ). filedWords w (doc false lent cs)) (h .wordsLaid)
-    ∙ filed-laid (length ds) (bit ad) (bit ig) (textHeld ds) (cardsHeld ds) r (h .gap) c (h .rest) lent cs lr lc fit room in
-    let l1 = length-append (r ++ row) (drop rowWords (h .gap)) in
+    ∙ filed-laid (length ds) (bit ad) (bit ig) (textHeld ds) (cardsHeld ds) r (h .gap) c (h .rest) lent cs lr lc fit capacity in
+    let l1 = length-append (r ++ row) (drop documentWords (h .gap)) in
     let l2 = length-append r row in
-    let l3 = length-drop rowWords (h .gap) in
-    let fitNow : length ((r ++ row) ++ drop rowWords (h .gap)) ≡ rowWords * documentRoom = omega arith in
+    let l3 = length-drop documentWords (h .gap) in
+    let fitNow : length ((r ++ row) ++ drop documentWords (h .gap)) ≡ documentWords * documentCapacity = omega arith in
     record {
-      gap = drop rowWords (h .gap);
+      gap = drop documentWords (h .gap);
       rest = drop (length mw) (h .rest);
       after = drop (length lent) (h .after);
       textLaid = textHere;
-      wordsLaid = e-filed ∙ (λ i. laid (e-count i) (bit ad) (bit ig) (e-text i) (e-cards i) (e-rows i ++ drop rowWords (h .gap)) (e-stored i ++ drop (length mw) (h .rest)));
-      rowsFit = ap (λ (l : List ℕ). length (l ++ drop rowWords (h .gap))) (sym e-rows) ∙ fitNow;
-      textLong = let w = written-long text lent (textUsed words) (rw (text-held text words ds ad ig h) (omega (arith, h .admitted .text, h .textLong))) in omega (arith, h .textLong, w);
+      wordsLaid = e-filed ∙ (λ i. laid (e-count i) (bit ad) (bit ig) (e-text i) (e-cards i) (e-rows i ++ drop documentWords (h .gap))
+          (e-stored i ++ drop (length mw) (h .rest)));
+      rowsFit = ap (λ (l : List ℕ). length (l ++ drop documentWords (h .gap))) (sym e-rows) ∙ fitNow;
+      textLong = let w = written-long text lent (textUsed words) (rw (text-held text words ds ad ig h) (omega (arith, h .admitted .text, h .textLong))) in
+          omega (arith, h .textLong, w);
       wordsLong = filed-long words (doc false lent cs) (h .wordsLong) used;
       rise = rise-joined (bit ig) 0 0 ds d refl (h .rise);
       zeroBare = bare-joined ds d (h .zeroBare);
@@ -315,15 +351,16 @@ filed-held text words ds ad ig lent cs h few admitted =
 -- ---- An accepted opening and an accepted filing.
 
 pub opening-held : (text words lent ws : List ℕ) → tooShort text words ≡ false → openingRefusal lent ws ≡ none →
-    Holds (openedText text (document false lent ws)) (openedWords words (document false lent ws)) (document false lent ws ∷ []) false false
+    LaidOut (openedText text (document false lent ws)) (openedWords words (document false lent ws)) (document false lent ws ∷ []) false false
 unfolding document tooShort
 opening-held text words lent ws long e =
-    let l = or-false (ltb (length text) textRoom) (ltb (length words) wordsRoom) long in
+    let l = or-false (ltb (length text) textCapacity) (ltb (length words) wordsCapacity) long in
     opened-held text words lent (cardsOf ws) (ltb-false _ _ (l .0)) (ltb-false _ _ (l .1)) (opening-admits lent ws e)
 
-pub filing-held : (text words : List ℕ) (a : Account) (lent ws : List ℕ) → Holds text words (a .documents) (a .adopt) (a .ignore) →
+pub filing-held : (text words : List ℕ) (a : Account) (lent ws : List ℕ) → LaidOut text words (a .documents) (a .adopt) (a .ignore) →
     filingRefusal a lent ws ≡ none →
-    Holds (filedText text words (document false lent ws)) (filedWords words (document false lent ws)) (a .documents ++ (document (a .ignore) lent ws ∷ [])) (a .adopt) (a .ignore)
+    LaidOut (filedText text words (document false lent ws)) (filedWords words (document false lent ws)) (a .documents ++ (document (a .ignore) lent ws ∷ []))
+    (a .adopt) (a .ignore)
 unfolding document
 filing-held text words a lent ws h e =
     let q = filing-admits a lent ws (h .admitted) e in

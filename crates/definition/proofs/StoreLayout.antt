@@ -15,7 +15,8 @@ use Rattle.definition.specs.Names.{bytesAt}
 use Rattle.definition.specs.Cards.{Card, cardWords, cardFrom, cardsFrom, wordsOfCard, cardFault, faultFrom}
 use Rattle.definition.specs.Headings.{Document}
 use Rattle.definition.specs.Refusals.{textHeld, cardsHeld}
-use Rattle.definition.specs.Store.{rowWords, StoredRow, rowFrom, moved, storedDocument, documentsFrom, rowsTouch, cardsCounted, switchesRise, cardsSound}
+use Rattle.definition.specs.Store.{documentWords, DocumentRow, documentRowFrom, moved, storedDocument, documentsFrom, rowsTouch, cardsCounted}
+use Rattle.definition.specs.Store.{switchesRise, cardsSound}
 use Rattle.definition.proofs.Tests.{and-true}
 use Rattle.definition.proofs.CleanCards.{Faultless}
 use Rattle.definition.proofs.MovedCards.{faults-moved, unmoved-all}
@@ -35,10 +36,10 @@ bit-le false = omega arith
 
 -- ---- What is stored of documents whose texts begin at a place.
 
-abbrev pub rowOf : ℕ → Document → StoredRow
+abbrev pub rowOf : ℕ → Document → DocumentRow
 rowOf at d = record { textAt = at; textLen = length (d .text); cardCount = length (d .cards); ignored = bit (d .ignored) }
 
-abbrev pub rowsOf : ℕ → List Document → List StoredRow
+abbrev pub rowsOf : ℕ → List Document → List DocumentRow
 rowsOf at [] = []
 rowsOf at (d ∷ ds) = rowOf at d ∷ rowsOf (at + length (d .text)) ds
 
@@ -82,7 +83,7 @@ pub length-textOf : (ds : List Document) → length (textOf ds) ≡ textHeld ds
 length-textOf [] = sym textHeld-nil
 length-textOf (d ∷ ds) = length-append (d .text) (textOf ds) ∙ ap (λ (n : ℕ). length (d .text) + n) (length-textOf ds) ∙ sym (textHeld-cons d ds)
 
-pub length-rows : (at : ℕ) (ds : List Document) → length (wordsOfRows at ds) ≡ rowWords * length ds
+pub length-rows : (at : ℕ) (ds : List Document) → length (wordsOfRows at ds) ≡ documentWords * length ds
 length-rows at [] = refl
 length-rows at (d ∷ ds) = let h = length-rows (at + length (d .text)) ds in omega arith
 
@@ -111,7 +112,8 @@ rows-joined at (x ∷ ds) d =
 
 pub stored-joined : (at : ℕ) (ds : List Document) (d : Document) →
     storedOf at (ds ++ (d ∷ [])) ≡ storedOf at ds ++ map (moved (at + textHeld ds)) (d .cards)
-stored-joined at [] d = append-nil (map (moved at) (d .cards)) ∙ ap (λ (n : ℕ). map (moved n) (d .cards)) (sym (ap (λ (n : ℕ). at + n) textHeld-nil ∙ add-zero at))
+stored-joined at [] d = append-nil (map (moved at) (d .cards))
+    ∙ ap (λ (n : ℕ). map (moved n) (d .cards)) (sym (ap (λ (n : ℕ). at + n) textHeld-nil ∙ add-zero at))
 stored-joined at (x ∷ ds) d =
     ap (λ (l : List Card). map (moved at) (x .cards) ++ l)
     (stored-joined (at + length (x .text)) ds d
@@ -121,10 +123,10 @@ stored-joined at (x ∷ ds) d =
 
 -- ---- Reading back.
 
-pub rows-back : (at : ℕ) (ds : List Document) (rest : List ℕ) → chunks rowWords rowFrom (length ds) (wordsOfRows at ds ++ rest) ≡ rowsOf at ds
-unfolding chunks rowFrom
+pub rows-back : (at : ℕ) (ds : List Document) (rest : List ℕ) → chunks documentWords documentRowFrom (length ds) (wordsOfRows at ds ++ rest) ≡ rowsOf at ds
+unfolding chunks documentRowFrom
 rows-back at [] rest = refl
-rows-back at (d ∷ ds) rest = ap (λ (l : List StoredRow). rowOf at d ∷ l) (rows-back (at + length (d .text)) ds rest)
+rows-back at (d ∷ ds) rest = ap (λ (l : List DocumentRow). rowOf at d ∷ l) (rows-back (at + length (d .text)) ds rest)
 
 cards-back : (cs : List Card) (rest : List ℕ) → cardsFrom (length cs) (flatMap wordsOfCard cs ++ rest) ≡ cs
 unfolding cardsFrom chunks flatMap wordsOfCard cardFrom
@@ -152,7 +154,11 @@ bytes-whole pre own post at p = ap (take (length own)) (drop-at pre (own ++ post
 pub document-back : (pre post : List ℕ) (at : ℕ) (d : Document) → length pre ≡ at →
     storedDocument (pre ++ (d .text ++ post)) (rowOf at d) (map (moved at) (d .cards)) ≡ d
 unfolding storedDocument
-document-back pre post at d p = λ i. record { text = bytes-whole pre (d .text) post at p i; cards = unmoved-all at (d .cards) i; ignored = bit-back (d .ignored) i }
+document-back pre post at d p = λ i. record {
+  text = bytes-whole pre (d .text) post at p i;
+  cards = unmoved-all at (d .cards) i;
+  ignored = bit-back (d .ignored) i;
+}
 
 pub text-next : (pre post : List ℕ) (d : Document) (ds : List Document) → pre ++ (textOf (d ∷ ds) ++ post) ≡ (pre ++ d .text) ++ (textOf ds ++ post)
 text-next pre post d ds = simp append-assoc
@@ -259,7 +265,13 @@ module _ {ℓ} {A : Type ℓ} where
   pub written-long : (xs ys : List A) (i : ℕ) → i ≤ length xs → length xs ≤ length (written xs i ys)
   unfolding written
   written-long xs ys i h =
-      rw take-length (omega (arith, length-append (take i xs ++ ys) (drop (i + length ys) xs), length-append (take i xs) ys, length-take-le i xs h, length-drop (i + length ys) xs))
+      rw take-length (omega (
+        arith,
+        length-append (take i xs ++ ys) (drop (i + length ys) xs),
+        length-append (take i xs) ys,
+        length-take-le i xs h,
+        length-drop (i + length ys) xs,
+      ))
 
 pub length-words : (cs : List Card) → length (flatMap wordsOfCard cs) ≡ cardWords * length cs
 unfolding flatMap wordsOfCard

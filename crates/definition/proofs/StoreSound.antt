@@ -14,14 +14,18 @@ use Rattle.definition.specs.Lists.{All, choose, flatMap, chunks}
 use Rattle.definition.specs.Names.{bytesAt}
 use Rattle.definition.specs.Cards.{Card, cardWords, cardFrom, cardsFrom, wordsOfCard, cardFault, faultFrom}
 use Rattle.definition.specs.Headings.{Document}
-use Rattle.definition.specs.Refusals.{Account, textHeld, cardsHeld, textRoom, documentRoom, cardRoom}
-use Rattle.definition.specs.Store.{rowsAt, rowWords, cardsAt, wordsRoom, StoredRow, rowFrom, moved, unmoved, documentCount, adoptWord, ignoreWord, textUsed, cardsUsed, storedRows, storedCards, storedDocument, documentsFrom, accountIn, tooShort, countsSound, rowsTouch, cardsCounted, switchesRise, zeroUnignored, rowsSound, cardsSound, zeroSound, sound, storeRefusal}
+use Rattle.definition.specs.Account.{Account}
+use Rattle.definition.specs.Refusals.{textHeld, cardsHeld, textCapacity, documentCapacity, cardCapacity}
+use Rattle.definition.specs.Store.{documentsAt, documentWords, cardsAt, wordsCapacity, DocumentRow, documentRowFrom, moved, unmoved, documentCount}
+use Rattle.definition.specs.Store.{adoptWord, ignoreWord, textUsed, cardsUsed, documentRows, storedCards, storedDocument, documentsFrom, accountIn}
+use Rattle.definition.specs.Store.{tooShort, countsSound, rowsTouch, cardsCounted, switchesRise, zeroUnignored, rowsSound, cardsSound, zeroSound, sound}
+use Rattle.definition.specs.Store.{storeRefusal}
 use Rattle.definition.proofs.Tests.{and-true, or-false, chosen-zero, unfound}
 use Rattle.definition.proofs.Lists.{flatMap-nil, flatMap-cons}
 use Rattle.definition.proofs.CleanCards.{Faultless}
 use Rattle.definition.proofs.MovedCards.{faults-moved, moved-all}
 use Rattle.definition.proofs.StoreLayout.{bit, rowOf, rowsOf, wordsOfRows, storedOf, textOf, length-textOf, length-stored, bytes-inside}
-use Rattle.definition.proofs.StoreHolds.{Holds, laid, laidOf}
+use Rattle.definition.proofs.StoreHolds.{LaidOut, laid, laidOf}
 
 -- ---- Words in pieces of one length.
 
@@ -45,11 +49,11 @@ module _ {ℓ} {B : Type ℓ} (k : ℕ) (f : List ℕ → B) where
       ∙ sym (take-add k (k * n) ws)
       ∙ ap (λ m. take m ws) (sym s)
 
-wordsOfStored : StoredRow → List ℕ
+wordsOfStored : DocumentRow → List ℕ
 wordsOfStored r = r .textAt ∷ r .textLen ∷ r .cardCount ∷ r .ignored ∷ []
 
-row-words : (ws : List ℕ) → rowWords ≤ length ws → wordsOfStored (rowFrom ws) ≡ take rowWords ws
-unfolding wordsOfStored rowFrom
+row-words : (ws : List ℕ) → documentWords ≤ length ws → wordsOfStored (documentRowFrom ws) ≡ take documentWords ws
+unfolding wordsOfStored documentRowFrom
 row-words [] h = absurd (omega arith)
 row-words (a ∷ []) h = absurd (omega arith)
 row-words (a ∷ b ∷ []) h = absurd (omega arith)
@@ -65,7 +69,7 @@ card-words (a ∷ b ∷ c ∷ []) h = absurd (omega arith)
 card-words (a ∷ b ∷ c ∷ d ∷ []) h = absurd (omega arith)
 card-words (a ∷ b ∷ c ∷ d ∷ e ∷ ws) h = refl
 
-head-words : (ws : List ℕ) → rowsAt ≤ length ws → ws ≡ getD ws 0 0 ∷ getD ws 1 0 ∷ getD ws 2 0 ∷ getD ws 3 0 ∷ getD ws 4 0 ∷ drop rowsAt ws
+head-words : (ws : List ℕ) → documentsAt ≤ length ws → ws ≡ getD ws 0 0 ∷ getD ws 1 0 ∷ getD ws 2 0 ∷ getD ws 3 0 ∷ getD ws 4 0 ∷ drop documentsAt ws
 head-words [] h = absurd (omega arith)
 head-words (a ∷ []) h = absurd (omega arith)
 head-words (a ∷ b ∷ []) h = absurd (omega arith)
@@ -91,17 +95,17 @@ bit-of zero h = refl
 bit-of (suc zero) h = refl
 bit-of (suc (suc n)) h = absurd (omega arith)
 
-touch-le : (used at : ℕ) (rs : List StoredRow) → rowsTouch used at rs ≡ true → at ≤ used
+touch-le : (used at : ℕ) (rs : List DocumentRow) → rowsTouch used at rs ≡ true → at ≤ used
 unfolding rowsTouch
 touch-le used at [] e = omega (arith, eqb-true at used e)
 touch-le used at (r ∷ rs) e = omega (arith, touch-le used (at + r .textLen) rs (and-true (eqb (r .textAt) at) (rowsTouch used (at + r .textLen) rs) e .1))
 
-counted-le : (used n : ℕ) (rs : List StoredRow) → cardsCounted used n rs ≡ true → n ≤ used
+counted-le : (used n : ℕ) (rs : List DocumentRow) → cardsCounted used n rs ≡ true → n ≤ used
 unfolding cardsCounted
 counted-le used n [] e = omega (arith, eqb-true n used e)
 counted-le used n (r ∷ rs) e = omega (arith, counted-le used (n + r .cardCount) rs e)
 
-rise-le : (switch last : ℕ) (rs : List StoredRow) → switchesRise switch last rs ≡ true → last ≤ switch
+rise-le : (switch last : ℕ) (rs : List DocumentRow) → switchesRise switch last rs ≡ true → last ≤ switch
 unfolding switchesRise
 rise-le switch last [] e = leb-true last switch e
 rise-le switch last (r ∷ rs) e =
@@ -110,7 +114,7 @@ rise-le switch last (r ∷ rs) e =
 
 module _ (text : List ℕ) (used many switch : ℕ) (fits : used ≤ length text) (low : switch ≤ 1) where
   -- The rows rs and the cards cs are left: texts begin at `at`, n cards stand before, the row before has the switch `last`.
-  record Left (at n last : ℕ) (rs : List StoredRow) (cs : List Card) : Type 0 where
+  record Left (at n last : ℕ) (rs : List DocumentRow) (cs : List Card) : Type 0 where
     touch : rowsTouch used at rs ≡ true
     counted : cardsCounted many n rs ≡ true
     enough : n + length cs ≡ many
@@ -118,20 +122,21 @@ module _ (text : List ℕ) (used many switch : ℕ) (fits : used ≤ length text
     clean : cardsSound text rs cs ≡ true
 
   -- The first of them.
-  record First (at : ℕ) (r : StoredRow) (cs : List Card) : Type 0 where
+  record First (at : ℕ) (r : DocumentRow) (cs : List Card) : Type 0 where
     here : r .textAt ≡ at
     inText : at + r .textLen ≤ length text
     enough : r .cardCount ≤ length cs
     flag : r .ignored ≤ 1
     clean : faultFrom text (r .textAt) (r .textLen) 0 none none (take (r .cardCount) cs) ≡ none
 
-  module _ (at n last : ℕ) (r : StoredRow) (rs : List StoredRow) (cs : List Card) (l : Left at n last (r ∷ rs) cs) where
+  module _ (at n last : ℕ) (r : DocumentRow) (rs : List DocumentRow) (cs : List Card) (l : Left at n last (r ∷ rs) cs) where
     next : First at r cs × Left (at + r .textLen) (n + r .cardCount) (r .ignored) rs (drop (r .cardCount) cs)
     unfolding rowsTouch cardsCounted switchesRise cardsSound cardFault
     next =
         let t = and-true (eqb (r .textAt) at) (rowsTouch used (at + r .textLen) rs) (l .touch) in
         let s = and-true (leb last (r .ignored)) (switchesRise switch (r .ignored) rs) (l .rise) in
-        let c = unfound (faultFrom text (r .textAt) (r .textLen) 0 none none (take (r .cardCount) cs)) (cardsSound text rs (drop (r .cardCount) cs)) (l .clean) in
+        let c = unfound (faultFrom text (r .textAt) (r .textLen) 0 none none (take (r .cardCount) cs)) (cardsSound text rs (drop (r .cardCount) cs))
+        (l .clean) in
         let e = l .enough in
         let m = counted-le many (n + r .cardCount) rs (l .counted) in (
           record {
@@ -151,7 +156,7 @@ module _ (text : List ℕ) (used many switch : ℕ) (fits : used ≤ length text
         )
 
   -- The document of the first row.
-  module _ (at : ℕ) (r : StoredRow) (cs : List Card) (f : First at r cs) where
+  module _ (at : ℕ) (r : DocumentRow) (cs : List Card) (f : First at r cs) where
     doc : Document
     doc = storedDocument text r (take (r .cardCount) cs)
 
@@ -198,7 +203,8 @@ module _ (text : List ℕ) (used many switch : ℕ) (fits : used ≤ length text
         ∙ f .clean
 
   -- All of them.
-  text-read : (at n last : ℕ) (rs : List StoredRow) (cs : List Card) → Left at n last rs cs → textOf (documentsFrom text rs cs) ≡ take (used - at) (drop at text)
+  text-read : (at n last : ℕ) (rs : List DocumentRow) (cs : List Card) → Left at n last rs cs →
+      textOf (documentsFrom text rs cs) ≡ take (used - at) (drop at text)
   unfolding documentsFrom rowsTouch doc
   text-read at n last [] cs l = let z : used - at ≡ 0 = omega (arith, eqb-true at used (l .touch)) in rw z
   text-read at n last (r ∷ rs) cs l =
@@ -212,7 +218,7 @@ module _ (text : List ℕ) (used many switch : ℕ) (fits : used ≤ length text
       ∙ sym (take-add (r .textLen) (used - b) (drop at text))
       ∙ ap (λ k. take k (drop at text)) s
 
-  rows-read : (at n last : ℕ) (rs : List StoredRow) (cs : List Card) → Left at n last rs cs → rowsOf at (documentsFrom text rs cs) ≡ rs
+  rows-read : (at n last : ℕ) (rs : List DocumentRow) (cs : List Card) → Left at n last rs cs → rowsOf at (documentsFrom text rs cs) ≡ rs
   unfolding documentsFrom doc
   rows-read at n last [] cs l = refl
   rows-read at n last (r ∷ rs) cs l =
@@ -221,7 +227,7 @@ module _ (text : List ℕ) (used many switch : ℕ) (fits : used ≤ length text
       (λ i. row-read at r cs (q .0) i ∷ rowsOf (at + length-text at r cs (q .0) i) (documentsFrom text rs (drop (r .cardCount) cs)))
       ∙ ap (λ x. r ∷ x) ih
 
-  cards-read : (at n last : ℕ) (rs : List StoredRow) (cs : List Card) → Left at n last rs cs → storedOf at (documentsFrom text rs cs) ≡ cs
+  cards-read : (at n last : ℕ) (rs : List DocumentRow) (cs : List Card) → Left at n last rs cs → storedOf at (documentsFrom text rs cs) ≡ cs
   unfolding documentsFrom cardsCounted doc
   cards-read at n last [] [] l = refl
   cards-read at n last [] (c ∷ cs) l = let e = l .enough in absurd (omega (arith, eqb-true n many (l .counted)))
@@ -232,7 +238,7 @@ module _ (text : List ℕ) (used many switch : ℕ) (fits : used ≤ length text
       ∙ ap (λ x. take (r .cardCount) cs ++ x) ih
       ∙ take-append-drop (r .cardCount) cs
 
-  clean-all : (at n last : ℕ) (rs : List StoredRow) (cs : List Card) → Left at n last rs cs → All Faultless (documentsFrom text rs cs)
+  clean-all : (at n last : ℕ) (rs : List DocumentRow) (cs : List Card) → Left at n last rs cs → All Faultless (documentsFrom text rs cs)
   unfolding documentsFrom doc
   clean-all at n last [] cs l = tt
   clean-all at n last (r ∷ rs) cs l =
@@ -247,20 +253,20 @@ chosen-true false r e = (e, cc)
 
 record Counts (words : List ℕ) : Type 0 where
   some : 1 ≤ documentCount words
-  few : documentCount words ≤ documentRoom
+  few : documentCount words ≤ documentCapacity
   adopt : adoptWord words ≤ 1
   ignore : ignoreWord words ≤ 1
-  text : textUsed words ≤ textRoom
-  cards : cardsUsed words ≤ cardRoom
+  text : textUsed words ≤ textCapacity
+  cards : cardsUsed words ≤ cardCapacity
 
 counts-of : (words : List ℕ) → countsSound words ≡ true → Counts words
 unfolding countsSound
 counts-of words e =
-    let q5 = and-true _ (leb (cardsUsed words) cardRoom) e in
-    let q4 = and-true _ (leb (textUsed words) textRoom) (q5 .0) in
+    let q5 = and-true _ (leb (cardsUsed words) cardCapacity) e in
+    let q4 = and-true _ (leb (textUsed words) textCapacity) (q5 .0) in
     let q3 = and-true _ (leb (ignoreWord words) 1) (q4 .0) in
     let q2 = and-true _ (leb (adoptWord words) 1) (q3 .0) in
-    let q1 = and-true (leb 1 (documentCount words)) (leb (documentCount words) documentRoom) (q2 .0) in
+    let q1 = and-true (leb 1 (documentCount words)) (leb (documentCount words) documentCapacity) (q2 .0) in
     record {
       some = leb-true _ _ (q1 .0);
       few = leb-true _ _ (q1 .1);
@@ -275,40 +281,40 @@ module _ (text words : List ℕ) (long : tooShort text words ≡ false) (good : 
   a = accountIn text words
 
   ds : List Document
-  ds = documentsFrom text (storedRows words) (storedCards words)
+  ds = documentsFrom text (documentRows words) (storedCards words)
 
-  longText : textRoom ≤ length text
+  longText : textCapacity ≤ length text
   unfolding tooShort
-  longText = ltb-false _ _ (or-false (ltb (length text) textRoom) (ltb (length words) wordsRoom) long .0)
+  longText = ltb-false _ _ (or-false (ltb (length text) textCapacity) (ltb (length words) wordsCapacity) long .0)
 
-  longWords : wordsRoom ≤ length words
+  longWords : wordsCapacity ≤ length words
   unfolding tooShort
-  longWords = ltb-false _ _ (or-false (ltb (length text) textRoom) (ltb (length words) wordsRoom) long .1)
+  longWords = ltb-false _ _ (or-false (ltb (length text) textCapacity) (ltb (length words) wordsCapacity) long .1)
 
   record Passed : Type 0 where
     counts : Counts words
-    touch : rowsTouch (textUsed words) 0 (storedRows words) ≡ true
-    counted : cardsCounted (cardsUsed words) 0 (storedRows words) ≡ true
-    rise : switchesRise (ignoreWord words) 0 (storedRows words) ≡ true
-    zero : zeroUnignored (storedRows words) ≡ true
-    clean : cardsSound text (storedRows words) (storedCards words) ≡ true
+    touch : rowsTouch (textUsed words) 0 (documentRows words) ≡ true
+    counted : cardsCounted (cardsUsed words) 0 (documentRows words) ≡ true
+    rise : switchesRise (ignoreWord words) 0 (documentRows words) ≡ true
+    zero : zeroUnignored (documentRows words) ≡ true
+    clean : cardsSound text (documentRows words) (storedCards words) ≡ true
     passes : zeroSound ds ≡ true
 
   passed : Passed
   unfolding sound rowsSound accountIn ds
   passed =
       let p = chosen-true (countsSound words) _ good in
-      let q = chosen-true (rowsSound words (storedRows words)) _ (p .1) in
-      let r = chosen-true (cardsSound text (storedRows words) (storedCards words)) _ (q .1) in
-      let s3 = and-true _ (zeroUnignored (storedRows words)) (q .0) in
-      let s2 = and-true _ (switchesRise (ignoreWord words) 0 (storedRows words)) (s3 .0) in
-      let s1 = and-true (rowsTouch (textUsed words) 0 (storedRows words)) (cardsCounted (cardsUsed words) 0 (storedRows words)) (s2 .0) in
+      let q = chosen-true (rowsSound words (documentRows words)) _ (p .1) in
+      let r = chosen-true (cardsSound text (documentRows words) (storedCards words)) _ (q .1) in
+      let s3 = and-true _ (zeroUnignored (documentRows words)) (q .0) in
+      let s2 = and-true _ (switchesRise (ignoreWord words) 0 (documentRows words)) (s3 .0) in
+      let s1 = and-true (rowsTouch (textUsed words) 0 (documentRows words)) (cardsCounted (cardsUsed words) 0 (documentRows words)) (s2 .0) in
       record { counts = counts-of words (p .0); touch = s1 .0; counted = s1 .1; rise = s2 .1; zero = s3 .1; clean = r .0; passes = r .1 }
 
   fits : textUsed words ≤ length text
   fits = omega (arith, passed .counts .text, longText)
 
-  left : Left text (textUsed words) (cardsUsed words) (ignoreWord words) fits (passed .counts .ignore) 0 0 0 (storedRows words) (storedCards words)
+  left : Left text (textUsed words) (cardsUsed words) (ignoreWord words) fits (passed .counts .ignore) 0 0 0 (documentRows words) (storedCards words)
   unfolding storedCards cardsFrom
   left = record {
     touch = passed .touch;
@@ -321,27 +327,30 @@ module _ (text words : List ℕ) (long : tooShort text words ≡ false) (good : 
   n : ℕ
   n = documentCount words
 
-  rows-all : rowsOf 0 ds ≡ storedRows words
+  rows-all : rowsOf 0 ds ≡ documentRows words
   unfolding ds
-  rows-all = rows-read text (textUsed words) (cardsUsed words) (ignoreWord words) fits (passed .counts .ignore) 0 0 0 (storedRows words) (storedCards words) left
+  rows-all = rows-read text (textUsed words) (cardsUsed words) (ignoreWord words) fits (passed .counts .ignore) 0 0 0 (documentRows words) (storedCards words)
+      left
 
   cards-all : storedOf 0 ds ≡ storedCards words
   unfolding ds
-  cards-all = cards-read text (textUsed words) (cardsUsed words) (ignoreWord words) fits (passed .counts .ignore) 0 0 0 (storedRows words) (storedCards words) left
+  cards-all = cards-read text (textUsed words) (cardsUsed words) (ignoreWord words) fits (passed .counts .ignore) 0 0 0 (documentRows words)
+      (storedCards words) left
 
   text-all : textOf ds ≡ take (textUsed words) text
   unfolding ds
   text-all =
-      text-read text (textUsed words) (cardsUsed words) (ignoreWord words) fits (passed .counts .ignore) 0 0 0 (storedRows words) (storedCards words) left
+      text-read text (textUsed words) (cardsUsed words) (ignoreWord words) fits (passed .counts .ignore) 0 0 0 (documentRows words) (storedCards words) left
       ∙ ap (λ m. take m text) (sub-zero (textUsed words))
 
   faultless-all : All Faultless ds
   unfolding ds
-  faultless-all = clean-all text (textUsed words) (cardsUsed words) (ignoreWord words) fits (passed .counts .ignore) 0 0 0 (storedRows words) (storedCards words) left
+  faultless-all = clean-all text (textUsed words) (cardsUsed words) (ignoreWord words) fits (passed .counts .ignore) 0 0 0 (documentRows words)
+      (storedCards words) left
 
   count-read : length ds ≡ n
-  unfolding n storedRows
-  count-read = sym (length-rowsOf 0 ds) ∙ ap length rows-all ∙ length-chunks rowWords rowFrom (documentCount words) (drop rowsAt words)
+  unfolding n documentRows
+  count-read = sym (length-rowsOf 0 ds) ∙ ap length rows-all ∙ length-chunks documentWords documentRowFrom (documentCount words) (drop documentsAt words)
 
   text-count : textHeld ds ≡ textUsed words
   text-count = sym (length-textOf ds) ∙ ap length text-all ∙ length-take-le (textUsed words) text fits
@@ -350,38 +359,41 @@ module _ (text words : List ℕ) (long : tooShort text words ≡ false) (good : 
   unfolding storedCards cardsFrom
   cards-count = sym (length-stored 0 ds) ∙ ap length cards-all ∙ length-chunks cardWords cardFrom (cardsUsed words) (drop cardsAt words)
 
-  row-region : wordsOfRows 0 ds ≡ take (rowWords * n) (drop rowsAt words)
-  unfolding n storedRows
+  row-region : wordsOfRows 0 ds ≡ take (documentWords * n) (drop documentsAt words)
+  unfolding n documentRows
   row-region =
       rows-words 0 ds
       ∙ ap (flatMap wordsOfStored) rows-all
-      ∙ words-back rowWords rowFrom wordsOfStored row-words (documentCount words) (drop rowsAt words) (omega (arith, length-drop rowsAt words, longWords, passed .counts .few))
+      ∙ words-back documentWords documentRowFrom wordsOfStored row-words (documentCount words) (drop documentsAt words)
+      (omega (arith, length-drop documentsAt words, longWords, passed .counts .few))
 
   card-region : flatMap wordsOfCard (storedOf 0 ds) ≡ take (cardWords * cardsUsed words) (drop cardsAt words)
   unfolding storedCards cardsFrom
   card-region =
       ap (flatMap wordsOfCard) cards-all
-      ∙ words-back cardWords cardFrom wordsOfCard card-words (cardsUsed words) (drop cardsAt words) (omega (arith, length-drop cardsAt words, longWords, passed .counts .cards))
+      ∙ words-back cardWords cardFrom wordsOfCard card-words (cardsUsed words) (drop cardsAt words)
+      (omega (arith, length-drop cardsAt words, longWords, passed .counts .cards))
 
   -- What lies between the rows and the cards.
   between : List ℕ
-  between = take (rowWords * documentRoom - rowWords * n) (drop (rowWords * n) (drop rowsAt words))
+  between = take (documentWords * documentCapacity - documentWords * n) (drop (documentWords * n) (drop documentsAt words))
 
-  few-rows : rowWords * n ≤ rowWords * documentRoom
+  few-rows : documentWords * n ≤ documentWords * documentCapacity
   unfolding n
   few-rows = omega (arith, passed .counts .few)
 
-  rows-region : wordsOfRows 0 ds ++ between ≡ take (rowWords * documentRoom) (drop rowsAt words)
+  rows-region : wordsOfRows 0 ds ++ between ≡ take (documentWords * documentCapacity) (drop documentsAt words)
   unfolding between
   rows-region =
       let m = few-rows in
-      let s : rowWords * n + (rowWords * documentRoom - rowWords * n) ≡ rowWords * documentRoom = omega arith in
+      let s : documentWords * n + (documentWords * documentCapacity - documentWords * n) ≡ documentWords * documentCapacity = omega arith in
       ap (λ l. l ++ between) row-region
-      ∙ sym (take-add (rowWords * n) (rowWords * documentRoom - rowWords * n) (drop rowsAt words))
-      ∙ ap (λ m. take m (drop rowsAt words)) s
+      ∙ sym (take-add (documentWords * n) (documentWords * documentCapacity - documentWords * n) (drop documentsAt words))
+      ∙ ap (λ m. take m (drop documentsAt words)) s
 
   cards-region : flatMap wordsOfCard (storedOf 0 ds) ++ drop (cardWords * cardsUsed words) (drop cardsAt words) ≡ drop cardsAt words
-  cards-region = ap (λ l. l ++ drop (cardWords * cardsUsed words) (drop cardsAt words)) card-region ∙ take-append-drop (cardWords * cardsUsed words) (drop cardsAt words)
+  cards-region = ap (λ l. l ++ drop (cardWords * cardsUsed words) (drop cardsAt words)) card-region
+      ∙ take-append-drop (cardWords * cardsUsed words) (drop cardsAt words)
 
   adopt-read : bit (a .adopt) ≡ adoptWord words
   unfolding a accountIn
@@ -396,17 +408,19 @@ module _ (text words : List ℕ) (long : tooShort text words ≡ false) (good : 
   words-laid =
       head-words words (omega (arith, longWords))
       ∙ ap (λ l. getD words 0 0 ∷ getD words 1 0 ∷ getD words 2 0 ∷ getD words 3 0 ∷ getD words 4 0 ∷ l)
-      (sym (take-append-drop (rowWords * documentRoom) (drop rowsAt words)) ∙ ap (λ l. take (rowWords * documentRoom) (drop rowsAt words) ++ l) (drop-drop (rowWords * documentRoom) rowsAt words))
+      (sym (take-append-drop (documentWords * documentCapacity) (drop documentsAt words))
+      ∙ ap (λ l. take (documentWords * documentCapacity) (drop documentsAt words) ++ l) (drop-drop (documentWords * documentCapacity) documentsAt words))
       ∙ sym (λ i. laid (count-read i) (adopt-read i) (ignore-read i) (text-count i) (cards-count i) (rows-region i) (cards-region i))
 
-  holds : Holds text words ds (a .adopt) (a .ignore)
+  holds : LaidOut text words ds (a .adopt) (a .ignore)
   holds = record {
     gap = between;
     rest = drop (cardWords * cardsUsed words) (drop cardsAt words);
     after = drop (textUsed words) text;
     textLaid = sym (take-append-drop (textUsed words) text) ∙ ap (λ l. l ++ drop (textUsed words) text) (sym text-all);
     wordsLaid = words-laid;
-    rowsFit = ap length rows-region ∙ length-take-le (rowWords * documentRoom) (drop rowsAt words) (omega (arith, length-drop rowsAt words, longWords));
+    rowsFit = ap length rows-region ∙ length-take-le (documentWords * documentCapacity) (drop documentsAt words)
+        (omega (arith, length-drop documentsAt words, longWords));
     textLong = longText;
     wordsLong = longWords;
     rise = rw (rows-all, ignore-read) (passed .rise);
@@ -425,7 +439,7 @@ module _ (text words : List ℕ) (long : tooShort text words ≡ false) (good : 
 
 -- A store that is not refused holds the account that is read from it.
 pub unrefused-holds : (text words : List ℕ) → storeRefusal text words ≡ 0 →
-    Holds text words (accountIn text words .documents) (accountIn text words .adopt) (accountIn text words .ignore)
+    LaidOut text words (accountIn text words .documents) (accountIn text words .adopt) (accountIn text words .ignore)
 unfolding storeRefusal accountIn a ds
 unrefused-holds text words e =
     let p = chosen-zero (tooShort text words) 21 (choose (sound text words) 0 22) refl e in

@@ -13,8 +13,10 @@ use Rattle.definition.specs.Lists.{choose, written}
 use Rattle.definition.specs.Answers.{answer}
 use Rattle.definition.specs.Cards.{Card, cardWords}
 use Rattle.definition.specs.Headings.{Document}
-use Rattle.definition.specs.Refusals.{textRoom, cardRoom, documentRoom, document, openingRefusal, filingRefusal}
-use Rattle.definition.specs.Store.{rowsAt, rowWords, cardsAt, wordsRoom, documentCount, textUsed, cardsUsed, accountIn, tooShort, storeRefusal, moved, movedWords, openedText, openedWords, filedRow, filedCounts, filedWords, filedText, adoptingWords, ignoringWords}
+use Rattle.definition.specs.Refusals.{textCapacity, cardCapacity, documentCapacity, document, openingRefusal, filingRefusal}
+use Rattle.definition.specs.Store.{documentsAt, documentWords, cardsAt, wordsCapacity, documentCount, textUsed, cardsUsed, accountIn, tooShort}
+use Rattle.definition.specs.Store.{storeRefusal, moved, movedWords, openedText, openedWords, filedRow, filedCounts, filedWords, filedText, adoptingWords}
+use Rattle.definition.specs.Store.{ignoringWords}
 use Rattle.definition.specs.Outcomes.{unchanged, accepted, open-store, add-ast, turned, adopt-orphan-extensions, ignore-builtin-redefinitions}
 use Rattle.definition.specs.Demands.{SameBut, places, filedPlaces, openedPlaces, FilingWrites, OpeningWrites, TurningWrites}
 use Rattle.definition.proofs.Tests.{or-false}
@@ -59,7 +61,8 @@ same-written xs ys at n e h = (length-paste xs at ys (length ys) (omega arith) (
         ∙ getD-drop (at + length ys) xs (i - (at + length ys)) 0
         ∙ ap (λ x. getD xs x 0) j
 
-    go : (i : ℕ) (b : Bool) → leb at i ≡ b → (b && ltb i (at + n)) ≡ false → getD (take at xs ++ take (length ys) ys ++ drop (at + length ys) xs) i 0 ≡ getD xs i 0
+    go : (i : ℕ) (b : Bool) → leb at i ≡ b → (b && ltb i (at + n)) ≡ false →
+        getD (take at xs ++ take (length ys) ys ++ drop (at + length ys) xs) i 0 ≡ getD xs i 0
     go i false q p = low i (leb-false at i q)
     go i true q p = let l = ltb-false i (at + n) p in high i (omega arith)
 
@@ -92,34 +95,36 @@ turned-done text words on l = rw l
 
 -- ---- What they write.
 
-filed-words : (words : List ℕ) (d : Document) → wordsRoom ≤ length words → documentCount words < documentRoom → cardsUsed words + length (d .cards) ≤ cardRoom →
+filed-words : (words : List ℕ) (d : Document) → wordsCapacity ≤ length words → documentCount words < documentCapacity →
+    cardsUsed words + length (d .cards) ≤ cardCapacity →
     SameBut (filedPlaces words (length (d .cards))) words (filedWords words d)
 unfolding filedWords filedCounts filedRow filedPlaces
-filed-words words d long few room =
+filed-words words d long few capacity =
     let w0 = set words 0 (documentCount words + 1) in
     let vs : List ℕ = (textUsed words + length (d .text)) ∷ (cardsUsed words + length (d .cards)) ∷ [] in
     let w1 = sets w0 3 vs in
     let row = filedRow words d in
-    let at = rowsAt + rowWords * documentCount words in
+    let at = documentsAt + documentWords * documentCount words in
     let w2 = sets w1 at row in
     let cards = movedWords (textUsed words) (d .cards) in
     let l0 = length-set words 0 (documentCount words + 1) in
     let l1 = length-sets w0 3 vs in
     let l2 = length-sets w1 at row in
     let s1 = then (λ i. eqb i 0) (places 3 2) words w0 w1 (same-set words 0 (documentCount words + 1)) (same-sets w0 vs 3 2 refl (omega arith)) in
-    let s2 = then (λ i. eqb i 0 || places 3 2 i) (places at rowWords) words w1 w2 s1 (same-sets w1 row at rowWords refl (omega arith)) in
-    then (λ i. eqb i 0 || places 3 2 i || places at rowWords i) (places (cardsAt + cardWords * cardsUsed words) (cardWords * length (d .cards))) words w2 (filedWords words d) s2
+    let s2 = then (λ i. eqb i 0 || places 3 2 i) (places at documentWords) words w1 w2 s1 (same-sets w1 row at documentWords refl (omega arith)) in
+    then (λ i. eqb i 0 || places 3 2 i || places at documentWords i) (places (cardsAt + cardWords * cardsUsed words) (cardWords * length (d .cards))) words w2
+    (filedWords words d) s2
     (same-written w2 cards (cardsAt + cardWords * cardsUsed words) (cardWords * length (d .cards)) (length-moved (textUsed words) (d .cards)) (omega arith))
 
-opened-words : (words : List ℕ) (d : Document) → wordsRoom ≤ length words → length (d .cards) ≤ cardRoom →
+opened-words : (words : List ℕ) (d : Document) → wordsCapacity ≤ length words → length (d .cards) ≤ cardCapacity →
     SameBut (openedPlaces (length (d .cards))) words (openedWords words d)
 unfolding openedWords openedPlaces
-opened-words words d long room =
+opened-words words d long capacity =
     let vs : List ℕ = 1 ∷ 0 ∷ 0 ∷ length (d .text) ∷ length (d .cards) ∷ 0 ∷ length (d .text) ∷ length (d .cards) ∷ 0 ∷ [] in
     let w0 = sets words 0 vs in
     let l0 = length-sets words 0 vs in
-    then (places 0 (rowsAt + rowWords)) (places cardsAt (cardWords * length (d .cards))) words w0 (openedWords words d)
-    (same-sets words vs 0 (rowsAt + rowWords) refl (omega arith))
+    then (places 0 (documentsAt + documentWords)) (places cardsAt (cardWords * length (d .cards))) words w0 (openedWords words d)
+    (same-sets words vs 0 (documentsAt + documentWords) refl (omega arith))
     (same-written w0 (movedWords 0 (d .cards)) cardsAt (cardWords * length (d .cards)) (length-moved 0 (d .cards)) (omega arith))
 
 pub filing-writes : FilingWrites
@@ -144,7 +149,7 @@ pub opening-writes : OpeningWrites
 unfolding accepted openedText document tooShort
 opening-writes text words lent ws e =
     let q = opening-accepted text words lent ws e in
-    let l = or-false (ltb (length text) textRoom) (ltb (length words) wordsRoom) (q .0) in
+    let l = or-false (ltb (length text) textCapacity) (ltb (length words) wordsCapacity) (q .0) in
     let d = document false lent ws in
     let m = opening-admits lent ws (q .1) in
     let tj = textHeld-joined [] d in
@@ -152,11 +157,12 @@ opening-writes text words lent ws e =
     let tn = textHeld-nil in
     let cn = cardsHeld-nil in
     rw (opening-done text words lent ws (q .0) (q .1)) (
-      same-written text lent 0 (length lent) refl (omega (arith, tj, tn, m .text, ltb-false (length text) textRoom (l .0))),
+      same-written text lent 0 (length lent) refl (omega (arith, tj, tn, m .text, ltb-false (length text) textCapacity (l .0))),
       opened-words words d (ltb-false _ _ (l .1)) (omega (arith, cj, cn, m .cards)),
     )
 
-turned-writes : (text words : List ℕ) (k v : ℕ) → (turned text words (set words k v) .text ≡ text) × SameBut (λ i. eqb i k) words (turned text words (set words k v) .words)
+turned-writes : (text words : List ℕ) (k v : ℕ) → (turned text words (set words k v) .text ≡ text) ×
+    SameBut (λ i. eqb i k) words (turned text words (set words k v) .words)
 unfolding turned accepted unchanged
 turned-writes text words k v = go (eqb (storeRefusal text words) 0)
   where

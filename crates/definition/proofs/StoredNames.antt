@@ -10,7 +10,7 @@ use lib.Seq.{drop-drop}
 use Rattle.definition.specs.Lists.{All, chunks}
 use Rattle.definition.specs.Names.{bytesAt}
 use Rattle.definition.specs.Cards.{Card, cardWords, cardFrom, cardsFrom}
-use Rattle.definition.specs.Headings.{Document, partFrom}
+use Rattle.definition.specs.Headings.{Document, namedCard}
 use Rattle.definition.specs.Store.{cardsAt, moved, cardsUsed, storedCards, accountIn, storeRefusal}
 use Rattle.definition.specs.LentRows.{cardsNamed, heldFrom, held}
 use Rattle.definition.proofs.CleanCards.{Faultless, name-in-text}
@@ -26,11 +26,11 @@ unfolding cardsNamed
 named-append text n [] ds = ap (λ m. cardsNamed text m ds) (sym (add-zero n))
 named-append text n (c ∷ cs) ds =
     let e : n + 1 + length cs ≡ n + suc (length cs) = omega arith in
-    ap (λ l. partFrom text n c ∷ l) (named-append text (n + 1) cs ds ∙ ap (λ m. cardsNamed text (n + 1) cs ++ cardsNamed text m ds) e)
+    ap (λ l. namedCard text n c ∷ l) (named-append text (n + 1) cs ds ∙ ap (λ m. cardsNamed text (n + 1) cs ++ cardsNamed text m ds) e)
 
 module _ (text own : List ℕ) (k : ℕ) (lies : (n m : ℕ) → n + m ≤ length own → bytesAt text (n + k) m ≡ bytesAt own n m) where
-  part-moved : (n : ℕ) (c : Card) → c .nameAt + c .nameLen ≤ length own → partFrom text n (moved k c) ≡ partFrom own n c
-  unfolding partFrom
+  part-moved : (n : ℕ) (c : Card) → c .nameAt + c .nameLen ≤ length own → namedCard text n (moved k c) ≡ namedCard own n c
+  unfolding namedCard
   part-moved n c w = λ i. record { number = n; kind = kind-moved k c i; name = name-moved text own k lies c w i }
 
   parts-moved : (n : ℕ) (cs : List Card) → ((j : ℕ) (c : Card) → getElem? cs j ≡ some c → c .nameAt + c .nameLen ≤ length own) →
@@ -81,4 +81,5 @@ chunk-at k f (suc n) ws (suc i) h =
 
 pub stored-card : (words : List ℕ) (i : ℕ) → i < cardsUsed words → getElem? (storedCards words) i ≡ some (cardFrom (drop (cardsAt + cardWords * i) words))
 unfolding storedCards cardsFrom
-stored-card words i h = chunk-at cardWords cardFrom (cardsUsed words) (drop cardsAt words) i h ∙ ap (λ l. some (cardFrom l)) (drop-drop (cardWords * i) cardsAt words)
+stored-card words i h = chunk-at cardWords cardFrom (cardsUsed words) (drop cardsAt words) i h
+    ∙ ap (λ l. some (cardFrom l)) (drop-drop (cardWords * i) cardsAt words)

@@ -6,8 +6,9 @@ use mathlib.Core.Option.{Option, none, some}
 use Prim.Native.Nat.{ℕ, _+_, _≤_}
 use native.Mathlib.Omega.{arith}
 use lib.ListN.{length}
-use Rattle.definition.specs.Lists.{All, keep, any, firstWhere, flatMap, firsts, repeats}
-use Rattle.definition.proofs.Lists.{flatMap-nil, flatMap-cons, keep-nil, keep-yes, keep-no, first-nil, first-yes, first-no, firsts-nil, firsts-old, firsts-new, repeats-nil, repeats-new, repeats-old, any-first-none, any-first-some}
+use Rattle.definition.specs.Lists.{All, filter, any, find, flatMap, firsts, repeats}
+use Rattle.definition.proofs.Lists.{flatMap-nil, flatMap-cons, filter-nil, filter-yes, filter-no, first-nil, first-yes, first-no, firsts-nil, firsts-old}
+use Rattle.definition.proofs.Lists.{firsts-new, repeats-nil, repeats-new, repeats-old, any-first-none, any-first-some}
 
 abbrev pub sum {ℓ} : {A : Type ℓ} → (A → ℕ) → List A → ℕ
 sum f [] = 0
@@ -43,42 +44,42 @@ module _ {ℓ} {A : Type ℓ} where
   sum-one [] = refl
   sum-one (x ∷ xs) = let ih = sum-one xs in omega arith
 
-  pub sum-gate : (f : A → ℕ) (p : A → Bool) (x : A) (xs : List A) → sum f (keep p (x ∷ xs)) ≡ gate (p x) (f x) + sum f (keep p xs)
+  pub sum-gate : (f : A → ℕ) (p : A → Bool) (x : A) (xs : List A) → sum f (filter p (x ∷ xs)) ≡ gate (p x) (f x) + sum f (filter p xs)
   sum-gate f p x xs = go (p x) refl
     where
-      go : (b : Bool) → p x ≡ b → sum f (keep p (x ∷ xs)) ≡ gate (p x) (f x) + sum f (keep p xs)
-      go true e = simp (keep-yes, e)
-      go false e = simp (keep-no, e) (omega arith)
+      go : (b : Bool) → p x ≡ b → sum f (filter p (x ∷ xs)) ≡ gate (p x) (f x) + sum f (filter p xs)
+      go true e = simp (filter-yes, e)
+      go false e = simp (filter-no, e) (omega arith)
 
-  pub sum-keep : (f : A → ℕ) (p : A → Bool) (xs : List A) → sum f (keep p xs) ≤ sum f xs
-  sum-keep f p [] = simp keep-nil (omega arith)
-  sum-keep f p (x ∷ xs) = omega (arith, sum-gate f p x xs, gate-le (p x) (f x), sum-keep f p xs)
+  pub sum-filter : (f : A → ℕ) (p : A → Bool) (xs : List A) → sum f (filter p xs) ≤ sum f xs
+  sum-filter f p [] = simp filter-nil (omega arith)
+  sum-filter f p (x ∷ xs) = omega (arith, sum-gate f p x xs, gate-le (p x) (f x), sum-filter f p xs)
 
-  pub sum-first : (f : A → ℕ) (p : A → Bool) (xs : List A) (y : A) → firstWhere p xs ≡ some y → f y ≤ sum f (keep p xs)
+  pub sum-first : (f : A → ℕ) (p : A → Bool) (xs : List A) (y : A) → find p xs ≡ some y → f y ≤ sum f (filter p xs)
   sum-first f p [] y h = let z : none ≡ some y = sym (first-nil p) ∙ h in let z : _≡_ {A = ℕ} 0 1 = cc in omega arith
   sum-first f p (x ∷ xs) y h = go (p x) refl (sum-first f p xs y)
     where
-      go : (b : Bool) → p x ≡ b → (firstWhere p xs ≡ some y → f y ≤ sum f (keep p xs)) → f y ≤ sum f (keep p (x ∷ xs))
-      go true e ih = let q : x ≡ y = cc (first-yes p x xs e) in let r : f x ≡ f y = ap f q in simp keep-yes (omega arith)
-      go false e ih = let i = ih (sym (first-no p x xs e) ∙ h) in simp keep-no (omega arith)
+      go : (b : Bool) → p x ≡ b → (find p xs ≡ some y → f y ≤ sum f (filter p xs)) → f y ≤ sum f (filter p (x ∷ xs))
+      go true e ih = let q : x ≡ y = cc (first-yes p x xs e) in let r : f x ≡ f y = ap f q in simp filter-yes (omega arith)
+      go false e ih = let i = ih (sym (first-no p x xs e) ∙ h) in simp filter-no (omega arith)
 
   -- tests that pass together at most where a third does
   pub sum-two : (f : A → ℕ) (p q r : A → Bool) → ((x : A) (v : ℕ) → gate (p x) v + gate (q x) v ≤ gate (r x) v) → (xs : List A) →
-      sum f (keep p xs) + sum f (keep q xs) ≤ sum f (keep r xs)
-  sum-two f p q r h [] = simp keep-nil (omega arith)
+      sum f (filter p xs) + sum f (filter q xs) ≤ sum f (filter r xs)
+  sum-two f p q r h [] = simp filter-nil (omega arith)
   sum-two f p q r h (x ∷ xs) =
       omega (arith, sum-gate f p x xs, sum-gate f q x xs, sum-gate f r x xs, h x (f x), sum-two f p q r h xs)
 
-  pub sum-implies : (f : A → ℕ) (p q : A → Bool) → ((x : A) (v : ℕ) → gate (p x) v ≤ gate (q x) v) → (xs : List A) → sum f (keep p xs) ≤ sum f (keep q xs)
-  sum-implies f p q h [] = simp keep-nil (omega arith)
+  pub sum-implies : (f : A → ℕ) (p q : A → Bool) → ((x : A) (v : ℕ) → gate (p x) v ≤ gate (q x) v) → (xs : List A) → sum f (filter p xs) ≤ sum f (filter q xs)
+  sum-implies f p q h [] = simp filter-nil (omega arith)
   sum-implies f p q h (x ∷ xs) = omega (arith, sum-gate f p x xs, sum-gate f q x xs, h x (f x), sum-implies f p q h xs)
 
   -- Each element is kept or comes again, and never both: whatever elements weigh, those kept and those that come again weigh as much as all.
   pub sum-kept : (alike : A → A → Bool) (f : A → ℕ) (seen xs : List A) → sum f (firsts alike seen xs) + sum (λ r. f (r .0)) (repeats alike seen xs) ≡ sum f xs
   sum-kept alike f seen [] = simp (firsts-nil, repeats-nil)
-  sum-kept alike f seen (x ∷ xs) = go (firstWhere (alike x) seen) refl (sum-kept alike f seen xs) (sum-kept alike f (seen ++ (x ∷ [])) xs)
+  sum-kept alike f seen (x ∷ xs) = go (find (alike x) seen) refl (sum-kept alike f seen xs) (sum-kept alike f (seen ++ (x ∷ [])) xs)
     where
-      go : (o : Option A) → firstWhere (alike x) seen ≡ o →
+      go : (o : Option A) → find (alike x) seen ≡ o →
           sum f (firsts alike seen xs) + sum (λ r. f (r .0)) (repeats alike seen xs) ≡ sum f xs →
           sum f (firsts alike (seen ++ (x ∷ [])) xs) + sum (λ r. f (r .0)) (repeats alike (seen ++ (x ∷ [])) xs) ≡ sum f xs →
           sum f (firsts alike seen (x ∷ xs)) + sum (λ r. f (r .0)) (repeats alike seen (x ∷ xs)) ≡ f x + sum f xs
@@ -109,22 +110,22 @@ module _ {ℓ κ} {A : Type ℓ} {B : Type κ} where
   -- Groups of a list by tests, of which at most one passes for each element, and none where q does not.
   pub sum-groups : (f : A → ℕ) (p : B → A → Bool) (q : A → Bool) (ks : List B) →
       ((x : A) (v : ℕ) → sum (λ k. gate (p k x) v) ks ≤ gate (q x) v) → (xs : List A) →
-      sum (λ k. sum f (keep (p k) xs)) ks ≤ sum f (keep q xs)
+      sum (λ k. sum f (filter (p k) xs)) ks ≤ sum f (filter q xs)
   sum-groups f p q ks h [] = nothing ks
     where
-      nothing : (js : List B) → sum (λ k. sum f (keep (p k) [])) js ≤ sum f (keep q [])
+      nothing : (js : List B) → sum (λ k. sum f (filter (p k) [])) js ≤ sum f (filter q [])
       nothing [] = omega arith
-      nothing (j ∷ js) = let ih = nothing js in let e : sum f (keep (p j) []) ≡ 0 = simp keep-nil in omega arith
+      nothing (j ∷ js) = let ih = nothing js in let e : sum f (filter (p j) []) ≡ 0 = simp filter-nil in omega arith
   sum-groups f p q ks h (x ∷ xs) = omega (arith, each ks, sum-gate f q x xs, h x (f x), sum-groups f p q ks h xs)
     where
-      each : (js : List B) → sum (λ k. sum f (keep (p k) (x ∷ xs))) js ≡ sum (λ k. gate (p k x) (f x)) js + sum (λ k. sum f (keep (p k) xs)) js
+      each : (js : List B) → sum (λ k. sum f (filter (p k) (x ∷ xs))) js ≡ sum (λ k. gate (p k x) (f x)) js + sum (λ k. sum f (filter (p k) xs)) js
       each [] = omega arith
       each (j ∷ js) = omega (arith, sum-gate f (p j) x xs, each js)
 
-pub count {ℓ} : {A : Type ℓ} (p : A → Bool) (xs : List A) → sum (λ x. gate (p x) 1) xs ≡ length (keep p xs)
-count p [] = simp keep-nil
+pub count {ℓ} : {A : Type ℓ} (p : A → Bool) (xs : List A) → sum (λ x. gate (p x) 1) xs ≡ length (filter p xs)
+count p [] = simp filter-nil
 count p (x ∷ xs) = go (p x) refl (count p xs)
   where
-    go : (b : Bool) → p x ≡ b → sum (λ x. gate (p x) 1) xs ≡ length (keep p xs) → gate (p x) 1 + sum (λ x. gate (p x) 1) xs ≡ length (keep p (x ∷ xs))
-    go true e ih = simp (e, keep-yes) (omega arith)
-    go false e ih = simp (e, keep-no) (omega arith)
+    go : (b : Bool) → p x ≡ b → sum (λ x. gate (p x) 1) xs ≡ length (filter p xs) → gate (p x) 1 + sum (λ x. gate (p x) 1) xs ≡ length (filter p (x ∷ xs))
+    go true e ih = simp (e, filter-yes) (omega arith)
+    go false e ih = simp (e, filter-no) (omega arith)

@@ -8,25 +8,28 @@ use mathlib.Core.Option.{Option, none, some}
 use Prim.Native.Nat.{ℕ, _+_}
 use lib.Dec.{leb}
 use lib.ListN.{length, length-map}
-use Rattle.definition.specs.Lists.{All, Prefix, choose, found, keep, any, firstWhere, before, firsts}
+use Rattle.definition.specs.Lists.{All, Prefix, choose, found, filter, any, find, takeUntil, firsts}
 use Rattle.definition.specs.Names.{sameName, bytes}
 use Rattle.definition.specs.Answers.{absent}
-use Rattle.definition.specs.Headings.{Heading, Part, isTypeDefinition, isNamed, sameNamed, extensionsOf, isOf, definition, definesType, types}
-use Rattle.definition.specs.Catalogue.{Component, Row, alikeComponents, component, components, ownComponents, ofExtensions, kept, listed, componentRow, isComponentOf, underType, typeRow, typeComponents, adoptedRow, rows}
+use Rattle.definition.specs.Headings.{Heading, NamedCard, isTypeDefinition, isNamed, sameNamed, extensionsOf, isOf, definition, definesType, definedTypes}
+use Rattle.definition.specs.Catalogue.{Component, Row, alikeComponents, component, components, ownComponents, ofExtensions, kept, listOfKind}
+use Rattle.definition.specs.Catalogue.{componentRow, isComponentOf, underType, typeRow, typeComponents, adoptedRow, rows}
 use Rattle.definition.specs.declared.FieldFound.{FieldFound}
 use Rattle.definition.specs.declared.FieldFound.the-variants.{Explicit, Typename, Schema, «Type» as MetaType}
 use Rattle.definition.specs.declared.FieldLookup.the-variants.{Found, NoSuchField}
 use Rattle.definition.specs.LentRows.{isTypeRow, isRowNamed, isTypeRowNamed, nameNumbered}
-use Rattle.definition.specs.Lookups.{Block, isBlockNamed, typeNamed, isRowOf, isPartNamed, isQueryRoot, metaField, fieldOf, fieldNamed, lists, subtypeOf, isSubtype}
+use Rattle.definition.specs.Lookups.{Block, isBlockNamed, typeNamed, isRowOf, isPartNamed, isQueryRoot, metaField, fieldOf, fieldNamed, lists, subtypeOf}
+use Rattle.definition.specs.Lookups.{isSubtype}
 use Rattle.definition.specs.Growth.{placeOf, listIn, listOf}
 use Rattle.definition.proofs.Tests.{zero-one}
 use Rattle.definition.proofs.Tests.{and-true}
 use Rattle.definition.proofs.Lists.{first-append-some, first-map-some, first-both, any-both, any-append, before-append, before-both, before-map}
-use Rattle.definition.proofs.All.{all-append, all-left, all-keep, all-firsts, all-map, all-flatMap, all-every, all-to, all-with, first-cong, any-cong, before-cong, all-found}
+use Rattle.definition.proofs.All.{all-append, all-left, all-filter, all-firsts, all-map, all-flatMap, all-every, all-to, all-with, first-cong, any-cong}
+use Rattle.definition.proofs.All.{before-cong, all-found}
 use Rattle.definition.proofs.AddedHeadings.{types-grow, lists-grow, definition-stays}
 use Rattle.definition.proofs.DocumentHeadings.{Named}
-use Rattle.definition.proofs.DrawnRows.{partRows, list-under, typeBlock, adoptedBlock, adoptees, drawn-blocks, row-named}
-use Rattle.definition.proofs.DrawnTypes.{among-types, named-types, drawn-types, in-types}
+use Rattle.definition.proofs.BuiltRows.{partRows, list-under, typeBlock, adoptedBlock, adoptees, built-blocks, row-named}
+use Rattle.definition.proofs.BuiltTypes.{among-types, named-types, built-types, in-types}
 
 -- What holds of the numbers of all parts holds of the cards under a type.
 module _ (P : ℕ → Type 0) where
@@ -42,50 +45,52 @@ module _ (P : ℕ → Type 0) where
   of-type hs d a e =
       all-firsts (λ c. P (c .part .number)) alikeComponents [] _
       (all-append (λ c. P (c .part .number)) (components absent d) _ (of-components absent d e)
-      (all-flatMap (λ c. P (c .part .number)) ownComponents (keep (isOf (d .kind + 7) (d .name)) hs)
-      (all-to OfParts (λ h. All (λ c. P (c .part .number)) (ownComponents h)) (λ h b. of-components _ h b) (keep (isOf (d .kind + 7) (d .name)) hs)
-      (all-keep OfParts (isOf (d .kind + 7) (d .name)) hs a))))
+      (all-flatMap (λ c. P (c .part .number)) ownComponents (filter (isOf (d .kind + 7) (d .name)) hs)
+      (all-to OfParts (λ h. All (λ c. P (c .part .number)) (ownComponents h)) (λ h b. of-components _ h b) (filter (isOf (d .kind + 7) (d .name)) hs)
+      (all-filter OfParts (isOf (d .kind + 7) (d .name)) hs a))))
 
-  of-listed : (cs : List Component) (k : ℕ) → All (λ c. P (c .part .number)) cs → All (λ r. P (r .card)) (listed cs k)
-  unfolding listed componentRow
-  of-listed cs k a = all-map (λ r. P (r .card)) componentRow (keep (isComponentOf k) cs) (all-keep (λ c. P (c .part .number)) (isComponentOf k) cs a)
+  of-listed : (cs : List Component) (k : ℕ) → All (λ c. P (c .part .number)) cs → All (λ r. P (r .card)) (listOfKind cs k)
+  unfolding listOfKind componentRow
+  of-listed cs k a = all-map (λ r. P (r .card)) componentRow (filter (isComponentOf k) cs) (all-filter (λ c. P (c .part .number)) (isComponentOf k) cs a)
 
   pub of-rows : (hs : List Heading) (d : Heading) → All OfParts hs → OfParts d → All (λ r. P (r .card)) (partRows hs d)
   unfolding partRows
   of-rows hs d a e =
-      all-flatMap (λ r. P (r .card)) (listed (kept (typeComponents hs d))) underType
-      (all-every (λ k. All (λ r. P (r .card)) (listed (kept (typeComponents hs d)) k)) (λ k. of-listed _ k (of-type hs d a e)) underType)
+      all-flatMap (λ r. P (r .card)) (listOfKind (kept (typeComponents hs d))) underType
+      (all-every (λ k. All (λ r. P (r .card)) (listOfKind (kept (typeComponents hs d)) k)) (λ k. of-listed _ k (of-type hs d a e)) underType)
 
 -- One drawing: a type that a definition brings is found with its block, at its place.
-module _ (ps : List Part) (n : List ℕ) (a : Bool) (hs : List Heading) (named : All (Named ps) hs) (d : Heading) (h : definition n hs ≡ some d) where
+module _ (ps : List NamedCard) (n : List ℕ) (a : Bool) (hs : List Heading) (named : All (Named ps) hs) (d : Heading) (h : definition n hs ≡ some d) where
   pub block-found : typeNamed ps (rows a hs) n ≡ some (typeBlock hs d)
   unfolding typeNamed isBlockNamed typeBlock
   block-found =
-      ap (firstWhere (isBlockNamed ps n)) (drawn-blocks a hs)
-      ∙ first-append-some (isBlockNamed ps n) (map (typeBlock hs) (types hs)) (map (adoptedBlock hs) (adoptees a hs)) (typeBlock hs d)
-      (first-map-some (isBlockNamed ps n) (typeBlock hs) (types hs) d (in-types ps n a hs named ∙ h))
+      ap (find (isBlockNamed ps n)) (built-blocks a hs)
+      ∙ first-append-some (isBlockNamed ps n) (map (typeBlock hs) (definedTypes hs)) (map (adoptedBlock hs) (adoptees a hs)) (typeBlock hs d)
+      (first-map-some (isBlockNamed ps n) (typeBlock hs) (definedTypes hs) d (in-types ps n a hs named ∙ h))
 
-  pub place-found : placeOf ps (rows a hs) n ≡ length (before (isNamed n) (types hs))
+  pub place-found : placeOf ps (rows a hs) n ≡ length (takeUntil (isNamed n) (definedTypes hs))
   unfolding placeOf isTypeRowNamed
   place-found =
-      let f : firstWhere (isRowNamed ps n) (map typeRow (types hs)) ≡ some (typeRow d) = first-map-some (isRowNamed ps n) typeRow (types hs) d (in-types ps n a hs named ∙ h) in
+      let f : find (isRowNamed ps n) (map typeRow (definedTypes hs)) ≡ some (typeRow d) =
+      first-map-some (isRowNamed ps n) typeRow (definedTypes hs) d (in-types ps n a hs named ∙ h) in
       ap length (before-both isTypeRow (isRowNamed ps n) (rows a hs))
-      ∙ (ap (λ l. length (before (isRowNamed ps n) l)) (drawn-types a hs)
-      ∙ (ap length (before-append (isRowNamed ps n) (map typeRow (types hs)) (map adoptedRow (adoptees a hs)) (typeRow d) f)
-      ∙ (ap length (before-map (isRowNamed ps n) typeRow (types hs))
-      ∙ (length-map (before (λ d. isRowNamed ps n (typeRow d)) (types hs)) typeRow
-      ∙ ap length (before-cong (λ d. isRowNamed ps n (typeRow d)) (isNamed n) (types hs)
-      (all-to (Named ps) (λ d. isRowNamed ps n (typeRow d) ≡ isNamed n d) (row-named ps n) (types hs) (named-types ps n a hs named)))))))
+      ∙ (ap (λ l. length (takeUntil (isRowNamed ps n) l)) (built-types a hs)
+      ∙ (ap length (before-append (isRowNamed ps n) (map typeRow (definedTypes hs)) (map adoptedRow (adoptees a hs)) (typeRow d) f)
+      ∙ (ap length (before-map (isRowNamed ps n) typeRow (definedTypes hs))
+      ∙ (length-map (takeUntil (λ d. isRowNamed ps n (typeRow d)) (definedTypes hs)) typeRow
+      ∙ ap length (before-cong (λ d. isRowNamed ps n (typeRow d)) (isNamed n) (definedTypes hs)
+      (all-to (Named ps) (λ d. isRowNamed ps n (typeRow d) ≡ isNamed n d) (row-named ps n) (definedTypes hs) (named-types ps n a hs named)))))))
 
-  pub list-found : (k : ℕ) → listOf ps (rows a hs) n k ≡ keep (isRowOf k) (partRows hs d)
+  pub list-found : (k : ℕ) → listOf ps (rows a hs) n k ≡ filter (isRowOf k) (partRows hs d)
   unfolding listOf listIn typeBlock
   list-found k = rw block-found
 
 -- The answers of a found type. A meta field is no explicit one.
-no-explicit : (ps : List Part) (rs : List Row) (k : ℕ) (n f : List ℕ) (c : ℕ) → metaField ps rs k n f ≡ some (Explicit c) → ⊥
+no-explicit : (ps : List NamedCard) (rs : List Row) (k : ℕ) (n f : List ℕ) (c : ℕ) → metaField ps rs k n f ≡ some (Explicit c) → ⊥
 unfolding metaField
 no-explicit ps rs k n f c e =
-    go (leb 6 k && leb k 8 && sameName f (bytes "__typename")) (isQueryRoot ps rs n && sameName f (bytes "__schema")) (isQueryRoot ps rs n && sameName f (bytes "__type")) e
+    go (leb 6 k && leb k 8 && sameName f (bytes "__typename")) (isQueryRoot ps rs n && sameName f (bytes "__schema"))
+    (isQueryRoot ps rs n && sameName f (bytes "__type")) e
   where
     go : (u v w : Bool) → choose u (some Typename) (choose v (some Schema) (choose w (some MetaType) none)) ≡ some (Explicit c) → ⊥
     go true v w e = let z : some Typename ≡ some (Explicit c) = e in zero-one cc
@@ -93,13 +98,13 @@ no-explicit ps rs k n f c e =
     go false false true e = let z : some MetaType ≡ some (Explicit c) = e in zero-one cc
     go false false false e = let z : none ≡ some (Explicit c) = e in zero-one cc
 
-explicit-of : (ps : List Part) (rs : List Row) (n f : List ℕ) (b : Block) (c : ℕ) → fieldOf ps rs n f b ≡ Found (Explicit c) →
-    (r : Row) × (firstWhere (isPartNamed ps 22 f) (b .parts) ≡ some r) × (r .card ≡ c)
+explicit-of : (ps : List NamedCard) (rs : List Row) (n f : List ℕ) (b : Block) (c : ℕ) → fieldOf ps rs n f b ≡ Found (Explicit c) →
+    (r : Row) × (find (isPartNamed ps 22 f) (b .parts) ≡ some r) × (r .card ≡ c)
 unfolding fieldOf
-explicit-of ps rs n f b c e = go (firstWhere (isPartNamed ps 22 f) (b .parts)) (metaField ps rs (b .head .what) n f) refl refl
+explicit-of ps rs n f b c e = go (find (isPartNamed ps 22 f) (b .parts)) (metaField ps rs (b .head .what) n f) refl refl
   where
-    go : (o : Option Row) (m : Option FieldFound) → firstWhere (isPartNamed ps 22 f) (b .parts) ≡ o → metaField ps rs (b .head .what) n f ≡ m →
-        (r : Row) × (firstWhere (isPartNamed ps 22 f) (b .parts) ≡ some r) × (r .card ≡ c)
+    go : (o : Option Row) (m : Option FieldFound) → find (isPartNamed ps 22 f) (b .parts) ≡ o → metaField ps rs (b .head .what) n f ≡ m →
+        (r : Row) × (find (isPartNamed ps 22 f) (b .parts) ≡ some r) × (r .card ≡ c)
     go (some r) m o i = let z : Found (Explicit (r .card)) ≡ Found (Explicit c) = rw o at e in (r, o, cc)
     go none (some m) o i =
         let z : Found m ≡ Found (Explicit c) = rw (o, i) at e in
@@ -107,13 +112,13 @@ explicit-of ps rs n f b c e = go (firstWhere (isPartNamed ps 22 f) (b .parts)) (
         absurd (no-explicit ps rs (b .head .what) n f c (i ∙ ap some q))
     go none none o i = let z : NoSuchField (b .head .card) ≡ Found (Explicit c) = rw (o, i) at e in absurd (zero-one cc)
 
-of-explicit : (ps : List Part) (rs : List Row) (n f : List ℕ) (b : Block) (r : Row) → firstWhere (isPartNamed ps 22 f) (b .parts) ≡ some r →
+of-explicit : (ps : List NamedCard) (rs : List Row) (n f : List ℕ) (b : Block) (r : Row) → find (isPartNamed ps 22 f) (b .parts) ≡ some r →
     fieldOf ps rs n f b ≡ Found (Explicit (r .card))
 unfolding fieldOf
 of-explicit ps rs n f b r e = rw e
 
 -- Two drawings.
-module _ (ps ps′ : List Part) (a b : Bool) (hs more : List Heading) (named : All (Named ps) hs) (named′ : All (Named ps′) (hs ++ more)) where
+module _ (ps ps′ : List NamedCard) (a b : Bool) (hs more : List Heading) (named : All (Named ps) hs) (named′ : All (Named ps′) (hs ++ more)) where
   module _ (n : List ℕ) (d : Heading) (h : definition n hs ≡ some d) where
     later : definition n (hs ++ more) ≡ some d
     later = definition-stays n hs more d h
@@ -121,17 +126,17 @@ module _ (ps ps′ : List Part) (a b : Bool) (hs more : List Heading) (named : A
     pub place-stays : placeOf ps (rows a hs) n ≡ placeOf ps′ (rows b (hs ++ more)) n
     place-stays =
         place-found ps n a hs named d h
-        ∙ (sym (ap length (ap (before (isNamed n)) (types-grow hs more)
-        ∙ before-append (isNamed n) (types hs) (firsts sameNamed (types hs) (keep isTypeDefinition more)) d (among-types ps n a hs named ∙ h)))
+        ∙ (sym (ap length (ap (takeUntil (isNamed n)) (types-grow hs more)
+        ∙ before-append (isNamed n) (definedTypes hs) (firsts sameNamed (definedTypes hs) (filter isTypeDefinition more)) d (among-types ps n a hs named ∙ h)))
         ∙ sym (place-found ps′ n b (hs ++ more) named′ d later))
 
     -- Each of its lists begins with what it was.
-    parts-grow : (k : ℕ) → Prefix (keep (isRowOf k) (partRows hs d)) (keep (isRowOf k) (partRows (hs ++ more) d))
+    parts-grow : (k : ℕ) → Prefix (filter (isRowOf k) (partRows hs d)) (filter (isRowOf k) (partRows (hs ++ more) d))
     parts-grow k = go (list-under k)
       where
-        go : ((hs : List Heading) (d : Heading) → keep (isRowOf k) (partRows hs d) ≡ []) ⊎
-            ((hs : List Heading) (d : Heading) → keep (isRowOf k) (partRows hs d) ≡ listed (kept (typeComponents hs d)) k) →
-            Prefix (keep (isRowOf k) (partRows hs d)) (keep (isRowOf k) (partRows (hs ++ more) d))
+        go : ((hs : List Heading) (d : Heading) → filter (isRowOf k) (partRows hs d) ≡ []) ⊎
+            ((hs : List Heading) (d : Heading) → filter (isRowOf k) (partRows hs d) ≡ listOfKind (kept (typeComponents hs d)) k) →
+            Prefix (filter (isRowOf k) (partRows hs d)) (filter (isRowOf k) (partRows (hs ++ more) d))
         go (inl e) = ([], simp e)
         go (inr e) = let g = lists-grow hs more d k in (g .0, simp e (g .1))
 
@@ -141,42 +146,43 @@ module _ (ps ps′ : List Part) (a b : Bool) (hs more : List Heading) (named : A
         (g .0, list-found ps′ n b (hs ++ more) named′ d later k ∙ (g .1 ∙ ap (λ l. l ++ g .0) (sym (list-found ps n a hs named d h k))))
 
     -- The two stores give the parts under it the same names.
-    agree : (k : ℕ) → All (λ r. nameNumbered ps (r .card) ≡ nameNumbered ps′ (r .card)) (keep (isRowOf k) (partRows hs d))
+    agree : (k : ℕ) → All (λ r. nameNumbered ps (r .card) ≡ nameNumbered ps′ (r .card)) (filter (isRowOf k) (partRows hs d))
     unfolding definition
     agree k =
         let P : ℕ → Type 0 = λ i. nameNumbered ps i ≡ nameNumbered ps′ i in
         let one : All (OfParts P) hs =
         all-with (Named ps) (Named ps′) (OfParts P)
-        (λ g u v. all-with (λ p. nameNumbered ps (p .number) ≡ p .name) (λ p. nameNumbered ps′ (p .number) ≡ p .name) (λ p. P (p .number)) (λ p x y. x ∙ sym y) (g .parts) (u .1) (v .1))
+        (λ g u v. all-with (λ p. nameNumbered ps (p .number) ≡ p .name) (λ p. nameNumbered ps′ (p .number) ≡ p .name) (λ p. P (p .number))
+        (λ p x y. x ∙ sym y) (g .parts) (u .1) (v .1))
         hs named (all-left (Named ps′) hs more named′) in
-        all-keep (λ r. P (r .card)) (isRowOf k) (partRows hs d) (of-rows P hs d one (all-found (OfParts P) (definesType n) hs d one h))
+        all-filter (λ r. P (r .card)) (isRowOf k) (partRows hs d) (of-rows P hs d one (all-found (OfParts P) (definesType n) hs d one h))
 
-    alike-named : (k : ℕ) (m : List ℕ) → All (λ r. isRowNamed ps m r ≡ isRowNamed ps′ m r) (keep (isRowOf k) (partRows hs d))
+    alike-named : (k : ℕ) (m : List ℕ) → All (λ r. isRowNamed ps m r ≡ isRowNamed ps′ m r) (filter (isRowOf k) (partRows hs d))
     unfolding isRowNamed
     alike-named k m =
         all-to (λ r. nameNumbered ps (r .card) ≡ nameNumbered ps′ (r .card)) (λ r. isRowNamed ps m r ≡ isRowNamed ps′ m r) (λ r e. ap (sameName m) e)
-        (keep (isRowOf k) (partRows hs d)) (agree k)
+        (filter (isRowOf k) (partRows hs d)) (agree k)
 
     first-stays : (k : ℕ) (m : List ℕ) (r : Row) →
-        firstWhere (isPartNamed ps k m) (partRows hs d) ≡ some r → firstWhere (isPartNamed ps′ k m) (partRows (hs ++ more) d) ≡ some r
+        find (isPartNamed ps k m) (partRows hs d) ≡ some r → find (isPartNamed ps′ k m) (partRows (hs ++ more) d) ≡ some r
     unfolding isPartNamed
     first-stays k m r e =
         let g = parts-grow k in
         first-both (isRowOf k) (isRowNamed ps′ m) (partRows (hs ++ more) d)
-        ∙ (ap (firstWhere (isRowNamed ps′ m)) (g .1)
-        ∙ first-append-some (isRowNamed ps′ m) (keep (isRowOf k) (partRows hs d)) (g .0) r
-        (sym (first-cong (isRowNamed ps m) (isRowNamed ps′ m) (keep (isRowOf k) (partRows hs d)) (alike-named k m))
+        ∙ (ap (find (isRowNamed ps′ m)) (g .1)
+        ∙ first-append-some (isRowNamed ps′ m) (filter (isRowOf k) (partRows hs d)) (g .0) r
+        (sym (first-cong (isRowNamed ps m) (isRowNamed ps′ m) (filter (isRowOf k) (partRows hs d)) (alike-named k m))
         ∙ (sym (first-both (isRowOf k) (isRowNamed ps m) (partRows hs d)) ∙ e)))
 
     any-stays : (k : ℕ) (m : List ℕ) → lists ps k m (typeBlock hs d) ≡ true → lists ps′ k m (typeBlock (hs ++ more) d) ≡ true
     unfolding lists isPartNamed typeBlock
     any-stays k m e =
         let g = parts-grow k in
-        let f : any (isRowNamed ps′ m) (keep (isRowOf k) (partRows hs d)) ≡ true =
-        sym (any-cong (isRowNamed ps m) (isRowNamed ps′ m) (keep (isRowOf k) (partRows hs d)) (alike-named k m))
+        let f : any (isRowNamed ps′ m) (filter (isRowOf k) (partRows hs d)) ≡ true =
+        sym (any-cong (isRowNamed ps m) (isRowNamed ps′ m) (filter (isRowOf k) (partRows hs d)) (alike-named k m))
         ∙ (sym (any-both (isRowOf k) (isRowNamed ps m) (partRows hs d)) ∙ e) in
         any-both (isRowOf k) (isRowNamed ps′ m) (partRows (hs ++ more) d)
-        ∙ (ap (any (isRowNamed ps′ m)) (g .1) ∙ (any-append (isRowNamed ps′ m) (keep (isRowOf k) (partRows hs d)) (g .0) ∙ simp f))
+        ∙ (ap (any (isRowNamed ps′ m)) (g .1) ∙ (any-append (isRowNamed ps′ m) (filter (isRowOf k) (partRows hs d)) (g .0) ∙ simp f))
 
     -- An explicit field found is found again, by the same card.
     pub field-stays : (f : List ℕ) (c : ℕ) →
@@ -195,12 +201,12 @@ module _ (ps ps′ : List Part) (a b : Bool) (hs more : List Heading) (named : A
       rw (block-found ps′ s b (hs ++ more) named′ e (later s e h)) (any-stays s e h 21 x (rw (block-found ps s a hs named e h) at y))
 
   module _ (x : List ℕ) (d : Heading) (h : definition x hs ≡ some d) where
-    interface-of : (s : List ℕ) → isRowOf 7 (typeRow d) ≡ true → (qs : List Part) (rs : List Row) (js : List Heading) →
+    interface-of : (s : List ℕ) → isRowOf 7 (typeRow d) ≡ true → (qs : List NamedCard) (rs : List Row) (js : List Heading) →
         subtypeOf qs rs x s (typeBlock js d) ≡ found (typeNamed qs rs s) (lists qs 21 x) false
     unfolding subtypeOf typeBlock
     interface-of s t qs rs js = rw t
 
-    union-of : (s : List ℕ) → isRowOf 7 (typeRow d) ≡ false → (qs : List Part) (rs : List Row) (js : List Heading) →
+    union-of : (s : List ℕ) → isRowOf 7 (typeRow d) ≡ false → (qs : List NamedCard) (rs : List Row) (js : List Heading) →
         subtypeOf qs rs x s (typeBlock js d) ≡ (isRowOf 8 (typeRow d) && lists qs 23 s (typeBlock js d))
     unfolding subtypeOf typeBlock
     union-of s t qs rs js = rw t

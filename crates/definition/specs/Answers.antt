@@ -1,4 +1,4 @@
--- 01's numbers and values of each answer's cases.
+-- The numbers and values of each answer's cases: 01's where it gives them, else chosen here (docs/DECISIONS.md, 37).
 use Prim.Native.Nat.{ℕ}
 use Rattle.definition.specs.declared.Answer.{Answer}
 use Rattle.definition.specs.declared.OperationType.{OperationType}

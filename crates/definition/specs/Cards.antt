@@ -16,7 +16,7 @@ use Rattle.definition.specs.Answers.{answer}
 abbrev pub cardWords : ℕ
 cardWords = 5
 
--- One parsed item. An item and a name are spans of the document's text.
+-- "A card is five words: kind, item offset, item length, name offset, name length." An item and a name are spans of the document's text.
 pub record Card : Type 0 where
   pub kind : ℕ
   pub itemAt : ℕ
@@ -42,13 +42,13 @@ cardsOf ws = cardsFrom (length ws / cardWords) ws
 
 -- ---- Kinds.
 
--- 1 operation, 2 fragment, 3 directive, 4 schema, 5 to 10 scalar, object, interface, union, enum, input object; 11 schema extension, 12 to 17
--- the extensions of the six: in the order of `ast::Definition`.
+-- "Headings have the kinds 1 to 17 in the order of `ast::Definition`: 1 operation, 2 fragment, 3 directive, 4 schema, 5 to 10 scalar, object, interface,
+-- union, enum, input object; 11 schema extension, 12 to 17 the six extensions."
 unfoldable pub isHeading : ℕ → Bool
 isHeading k = leb 1 k && leb k 17
 
--- 20 directive use, 21 implemented interface, 22 field of an object or interface, 23 union member, 24 enum value, 25 input field, 26 query,
--- 27 mutation, 28 subscription.
+-- "Parts follow their heading: 20 directive use, 21 implemented interface, 22 object or interface field, 23 member, 24 enum value, 25 input field,
+-- 26 query, 27 mutation, 28 subscription (name: the root's type)."
 unfoldable pub isPart : ℕ → Bool
 isPart k = leb 20 k && leb k 28
 
@@ -65,10 +65,11 @@ unfoldable pub isExtension : ℕ → Bool
 isExtension k = leb 11 k && leb k 17
 
 -- What a heading of a kind defines or extends, 4 to 10: an extension's kind is seven more than its definition's. 0 for kinds 1 to 3.
-unfoldable pub extended : ℕ → ℕ
-extended k = choose (leb 11 k) (k - 7) (choose (leb 4 k) k 0)
+unfoldable pub definitionOf : ℕ → ℕ
+definitionOf k = choose (leb 11 k) (k - 7) (choose (leb 4 k) k 0)
 
--- The kinds of part under a heading, by what it defines or extends, in order; kinds of one inner list share a place and may mix.
+-- "Order under a heading: 4 and 11 have 20, then 26 to 28 mixed; scalars 20; objects and interfaces 21, 20, 22; unions 20, 23; enums 20, 24; input
+-- objects 20, 25; kinds 1 to 3 none." By what the heading defines or extends; kinds of one inner list share a place and may mix.
 unfoldable pub partOrder : ℕ → List (List ℕ)
 partOrder k =
     choose (eqb k 4) ((20 ∷ []) ∷ (26 ∷ 27 ∷ 28 ∷ []) ∷ []) (
@@ -83,7 +84,7 @@ unfoldable pub placeIn : List (List ℕ) → ℕ → ℕ
 placeIn [] k = 0
 placeIn (ks ∷ order) k = let r = placeIn order k in choose (any (eqb k) ks) 0 (suc r)
 
--- An absent name is the pair 0, 0.
+-- "Absent names are the pair 0, 0".
 unfoldable pub isUnnamed : Card → Bool
 isUnnamed c = eqb (c .nameLen) 0 && eqb (c .nameAt) 0
 
@@ -144,7 +145,7 @@ nameNotItem p c = (eqb (c .kind) 21 || eqb (c .kind) 23) && not (eqb (c .nameAt)
 -- 5: a part without heading, of a kind that its heading lacks, or placed before its sibling's kind in the heading's order.
 unfoldable pub misplacedUnder : Place → Card → Card → Bool
 misplacedUnder p c h =
-    let order = partOrder (extended (h .kind)) in
+    let order = partOrder (definitionOf (h .kind)) in
     not (ltb (placeIn order (c .kind)) (length order)) || found (p .sibling) (λ s. ltb (placeIn order (c .kind)) (placeIn order (s .kind))) false
 
 unfoldable pub misplaced : Place → Card → Bool

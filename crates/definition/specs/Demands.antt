@@ -7,18 +7,21 @@ use mathlib.Core.Option.{none}
 use Prim.Native.Nat.{ℕ, suc, _+_, _*_, _≤_, _<_}
 use lib.Dec.{eqb, leb, ltb}
 use lib.ListN.{length, getD}
-use Rattle.definition.specs.Lists.{All, keep, chunks}
+use Rattle.definition.specs.Lists.{All, filter, chunks}
 use Rattle.definition.specs.Answers.{absent, answer}
 use Rattle.definition.specs.Cards.{cardWords, cardsOf}
 use Rattle.definition.specs.Catalogue.{Row}
 use Rattle.definition.specs.Errors.{Error, error}
 use Rattle.definition.specs.Merge.{tallies}
-use Rattle.definition.specs.Refusals.{Account, openingRefusal, cardRoom}
-use Rattle.definition.specs.Store.{rowsAt, rowWords, cardsAt, documentCount, textUsed, cardsUsed, storeRefusal}
-use Rattle.definition.specs.Outcomes.{DrawOutcome, open-store, add-ast, adopt-orphan-extensions, ignore-builtin-redefinitions, build, check-rows}
-use Rattle.definition.specs.Account.{Call, opening, answered, opened, joined, adoptingFrom, ignoringFrom, runAccount, Store, store, stepStore, runStore}
-use Rattle.definition.specs.Runs.{Accepted, Holds, Start, storeLeft, firstStore, firstAccount, storeAfter, storeAt, DrawnAt, NoneOpenedBetween, refusal, lentTo, leftIn, onlyReads}
-use Rattle.definition.specs.Growth.{rowsOf, drawnRows, Grown}
+use Rattle.definition.specs.Account.{Account}
+use Rattle.definition.specs.Refusals.{openingRefusal, cardCapacity}
+use Rattle.definition.specs.Store.{documentsAt, documentWords, cardsAt, documentCount, textUsed, cardsUsed, storeRefusal}
+use Rattle.definition.specs.Outcomes.{BuildOutcome, open-store, add-ast, adopt-orphan-extensions, ignore-builtin-redefinitions, build, check-rows}
+use Rattle.definition.specs.Calls.{Call, Reply, opening, answered, openedAccount, joined, adoptingFrom, ignoringFrom, runAccount, Store, store, stepStore}
+use Rattle.definition.specs.Calls.{runStore, accountAfter, effect, lentTo, onlyReads}
+use Rattle.definition.specs.Runs.{Accepted, Holds, Start, storeLeft, firstStore, firstAccount, storeAfter, Ran, storeAt, BuiltAt, NoneOpenedBetween, refusal}
+use Rattle.definition.specs.Runs.{leftIn}
+use Rattle.definition.specs.Growth.{rowsOf, builtRows, Grown}
 
 -- ==== The store holds the account. All of it holds of any text and words, not of runs alone.
 
@@ -26,7 +29,7 @@ use Rattle.definition.specs.Growth.{rowsOf, drawnRows, Grown}
 abbrev pub OpeningHolds : Type 0
 OpeningHolds =
     (text words lent cards : List ℕ) → Accepted (open-store text words lent cards) →
-    Holds (storeLeft (open-store text words lent cards)) (opened lent cards)
+    Holds (storeLeft (open-store text words lent cards)) (openedAccount lent cards)
 
 -- Filing: "the document joins at the end", filed under the ignore switch as it stands.
 abbrev pub FilingHolds : Type 0
@@ -57,7 +60,9 @@ places at n i = leb at i && ltb i (at + n)
 -- the cards used, the row after the last one and n cards after the last one.
 unfoldable pub filedPlaces : List ℕ → ℕ → ℕ → Bool
 filedPlaces words n i =
-    eqb i 0 || places 3 2 i || places (rowsAt + rowWords * documentCount words) rowWords i || places (cardsAt + cardWords * cardsUsed words) (cardWords * n) i
+    eqb i 0 || places 3 2 i ||
+    places (documentsAt + documentWords * documentCount words) documentWords i ||
+    places (cardsAt + cardWords * cardsUsed words) (cardWords * n) i
 
 abbrev pub FilingWrites : Type 0
 FilingWrites =
@@ -67,7 +72,7 @@ FilingWrites =
 
 -- Opening writes the counts, the switches, the first row, the cards and the text; all else stays.
 unfoldable pub openedPlaces : ℕ → ℕ → Bool
-openedPlaces n i = places 0 (rowsAt + rowWords) i || places cardsAt (cardWords * n) i
+openedPlaces n i = places 0 (documentsAt + documentWords) i || places cardsAt (cardWords * n) i
 
 abbrev pub OpeningWrites : Type 0
 OpeningWrites =
@@ -84,11 +89,11 @@ TurningWrites =
 
 -- A refused call leaves every word and byte, of the store and of all that it is lent to write into.
 abbrev pub RefusedLeaves : Type 0
-RefusedLeaves = (s : Store) (c : Call) → (refusal (stepStore s c .1) ≡ 0 → ⊥) → (stepStore s c .0 ≡ s) × (leftIn (stepStore s c .1) ≡ lentTo c)
+RefusedLeaves = (s : Store) (c : Call) → (refusal (stepStore s c .1) ≡ 0 → ⊥) → (stepStore s c .0 ≡ s) × (leftIn (stepStore s c .1) ≡ lentTo (effect c))
 
 -- Calls that only read leave the store.
-abbrev pub ReadingLeaves : Type 0
-ReadingLeaves = (s : Store) (c : Call) → onlyReads c ≡ true → stepStore s c .0 ≡ s
+abbrev pub ReadOnlyLeaves : Type 0
+ReadOnlyLeaves = (s : Store) (c : Call) → onlyReads (effect c) ≡ true → stepStore s c .0 ≡ s
 
 -- ==== The plain account of a run: "a single claim about the whole list".
 
@@ -96,6 +101,14 @@ ReadingLeaves = (s : Store) (c : Call) → onlyReads c ≡ true → stepStore s 
 -- them, are the account's, which "is fed the calls and their arguments, never the store".
 abbrev pub Agrees : Type 0
 Agrees = (b : Start) (calls : List Call) → runStore (firstStore b) calls ≡ runAccount (firstAccount b) calls
+
+-- The same of calls that were done, whoever did them: their replies are the account's.
+abbrev pub RunsAgree : Type 0
+RunsAgree = (b : Start) (calls : List Call) (replies : List Reply) → Ran (firstStore b) calls replies → replies ≡ runAccount (firstAccount b) calls
+
+-- After any list of calls the store holds the account that the same calls leave.
+abbrev pub StoreHoldsAccount : Type 0
+StoreHoldsAccount = (b : Start) (calls : List Call) → Holds (storeAfter (firstStore b) calls) (accountAfter (firstAccount b) calls)
 
 -- "21 and 22 never arise": no store of a run is refused so, and no reply says so.
 abbrev pub NeverArise : Type 0
@@ -109,7 +122,7 @@ abbrev pub OpensAnew : Type 0
 OpensAnew =
     (b : Start) (calls more : List Call) (lent cards : List ℕ) → openingRefusal lent cards ≡ none →
     runStore (firstStore b) (calls ++ (opening lent cards ∷ more)) ≡
-    runStore (firstStore b) calls ++ (answered (answer 0 0) ∷ runAccount (opened lent cards) more)
+    runStore (firstStore b) calls ++ (answered (answer 0 0) ∷ runAccount (openedAccount lent cards) more)
 
 -- ==== Between two drawings of a run, neither refused, with no accepted opening between them, whatever the switches.
 
@@ -118,15 +131,15 @@ OpensAnew =
 abbrev pub Growing : Type 0
 Growing =
     (b : Start) (calls : List Call) (i j : ℕ) → i < j → NoneOpenedBetween (firstStore b) calls i j →
-    (o p : DrawOutcome) → DrawnAt (firstStore b) calls i o → DrawnAt (firstStore b) calls j p →
+    (o p : BuildOutcome) → BuiltAt (firstStore b) calls i o → BuiltAt (firstStore b) calls j p →
     Grown (storeAt (firstStore b) calls i) (storeAt (firstStore b) calls j) o p
 
 -- Drawn rows are never refused with 26: neither over the store as the drawing left it, nor over any store of the run after it, with no accepted
 -- opening between.
-abbrev pub DrawnRowsPass : Type 0
-DrawnRowsPass =
+abbrev pub BuiltRowsPass : Type 0
+BuiltRowsPass =
     (b : Start) (calls : List Call) (i j : ℕ) → i ≤ j → NoneOpenedBetween (firstStore b) calls i (suc j) →
-    (o : DrawOutcome) → DrawnAt (firstStore b) calls i o →
+    (o : BuildOutcome) → BuiltAt (firstStore b) calls i o →
     check-rows (storeAt (firstStore b) calls j .text) (storeAt (firstStore b) calls j .words) (rowsOf o) ≡ answer 0 0
 
 -- ==== A drawing, of any store.
@@ -135,7 +148,7 @@ DrawnRowsPass =
 unfoldable pub errorFrom : List ℕ → Error
 errorFrom ws = error (getD ws 0 0) (getD ws 1 0) (getD ws 2 0)
 
-unfoldable pub errorRows : DrawOutcome → List Error
+unfoldable pub errorRows : BuildOutcome → List Error
 errorRows o = chunks 3 errorFrom (o .drawing .«reading_errors» + o .drawing .«drawing_errors») (o .errors)
 
 unfoldable pub hasCard : ℕ → Row → Bool
@@ -144,23 +157,23 @@ hasCard c r = eqb (r .card) c
 unfoldable pub isErrorOf : ℕ → Error → Bool
 isErrorOf c e = eqb (e .card) c
 
-pub record Bounded (rows errors : List ℕ) (o : DrawOutcome) : Type 0 where
+pub record Bounded (rows errors : List ℕ) (o : BuildOutcome) : Type 0 where
   -- At most 2,304 rows and at most 2,300 errors, so that they fit into the slices.
-  pub rowCount : length (drawnRows o) ≤ cardRoom + 4
-  pub errorCount : length (errorRows o) ≤ cardRoom
+  pub rowCount : length (builtRows o) ≤ cardCapacity + 4
+  pub errorCount : length (errorRows o) ≤ cardCapacity
   pub rowsFit : length (o .rows) ≡ length rows
   pub errorsFit : length (o .errors) ≡ length errors
   -- No card is in the second word of two rows, nor of two errors.
-  pub rowOnce : (c : ℕ) → (c ≡ absent → ⊥) → length (keep (hasCard c) (drawnRows o)) ≤ 1
-  pub errorOnce : (c : ℕ) → length (keep (isErrorOf c) (errorRows o)) ≤ 1
+  pub rowOnce : (c : ℕ) → (c ≡ absent → ⊥) → length (filter (hasCard c) (builtRows o)) ≤ 1
+  pub errorOnce : (c : ℕ) → length (filter (isErrorOf c) (errorRows o)) ≤ 1
   -- The count of rows is that of the rows written; "a tally counts the error rows of its number", and the total is the number of error rows.
-  pub counted : o .drawing .rows ≡ length (drawnRows o)
+  pub counted : o .drawing .rows ≡ length (builtRows o)
   pub tallied : o .drawing .tallies .counts ≡ tallies (errorRows o)
   pub total : o .drawing .tallies .total ≡ length (errorRows o)
 
 -- Where it is not refused.
-abbrev pub DrawingsBounded : Type 0
-DrawingsBounded =
+abbrev pub BuildsBounded : Type 0
+BuildsBounded =
     (text words rows errors : List ℕ) → build text words rows errors .drawing .number ≡ 0 → Bounded rows errors (build text words rows errors)
 
 -- ==== Demand 3, whole.
@@ -174,10 +187,12 @@ pub record Demand3 : Type 0 where
   pub filingWrites : FilingWrites
   pub turningWrites : TurningWrites
   pub refusedLeaves : RefusedLeaves
-  pub readingLeaves : ReadingLeaves
+  pub readOnlyLeaves : ReadOnlyLeaves
   pub agrees : Agrees
+  pub runsAgree : RunsAgree
+  pub storeHoldsAccount : StoreHoldsAccount
   pub neverArise : NeverArise
   pub opensAnew : OpensAnew
   pub growing : Growing
-  pub drawnRowsPass : DrawnRowsPass
-  pub drawingsBounded : DrawingsBounded
+  pub builtRowsPass : BuiltRowsPass
+  pub buildsBounded : BuildsBounded

@@ -7,14 +7,14 @@ use lib.ListN.{length, take}
 use Rattle.definition.specs.declared.FieldFound.the-variants.{Explicit}
 use Rattle.definition.specs.declared.FieldLookup.the-variants.{Found}
 use Rattle.definition.specs.declared.SubtypeLookup.the-variants.{Subtype}
-use Rattle.definition.specs.Lists.{Prefix, found, keep, before}
-use Rattle.definition.specs.Headings.{Document, Part, Heading, headings, definition}
+use Rattle.definition.specs.Lists.{Prefix, found, filter, takeUntil}
+use Rattle.definition.specs.Headings.{Document, NamedCard, Heading, headings, definition}
 use Rattle.definition.specs.Catalogue.{Row}
 use Rattle.definition.specs.Store.{accountIn}
 use Rattle.definition.specs.LentRows.{held, lentRows, isTypeRow, isTypeRowNamed}
 use Rattle.definition.specs.Lookups.{Block, typeNamed, isRowOf}
-use Rattle.definition.specs.Outcomes.{DrawOutcome, type-field, is-subtype}
-use Rattle.definition.specs.Account.{Store}
+use Rattle.definition.specs.Outcomes.{BuildOutcome, type-field, is-subtype}
+use Rattle.definition.specs.Calls.{Store}
 
 -- ---- A type.
 
@@ -23,28 +23,28 @@ abbrev pub Brings : List Document → List ℕ → Heading → Type 0
 Brings ds n d = definition n (headings ds) ≡ some d
 
 -- The card of its row.
-unfoldable pub cardOf : List Part → List Row → List ℕ → Option ℕ
+unfoldable pub cardOf : List NamedCard → List Row → List ℕ → Option ℕ
 cardOf cs rs n = found (typeNamed cs rs n) (λ b. some (b .head .card)) none
 
 -- "Its place is the number of type rows before it"
-unfoldable pub placeOf : List Part → List Row → List ℕ → ℕ
-placeOf cs rs n = length (keep isTypeRow (before (isTypeRowNamed cs n) rs))
+unfoldable pub placeOf : List NamedCard → List Row → List ℕ → ℕ
+placeOf cs rs n = length (filter isTypeRow (takeUntil (isTypeRowNamed cs n) rs))
 
 -- "its lists are the rows under it, one list a kind, in order"
 unfoldable pub listIn : ℕ → Block → List Row
-listIn k b = keep (isRowOf k) (b .parts)
+listIn k b = filter (isRowOf k) (b .parts)
 
-unfoldable pub listOf : List Part → List Row → List ℕ → ℕ → List Row
+unfoldable pub listOf : List NamedCard → List Row → List ℕ → ℕ → List Row
 listOf cs rs n k = found (typeNamed cs rs n) (listIn k) []
 
 -- ---- A drawing.
 
 -- "with exactly its rows": the words of the rows that it wrote.
-unfoldable pub rowsOf : DrawOutcome → List ℕ
+unfoldable pub rowsOf : BuildOutcome → List ℕ
 rowsOf o = take (o .drawing .rows * 3) (o .rows)
 
 -- "they stand first, as many as the first error count": the words of its reading errors.
-unfoldable pub readingErrorsOf : DrawOutcome → List ℕ
+unfoldable pub readingErrorsOf : BuildOutcome → List ℕ
 readingErrorsOf o = take (o .drawing .«reading_errors» * 3) (o .errors)
 
 -- ---- Two drawings: the earlier left the store s and wrote o, the later left t and wrote p.
@@ -52,20 +52,20 @@ readingErrorsOf o = take (o .drawing .«reading_errors» * 3) (o .errors)
 abbrev pub documentsIn : Store → List Document
 documentsIn s = accountIn (s .text) (s .words) .documents
 
-abbrev pub cardsIn : Store → List Part
+abbrev pub cardsIn : Store → List NamedCard
 cardsIn s = held (documentsIn s)
 
-abbrev pub drawnRows : DrawOutcome → List Row
-drawnRows o = lentRows (rowsOf o)
+abbrev pub builtRows : BuildOutcome → List Row
+builtRows o = lentRows (rowsOf o)
 
 -- Of each type that a definition had brought at the earlier, d being its heading:
-pub record Kept (s t : Store) (o p : DrawOutcome) (n : List ℕ) (d : Heading) : Type 0 where
+pub record TypeGrown (s t : Store) (o p : BuildOutcome) (n : List ℕ) (d : Heading) : Type 0 where
   -- its heading card is its row's card at both;
-  pub card : (cardOf (cardsIn s) (drawnRows o) n ≡ some (d .number)) × (cardOf (cardsIn t) (drawnRows p) n ≡ some (d .number))
+  pub card : (cardOf (cardsIn s) (builtRows o) n ≡ some (d .number)) × (cardOf (cardsIn t) (builtRows p) n ≡ some (d .number))
   -- it keeps its place among the types;
-  pub place : placeOf (cardsIn s) (drawnRows o) n ≡ placeOf (cardsIn t) (drawnRows p) n
+  pub place : placeOf (cardsIn s) (builtRows o) n ≡ placeOf (cardsIn t) (builtRows p) n
   -- each of its lists begins with the earlier one, card and origin alike;
-  pub lists : (k : ℕ) → Prefix (listOf (cardsIn s) (drawnRows o) n k) (listOf (cardsIn t) (drawnRows p) n k)
+  pub eachList : (k : ℕ) → Prefix (listOf (cardsIn s) (builtRows o) n k) (listOf (cardsIn t) (builtRows p) n k)
   -- an explicit field that was found is found again by the same card;
   pub field : (f : List ℕ) (c : ℕ) →
       type-field (s .text) (s .words) (rowsOf o) n f ≡ Found (Explicit c) → type-field (t .text) (t .words) (rowsOf p) n f ≡ Found (Explicit c)
@@ -76,6 +76,6 @@ pub record Kept (s t : Store) (o p : DrawOutcome) (n : List ℕ) (d : Heading) :
   pub member : (d .kind ≡ 8) → (m : List ℕ) →
       is-subtype (s .text) (s .words) (rowsOf o) n m ≡ Subtype → is-subtype (t .text) (t .words) (rowsOf p) n m ≡ Subtype
 
-pub record Grown (s t : Store) (o p : DrawOutcome) : Type 0 where
-  pub types : (n : List ℕ) (d : Heading) → Brings (documentsIn s) n d → Kept s t o p n d
+pub record Grown (s t : Store) (o p : BuildOutcome) : Type 0 where
+  pub types : (n : List ℕ) (d : Heading) → Brings (documentsIn s) n d → TypeGrown s t o p n d
   pub errors : Prefix (readingErrorsOf o) (readingErrorsOf p)

@@ -21,14 +21,14 @@ found none f b = b
 
 module _ {ℓ} {A : Type ℓ} where
   -- The elements that pass the test, in order.
-  unfoldable pub keep : (A → Bool) → List A → List A
-  keep p [] = []
-  keep p (x ∷ xs) = let r = keep p xs in choose (p x) (x ∷ r) r
+  unfoldable pub filter : (A → Bool) → List A → List A
+  filter p [] = []
+  filter p (x ∷ xs) = let r = filter p xs in choose (p x) (x ∷ r) r
 
   -- The first element that passes the test.
-  unfoldable pub firstWhere : (A → Bool) → List A → Option A
-  firstWhere p [] = none
-  firstWhere p (x ∷ xs) = let r = firstWhere p xs in choose (p x) (some x) r
+  unfoldable pub find : (A → Bool) → List A → Option A
+  find p [] = none
+  find p (x ∷ xs) = let r = find p xs in choose (p x) (some x) r
 
   -- Whether some element passes the test, and whether all do.
   unfoldable pub any : (A → Bool) → List A → Bool
@@ -48,9 +48,9 @@ module _ {ℓ} {A : Type ℓ} where
   first (x ∷ xs) = some x
 
   -- The elements before the first that passes the test.
-  unfoldable pub before : (A → Bool) → List A → List A
-  before p [] = []
-  before p (x ∷ xs) = let r : List A = x ∷ before p xs in choose (p x) [] r
+  unfoldable pub takeUntil : (A → Bool) → List A → List A
+  takeUntil p [] = []
+  takeUntil p (x ∷ xs) = let r : List A = x ∷ takeUntil p xs in choose (p x) [] r
 
   -- ys begins with xs.
   abbrev pub Prefix : List A → List A → Type ℓ
@@ -96,4 +96,4 @@ module _ {ℓ} {A : Type ℓ} (alike : A → A → Bool) where
   repeats seen [] = []
   repeats seen (x ∷ xs) =
       let skipped = repeats (seen ++ (x ∷ [])) xs in
-      found (firstWhere (alike x) seen) (λ y. (x, y) ∷ repeats seen xs) skipped
+      found (find (alike x) seen) (λ y. (x, y) ∷ repeats seen xs) skipped

@@ -1,6 +1,7 @@
 -- The public entries: of each, the answer and the contents at exit of every slice that is lent to be written. First what an account answers, with the
 -- refusals that hang on it and on what is lent; then the same over a store, with 21 and 22 before them.
--- 01's order of refusals is 21, 22, 26, 7, 1, the first faulty card, 6, 23, 24, 25. A refused call changes nothing.
+-- "Order: 21, 22, 26, 7, 1, then the first faulty card with its lowest of 2 to 5, 6, 23, 24, 25. Opening skips 22. 7 is asked of slices to be written, 26 of
+-- rows to be read, 23 of filing alone." A refused call changes nothing.
 use mathlib.Core.Path.{_≡_}
 use mathlib.Core.List.{List, [], _∷_, _++_, List·Permᴰ}
 use mathlib.Core.Bool.{Bool, true, false, _||_}
@@ -18,11 +19,12 @@ use Rattle.definition.specs.declared.SubtypeLookup.the-variants.{Subtype
 use Rattle.definition.specs.Lists.{choose, found, flatMap, written}
 use Rattle.definition.specs.Names.{bytesAt}
 use Rattle.definition.specs.Answers.{answer}
-use Rattle.definition.specs.Headings.{Document, Part}
+use Rattle.definition.specs.Headings.{Document, NamedCard}
 use Rattle.definition.specs.Catalogue.{Row}
 use Rattle.definition.specs.Errors.{Error}
-use Rattle.definition.specs.Merge.{Catalogue, draw, errorNumbers, tallies}
-use Rattle.definition.specs.Refusals.{Account, document, openingRefusal, filingRefusal, rowsRoom, errorsRoom, groupsRoom, originsRoom}
+use Rattle.definition.specs.Merge.{Merged, merge, errorNumbers, tallies}
+use Rattle.definition.specs.Account.{Account}
+use Rattle.definition.specs.Refusals.{document, openingRefusal, filingRefusal, rowsCapacity, errorsCapacity, groupsCapacity, originsCapacity}
 use Rattle.definition.specs.Store.{accountIn, tooShort, storeRefusal, openedText, openedWords, filedText, filedWords, adoptingWords, ignoringWords}
 use Rattle.definition.specs.LentRows.{held, lentRows, rowsRefusal, nameNumbered}
 use Rattle.definition.specs.Lookups.{Span, span, rootRow, rootCard, rootSpan, fieldNamed, isSubtype, originList, extensionList, Group, groups, groupWords}
@@ -72,7 +74,7 @@ ignore-builtin-redefinitions text words = turned text words (ignoringWords words
 
 -- ---- Drawing: the answer, and the rows and errors slices at exit.
 
-pub record DrawOutcome : Type 0 where
+pub record BuildOutcome : Type 0 where
   pub drawing : Drawing
   pub rows : List ℕ
   pub errors : List ℕ
@@ -84,8 +86,8 @@ unfoldable pub wordsOfError : Error → List ℕ
 wordsOfError e = e .number ∷ e .card ∷ e .earlier ∷ []
 
 -- Refused: the number, all counts and tallies 0.
-unfoldable pub undrawn : List ℕ → List ℕ → ℕ → DrawOutcome
-undrawn rows errors n = record {
+unfoldable pub unbuilt : List ℕ → List ℕ → ℕ → BuildOutcome
+unbuilt rows errors n = record {
   drawing = record {
     number = n;
     rows = 0;
@@ -97,9 +99,10 @@ undrawn rows errors n = record {
   errors = errors;
 }
 
--- Drawn: the rows, and the errors with those of reading first; the words past them stay.
-unfoldable pub drawnInto : List ℕ → List ℕ → Catalogue → DrawOutcome
-drawnInto rows errors c =
+-- Drawn: "the row count, two error counts (while reading documents, while drawing) and one tally for each error number", the rows, and the errors with
+-- those of reading first. "Words of a lent slice past what is written stay."
+unfoldable pub mergedInto : List ℕ → List ℕ → Merged → BuildOutcome
+mergedInto rows errors c =
     let es = c .readingErrors ++ c .drawingErrors in
     record {
       drawing = record {
@@ -115,23 +118,23 @@ drawnInto rows errors c =
 
 -- 7: a slice to be written that is shorter than its room.
 unfoldable pub isShort : ℕ → List ℕ → Bool
-isShort room lent = ltb (length lent) room
+isShort capacity lent = ltb (length lent) capacity
 
-unfoldable pub drawOf : Account → List ℕ → List ℕ → DrawOutcome
-drawOf a rows errors =
-    let done = drawnInto rows errors (draw (a .adopt) (a .documents)) in
-    choose (isShort rowsRoom rows || isShort errorsRoom errors) (undrawn rows errors 7) done
+unfoldable pub buildOf : Account → List ℕ → List ℕ → BuildOutcome
+buildOf a rows errors =
+    let done = mergedInto rows errors (merge (a .adopt) (a .documents)) in
+    choose (isShort rowsCapacity rows || isShort errorsCapacity errors) (unbuilt rows errors 7) done
 
 -- `build`: 21, 22, 7.
-unfoldable pub build : List ℕ → List ℕ → List ℕ → List ℕ → DrawOutcome
+unfoldable pub build : List ℕ → List ℕ → List ℕ → List ℕ → BuildOutcome
 build text words rows errors =
     let n = storeRefusal text words in
-    let done = drawOf (accountIn text words) rows errors in
-    choose (eqb n 0) done (undrawn rows errors n)
+    let done = buildOf (accountIn text words) rows errors in
+    choose (eqb n 0) done (unbuilt rows errors n)
 
 -- ---- Lookups that only read: 21, 22, 26.
 
--- `check_rows`, the checking entry.
+-- `check_rows`: "a checking entry over the same store and rows returns the refusal's number, or 0 and 0".
 unfoldable pub checkOf : Account → List ℕ → Answer
 checkOf a rows = answer (rowsRefusal (a .documents) rows) 0
 
@@ -141,7 +144,7 @@ check-rows text words rows =
     let done = checkOf (accountIn text words) rows in
     choose (eqb n 0) done (answer n 0)
 
--- `root_operation`: which part of the store's text, and its bytes; empty if there is no such root or the call is refused.
+-- `root_operation` "hands back the name as a part of the store's text, empty if none or refused": which part, and its bytes.
 pub record RootName : Type 0 where
   pub bytes : List ℕ
   pub part : Span
@@ -150,7 +153,7 @@ unfoldable pub noRoot : RootName
 noRoot = record { bytes = []; part = span 0 0 }
 
 -- The account has no store's text: the bytes are the name's in its own document, and the part is counted through the documents' texts.
-unfoldable pub rootBytes : List Part → List Row → OperationType → List ℕ
+unfoldable pub rootBytes : List NamedCard → List Row → OperationType → List ℕ
 rootBytes cs rs op = found (rootRow rs op) (λ r. nameNumbered cs (rootCard cs rs r)) []
 
 unfoldable pub rootOf : Account → List ℕ → OperationType → RootName
@@ -208,29 +211,29 @@ unfoldable pub listedIn : List ℕ → ℕ → List ℕ → ListOutcome
 listedIn lent count ws = record { answer = answer 0 count; list = written lent 0 ws }
 
 -- 26, then 7, else what is done.
-unfoldable pub listing : Account → List ℕ → ℕ → List ℕ → ListOutcome → ListOutcome
-listing a rows room lent done =
+unfoldable pub unlessRefused : Account → List ℕ → ℕ → List ℕ → ListOutcome → ListOutcome
+unlessRefused a rows capacity lent done =
     let n = rowsRefusal (a .documents) rows in
-    let fits = choose (isShort room lent) (unlisted lent 7) done in
+    let fits = choose (isShort capacity lent) (unlisted lent 7) done in
     choose (eqb n 0) fits (unlisted lent n)
 
 unfoldable pub originsOf : Account → List ℕ → List ℕ → ListOutcome
 originsOf a rows lent =
     let ws = originList (lentRows rows) in
     let done = listedIn lent (length ws) ws in
-    listing a rows originsRoom lent done
+    unlessRefused a rows originsCapacity lent done
 
 unfoldable pub extensionsIn : Account → List ℕ → List ℕ → ListOutcome
 extensionsIn a rows lent =
     let ws = extensionList (lentRows rows) in
     let done = listedIn lent (length ws) ws in
-    listing a rows originsRoom lent done
+    unlessRefused a rows originsCapacity lent done
 
 unfoldable pub implementersOf : Account → List ℕ → List ℕ → ListOutcome
 implementersOf a rows lent =
     let gs = groups (held (a .documents)) (lentRows rows) in
     let done = listedIn lent (length gs) (flatMap groupWords gs) in
-    listing a rows groupsRoom lent done
+    unlessRefused a rows groupsCapacity lent done
 
 -- `iter_origins`
 unfoldable pub iter-origins : List ℕ → List ℕ → List ℕ → List ℕ → ListOutcome

@@ -1,15 +1,16 @@
 -- What demand 3 says of runs: where a run starts, the store between its calls, and what stands at a place of its list of calls.
 use mathlib.Core.Path.{_≡_}
 use mathlib.Core.List.{List, [], _∷_}
-use mathlib.Core.Bool.{Bool, true, false}
+use mathlib.Core.Bool.{false}
 use mathlib.Core.Option.{none, some}
 use Prim.Native.Nat.{ℕ, suc, _<_}
 use lib.ListN.{take, getElem?}
 use Rattle.definition.specs.Answers.{answer, fieldRefusal, subtypeRefusal}
-use Rattle.definition.specs.Refusals.{Account}
+use Rattle.definition.specs.Account.{Account}
 use Rattle.definition.specs.Store.{tooShort, decode}
-use Rattle.definition.specs.Outcomes.{StoreOutcome, DrawOutcome, open-store}
-use Rattle.definition.specs.Account.{Call, opening, filing, adopting, ignoring, drawing, checking, rootAsked, fieldAsked, subtypeAsked, originsAsked, extensionsAsked, implementersAsked, Reply, answered, drawn, named, fielded, subtyped, listed, opened, Store, leaves, stepStore, runStore}
+use Rattle.definition.specs.Outcomes.{StoreOutcome, BuildOutcome, open-store}
+use Rattle.definition.specs.Calls.{Call, opening, building, Reply, answered, built, named, fielded, subtyped, listed}
+use Rattle.definition.specs.Calls.{openedAccount, Store, leaves, stepStore, runStore}
 
 -- "Accepted filing returns 0 and 0", and so do an accepted opening and turning on.
 abbrev pub Accepted : StoreOutcome → Type 0
@@ -37,12 +38,20 @@ firstStore b = storeLeft (open-store (b .text) (b .words) (b .lent) (b .cards))
 
 -- The account "starts with the opening's document 0 and both switches 0".
 abbrev pub firstAccount : Start → Account
-firstAccount b = opened (b .lent) (b .cards)
+firstAccount b = openedAccount (b .lent) (b .cards)
 
 -- The store as a list of calls leaves it, each call being lent it as the last one left it.
 unfoldable pub storeAfter : Store → List Call → Store
 storeAfter s [] = s
 storeAfter s (c ∷ cs) = storeAfter (stepStore s c .0) cs
+
+-- Calls that were done one after another, each lent the store as the last one left it, with what each answered: whoever does a call, it answers and
+-- leaves what the call does to a store.
+abbrev pub Ran : Store → List Call → List Reply → Type 0
+Ran s [] [] = Unit {0}
+Ran s [] (r ∷ rs) = ⊥
+Ran s (c ∷ cs) [] = ⊥
+Ran s (c ∷ cs) (r ∷ rs) = (t : Store) × (_≡_ {A = Store × Reply} (t, r) (stepStore s c)) × Ran t cs rs
 
 -- As the call at place i left it.
 abbrev pub storeAt : Store → List Call → ℕ → Store
@@ -51,11 +60,11 @@ storeAt s calls i = storeAfter s (take (suc i) calls)
 -- ---- What stands at place i of a run, counted from 0.
 
 -- A drawing that was not refused.
-pub record DrawnAt (s : Store) (calls : List Call) (i : ℕ) (o : DrawOutcome) : Type 0 where
+pub record BuiltAt (s : Store) (calls : List Call) (i : ℕ) (o : BuildOutcome) : Type 0 where
   pub rows : List ℕ
   pub errors : List ℕ
-  pub call : getElem? calls i ≡ some (drawing rows errors)
-  pub reply : getElem? (runStore s calls) i ≡ some (drawn o)
+  pub call : getElem? calls i ≡ some (building rows errors)
+  pub reply : getElem? (runStore s calls) i ≡ some (built o)
   pub unrefused : o .drawing .number ≡ 0
 
 -- An accepted opening.
@@ -68,51 +77,22 @@ pub record OpenedAt (s : Store) (calls : List Call) (i : ℕ) : Type 0 where
 abbrev pub NoneOpenedBetween : Store → List Call → ℕ → ℕ → Type 0
 NoneOpenedBetween s calls i j = (k : ℕ) → i < k → k < j → OpenedAt s calls k → ⊥
 
--- ---- Calls and replies.
+-- ---- Replies.
 
 -- The number of a reply's refusal, 0 where there is none. `root_operation` has no number: its refusals are told by the checking entry.
 abbrev pub refusal : Reply → ℕ
 refusal (answered a) = a .number
-refusal (drawn o) = o .drawing .number
+refusal (built o) = o .drawing .number
 refusal (named r) = 0
 refusal (fielded f) = fieldRefusal f
 refusal (subtyped b) = subtypeRefusal b
 refusal (listed l) = l .answer .number
 
--- The slices that a call is lent to write into besides the store, and what a reply says of them at exit.
-abbrev pub lentTo : Call → List (List ℕ)
-lentTo (opening text cards) = []
-lentTo (filing text cards) = []
-lentTo adopting = []
-lentTo ignoring = []
-lentTo (drawing rows errors) = rows ∷ errors ∷ []
-lentTo (checking rows) = []
-lentTo (rootAsked rows op) = []
-lentTo (fieldAsked rows type field) = []
-lentTo (subtypeAsked rows general other) = []
-lentTo (originsAsked rows lent) = lent ∷ []
-lentTo (extensionsAsked rows lent) = lent ∷ []
-lentTo (implementersAsked rows lent) = lent ∷ []
-
+-- What a reply says of the slices that its call was lent to write into, at exit.
 abbrev pub leftIn : Reply → List (List ℕ)
 leftIn (answered a) = []
-leftIn (drawn o) = o .rows ∷ o .errors ∷ []
+leftIn (built o) = o .rows ∷ o .errors ∷ []
 leftIn (named r) = []
 leftIn (fielded f) = []
 leftIn (subtyped b) = []
 leftIn (listed l) = l .list ∷ []
-
--- Calls that only read the store.
-abbrev pub onlyReads : Call → Bool
-onlyReads (opening text cards) = false
-onlyReads (filing text cards) = false
-onlyReads adopting = false
-onlyReads ignoring = false
-onlyReads (drawing rows errors) = true
-onlyReads (checking rows) = true
-onlyReads (rootAsked rows op) = true
-onlyReads (fieldAsked rows type field) = true
-onlyReads (subtypeAsked rows general other) = true
-onlyReads (originsAsked rows lent) = true
-onlyReads (extensionsAsked rows lent) = true
-onlyReads (implementersAsked rows lent) = true

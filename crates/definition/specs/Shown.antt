@@ -9,23 +9,18 @@ use Rattle.definition.specs.Names.{bytes}
 use Rattle.definition.specs.Answers.{absent}
 use Rattle.definition.specs.Catalogue.{Row}
 use Rattle.definition.specs.Errors.{Error}
-use Rattle.definition.specs.Merge.{Catalogue, draw}
-use Rattle.definition.specs.Refusals.{Account, openingRefusal, filingRefusal}
+use Rattle.definition.specs.Merge.{Merged, merge}
+use Rattle.definition.specs.Account.{Account}
+use Rattle.definition.specs.Refusals.{openingRefusal, filingRefusal}
 use Rattle.definition.specs.Outcomes.{wordsOfRow}
-use Rattle.definition.specs.Account.{opened, joined, adoptingFrom, ignoringFrom}
+use Rattle.definition.specs.Calls.{openedAccount, joined, adoptingFrom, ignoringFrom}
 
 -- 01's `-`.
 abbrev pub ∅ : ℕ
 ∅ = absent
 
-abbrev pub row : ℕ → ℕ → ℕ → Row
-row w c o = record { what = w; card = c; origin = o }
-
-abbrev pub err : ℕ → ℕ → ℕ → Error
-err n c e = record { number = n; card = c; earlier = e }
-
 -- Rows, errors while reading documents, errors while drawing.
-abbrev pub shows : List Row → List Error → List Error → Option Catalogue
+abbrev pub shows : List Row → List Error → List Error → Option Merged
 shows rs reading drawing = some (record { rows = rs; readingErrors = reading; drawingErrors = drawing })
 
 -- A document: its text and its card words.
@@ -37,15 +32,15 @@ unfoldable pub source : String → List ℕ → Source
 source s ws = record { text = bytes s; words = ws }
 
 -- Document 0 opened, a document filed: none where it is refused.
-unfoldable pub opening : Source → Option Account
-opening s = found (openingRefusal (s .text) (s .words)) (λ r. none) (some (opened (s .text) (s .words)))
+unfoldable pub openSource : Source → Option Account
+openSource s = found (openingRefusal (s .text) (s .words)) (λ r. none) (some (openedAccount (s .text) (s .words)))
 
-unfoldable pub filing : Source → Account → Option Account
-filing s a = found (filingRefusal a (s .text) (s .words)) (λ r. none) (some (joined a (s .text) (s .words)))
+unfoldable pub fileSource : Source → Account → Option Account
+fileSource s a = found (filingRefusal a (s .text) (s .words)) (λ r. none) (some (joined a (s .text) (s .words)))
 
-unfoldable pub filingAll : List Source → Account → Option Account
-filingAll [] a = some a
-filingAll (s ∷ ss) a = found (filing s a) (filingAll ss) none
+unfoldable pub fileSources : List Source → Account → Option Account
+fileSources [] a = some a
+fileSources (s ∷ ss) a = found (fileSource s a) (fileSources ss) none
 
 -- The adopt switch and the ignore switch are turned on after document 0.
 unfoldable pub switched : Bool → Bool → Account → Account
@@ -54,22 +49,22 @@ switched adopt ignore a =
     choose adopt (adoptingFrom i) i
 
 unfoldable pub collected : Bool → Bool → Source → List Source → Option Account
-collected adopt ignore zero ss = found (opening zero) (λ a. filingAll ss (switched adopt ignore a)) none
+collected adopt ignore zero ss = found (openSource zero) (λ a. fileSources ss (switched adopt ignore a)) none
 
-unfoldable pub drawing : Account → Option Catalogue
-drawing a = some (draw (a .adopt) (a .documents))
+unfoldable pub merged : Account → Option Merged
+merged a = some (merge (a .adopt) (a .documents))
 
 -- The catalogue of document 0 and the documents after it, none where one is refused.
-unfoldable pub shown : Bool → Bool → Source → List Source → Option Catalogue
-shown adopt ignore zero ss = found (collected adopt ignore zero ss) drawing none
+unfoldable pub shown : Bool → Bool → Source → List Source → Option Merged
+shown adopt ignore zero ss = found (collected adopt ignore zero ss) merged none
 
 -- The words of an account's rows.
-unfoldable pub rowWords : Account → List ℕ
-rowWords a = flatMap wordsOfRow (draw (a .adopt) (a .documents) .rows)
+unfoldable pub wordsOfRows : Account → List ℕ
+wordsOfRows a = flatMap wordsOfRow (merge (a .adopt) (a .documents) .rows)
 
 -- What a lookup answers over a collection and exactly its rows, none where a document is refused.
 unfoldable pub asked {ℓ} : {A : Type ℓ} → Option Account → (Account → List ℕ → A) → Option A
-asked o f = found o (λ a. some (f a (rowWords a))) none
+asked o f = found o (λ a. some (f a (wordsOfRows a))) none
 
 -- `scalar Int`, document 0 of most examples.
 unfoldable pub scalarInt : Source

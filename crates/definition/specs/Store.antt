@@ -11,21 +11,23 @@ use Rattle.definition.specs.Lists.{choose, found, first, flatMap, chunks
 use Rattle.definition.specs.Names.{bytesAt}
 use Rattle.definition.specs.Cards.{Card, cardWords, cardsFrom, wordsOfCard, isUnnamed, cardFault}
 use Rattle.definition.specs.Headings.{Document}
-use Rattle.definition.specs.Refusals.{Account, textRoom, documentRoom, cardRoom, zeroFault}
+use Rattle.definition.specs.Account.{Account}
+use Rattle.definition.specs.Refusals.{textCapacity, documentCapacity, cardCapacity, zeroFault}
 
--- ---- Positions: five words, the documents' rows, the cards.
+-- ---- Positions: "documents, adopt switch, ignore switch, text used, cards used; 64 rows of text offset, text length, card count, ignore switch when
+-- filed; 2,300 cards".
 
-abbrev pub rowsAt : ℕ
-rowsAt = 5
+abbrev pub documentsAt : ℕ
+documentsAt = 5
 
-abbrev pub rowWords : ℕ
-rowWords = 4
+abbrev pub documentWords : ℕ
+documentWords = 4
 
 abbrev pub cardsAt : ℕ
-cardsAt = rowsAt + rowWords * documentRoom
+cardsAt = documentsAt + documentWords * documentCapacity
 
-abbrev pub wordsRoom : ℕ
-wordsRoom = cardsAt + cardWords * cardRoom
+abbrev pub wordsCapacity : ℕ
+wordsCapacity = cardsAt + cardWords * cardCapacity
 
 unfoldable pub documentCount : List ℕ → ℕ
 documentCount words = getD words 0 0
@@ -43,24 +45,24 @@ unfoldable pub cardsUsed : List ℕ → ℕ
 cardsUsed words = getD words 4 0
 
 -- A document's row: where its text begins and how long it is, how many cards it has, and the ignore switch when it was filed.
-pub record StoredRow : Type 0 where
+pub record DocumentRow : Type 0 where
   pub textAt : ℕ
   pub textLen : ℕ
   pub cardCount : ℕ
   pub ignored : ℕ
 
-unfoldable pub rowFrom : List ℕ → StoredRow
-rowFrom ws = record { textAt = getD ws 0 0; textLen = getD ws 1 0; cardCount = getD ws 2 0; ignored = getD ws 3 0 }
+unfoldable pub documentRowFrom : List ℕ → DocumentRow
+documentRowFrom ws = record { textAt = getD ws 0 0; textLen = getD ws 1 0; cardCount = getD ws 2 0; ignored = getD ws 3 0 }
 
-unfoldable pub storedRows : List ℕ → List StoredRow
-storedRows words = chunks rowWords rowFrom (documentCount words) (drop rowsAt words)
+unfoldable pub documentRows : List ℕ → List DocumentRow
+documentRows words = chunks documentWords documentRowFrom (documentCount words) (drop documentsAt words)
 
 unfoldable pub storedCards : List ℕ → List Card
 storedCards words = cardsFrom (cardsUsed words) (drop cardsAt words)
 
 -- ---- What a store holds.
 
--- A stored card's spans are moved by its document's offset; an absent name is not.
+-- "Stored spans are moved by the document's offset, absent names not."
 unfoldable pub moved : ℕ → Card → Card
 moved base c = record {
   kind = c .kind;
@@ -79,7 +81,7 @@ unmoved base c = record {
   nameLen = c .nameLen;
 }
 
-unfoldable pub storedDocument : List ℕ → StoredRow → List Card → Document
+unfoldable pub storedDocument : List ℕ → DocumentRow → List Card → Document
 storedDocument text r cs = record {
   text = bytesAt text (r .textAt) (r .textLen);
   cards = map (unmoved (r .textAt)) cs;
@@ -87,55 +89,55 @@ storedDocument text r cs = record {
 }
 
 -- The documents of the rows; cs are the cards not yet given to a row.
-unfoldable pub documentsFrom : List ℕ → List StoredRow → List Card → List Document
+unfoldable pub documentsFrom : List ℕ → List DocumentRow → List Card → List Document
 documentsFrom text [] cs = []
 documentsFrom text (r ∷ rs) cs = storedDocument text r (take (r .cardCount) cs) ∷ documentsFrom text rs (drop (r .cardCount) cs)
 
 unfoldable pub accountIn : List ℕ → List ℕ → Account
 accountIn text words = record {
-  documents = documentsFrom text (storedRows words) (storedCards words);
+  documents = documentsFrom text (documentRows words) (storedCards words);
   adopt = eqb (adoptWord words) 1;
   ignore = eqb (ignoreWord words) 1;
 }
 
--- ---- 21: either slice shorter than stated.
+-- ---- "21: store shorter than stated."
 unfoldable pub tooShort : List ℕ → List ℕ → Bool
-tooShort text words = ltb (length text) textRoom || ltb (length words) wordsRoom
+tooShort text words = ltb (length text) textCapacity || ltb (length words) wordsCapacity
 
--- ---- 22: what filing can't leave. Only the used part is asked.
+-- ---- "22: counts, switches or rows that filing can't leave, or stored cards that 2 to 6 refuse." Only the used part is asked.
 
 -- The counts and switches: 1 to 64 documents, each switch 0 or 1, no more text and cards than there is room for.
 unfoldable pub countsSound : List ℕ → Bool
 countsSound words =
-    leb 1 (documentCount words) && leb (documentCount words) documentRoom &&
+    leb 1 (documentCount words) && leb (documentCount words) documentCapacity &&
     leb (adoptWord words) 1 && leb (ignoreWord words) 1 &&
-    leb (textUsed words) textRoom && leb (cardsUsed words) cardRoom
+    leb (textUsed words) textCapacity && leb (cardsUsed words) cardCapacity
 
--- The rows touch, from 0 on to the text used;
-unfoldable pub rowsTouch : ℕ → ℕ → List StoredRow → Bool
+-- "Rows are sorted by offset and touch", from 0 on to the text used;
+unfoldable pub rowsTouch : ℕ → ℕ → List DocumentRow → Bool
 rowsTouch used at [] = eqb at used
 rowsTouch used at (r ∷ rs) = eqb (r .textAt) at && rowsTouch used (at + r .textLen) rs
 
 -- their card counts come to the cards used;
-unfoldable pub cardsCounted : ℕ → ℕ → List StoredRow → Bool
+unfoldable pub cardsCounted : ℕ → ℕ → List DocumentRow → Bool
 cardsCounted used n [] = eqb n used
 cardsCounted used n (r ∷ rs) = cardsCounted used (n + r .cardCount) rs
 
--- their ignore switches never fall, and end no higher than the switch is, which is turned on and never off;
-unfoldable pub switchesRise : ℕ → ℕ → List StoredRow → Bool
+-- their ignore switches never fall, and end no higher than the switch is: "A switch can be turned on at any time and never off";
+unfoldable pub switchesRise : ℕ → ℕ → List DocumentRow → Bool
 switchesRise switch last [] = leb last switch
 switchesRise switch last (r ∷ rs) = leb last (r .ignored) && switchesRise switch (r .ignored) rs
 
 -- and document 0 was filed with the switch 0.
-unfoldable pub zeroUnignored : List StoredRow → Bool
+unfoldable pub zeroUnignored : List DocumentRow → Bool
 zeroUnignored rs = found (first rs) (λ r. eqb (r .ignored) 0) false
 
-unfoldable pub rowsSound : List ℕ → List StoredRow → Bool
+unfoldable pub rowsSound : List ℕ → List DocumentRow → Bool
 rowsSound words rs =
     rowsTouch (textUsed words) 0 rs && cardsCounted (cardsUsed words) 0 rs && switchesRise (ignoreWord words) 0 rs && zeroUnignored rs
 
 -- Every document's cards pass 2 to 5 against its own text,
-unfoldable pub cardsSound : List ℕ → List StoredRow → List Card → Bool
+unfoldable pub cardsSound : List ℕ → List DocumentRow → List Card → Bool
 cardsSound text [] cs = true
 cardsSound text (r ∷ rs) cs =
     let rest = cardsSound text rs (drop (r .cardCount) cs) in
@@ -149,8 +151,8 @@ zeroSound ds = found (first ds) (λ d. found (zeroFault d) (λ f. false) true) f
 unfoldable pub sound : List ℕ → List ℕ → Bool
 sound text words =
     let zero = zeroSound (accountIn text words .documents) in
-    let cards = choose (cardsSound text (storedRows words) (storedCards words)) zero false in
-    let rows = choose (rowsSound words (storedRows words)) cards false in
+    let cards = choose (cardsSound text (documentRows words) (storedCards words)) zero false in
+    let rows = choose (rowsSound words (documentRows words)) cards false in
     choose (countsSound words) rows false
 
 -- The account of a store: none exactly where 22 holds.
@@ -169,7 +171,7 @@ storeRefusal text words =
 unfoldable pub movedWords : ℕ → List Card → List ℕ
 movedWords base cs = flatMap wordsOfCard (map (moved base) cs)
 
--- Opening files document 0 with both switches 0; all other words and bytes stay.
+-- "Opening files document 0 with both switches 0." All other words and bytes stay.
 unfoldable pub openedWords : List ℕ → Document → List ℕ
 openedWords words d =
     written
@@ -179,7 +181,7 @@ openedWords words d =
 unfoldable pub openedText : List ℕ → Document → List ℕ
 openedText text d = written text 0 (d .text)
 
--- Filing writes its row, cards, text and three counts, each at the beginning of its unused part; all else stays.
+-- "Filing writes its row, cards, text and counts into the unused part; all else stays."
 unfoldable pub filedRow : List ℕ → Document → List ℕ
 filedRow words d = textUsed words ∷ length (d .text) ∷ length (d .cards) ∷ ignoreWord words ∷ []
 
@@ -190,7 +192,7 @@ filedCounts words d =
 unfoldable pub filedWords : List ℕ → Document → List ℕ
 filedWords words d =
     written
-    (sets (filedCounts words d) (rowsAt + rowWords * documentCount words) (filedRow words d))
+    (sets (filedCounts words d) (documentsAt + documentWords * documentCount words) (filedRow words d))
     (cardsAt + cardWords * cardsUsed words) (movedWords (textUsed words) (d .cards))
 
 unfoldable pub filedText : List ℕ → List ℕ → Document → List ℕ

@@ -3,8 +3,10 @@
 use mathlib.Core.Path.{_≡_, refl}
 use mathlib.Core.List.{[], _∷_}
 use mathlib.Core.Bool.{true, false}
-use Rattle.definition.specs.Opened.{opened}
-use Rattle.definition.specs.Shown.{∅, row, err, Source, source, shows, shown, scalarInt}
+use Rattle.definition.specs.Catalogue.{row}
+use Rattle.definition.specs.Errors.{error}
+use Rattle.definition.specs.Unfolded.{unfolded}
+use Rattle.definition.specs.Shown.{∅, Source, source, shows, shown, scalarInt}
 
 -- ---- The documents, with their cards.
 
@@ -41,57 +43,57 @@ directiveD = source "directive @d on FIELD" (3 ∷ 0 ∷ 21 ∷ 11 ∷ 1 ∷ [])
 -- ---- The table.
 
 p1 : shown false false scalarInt (twice ∷ []) ≡
-    shows (row 4 ∅ ∅ ∷ row 5 0 ∅ ∷ row 6 1 ∅ ∷ row 22 2 ∅ ∷ row 22 5 4 ∷ []) (err 12 3 2 ∷ []) []
-unfolding opened
+    shows (row 4 ∅ ∅ ∷ row 5 0 ∅ ∷ row 6 1 ∅ ∷ row 22 2 ∅ ∷ row 22 5 4 ∷ []) (error 12 3 2 ∷ []) []
+unfolding unfolded
 p1 = refl
 
 p2 : shown false false scalarInt [] ≡ shows (row 4 ∅ ∅ ∷ row 5 0 ∅ ∷ []) [] []
-unfolding opened
+unfolding unfolded
 p2 = refl
 
-p3 : shown false false scalarInt (orphan ∷ []) ≡ shows (row 4 ∅ ∅ ∷ row 5 0 ∅ ∷ []) [] (err 7 1 ∅ ∷ [])
-unfolding opened
+p3 : shown false false scalarInt (orphan ∷ []) ≡ shows (row 4 ∅ ∅ ∷ row 5 0 ∅ ∷ []) [] (error 7 1 ∅ ∷ [])
+unfolding unfolded
 p3 = refl
 
 p3-adopting : shown true false scalarInt (orphan ∷ []) ≡ shows (row 4 ∅ ∅ ∷ row 5 0 ∅ ∷ row 6 1 1 ∷ row 22 2 1 ∷ []) [] []
-unfolding opened
+unfolding unfolded
 p3-adopting = refl
 
 p4 : shown false false scalarInt (early ∷ []) ≡ shows (row 4 ∅ ∅ ∷ row 5 0 ∅ ∷ row 6 3 ∅ ∷ row 22 4 ∅ ∷ []) [] []
-unfolding opened
+unfolding unfolded
 p4 = refl
 
-p5 : shown false false scalarInt (late ∷ []) ≡ shows (row 4 ∅ ∅ ∷ row 5 0 ∅ ∷ row 6 1 ∅ ∷ row 22 2 ∅ ∷ []) (err 8 3 1 ∷ []) []
-unfolding opened
+p5 : shown false false scalarInt (late ∷ []) ≡ shows (row 4 ∅ ∅ ∷ row 5 0 ∅ ∷ row 6 1 ∅ ∷ row 22 2 ∅ ∷ []) (error 8 3 1 ∷ []) []
+unfolding unfolded
 p5 = refl
 
-p6 : shown false false scalarInt (scalarInt ∷ []) ≡ shows (row 4 ∅ ∅ ∷ row 5 0 ∅ ∷ []) (err 5 1 ∅ ∷ []) []
-unfolding opened
+p6 : shown false false scalarInt (scalarInt ∷ []) ≡ shows (row 4 ∅ ∅ ∷ row 5 0 ∅ ∷ []) (error 5 1 ∅ ∷ []) []
+unfolding unfolded
 p6 = refl
 
 p6-ignored : shown false true scalarInt (scalarInt ∷ []) ≡ shows (row 4 ∅ ∅ ∷ row 5 0 ∅ ∷ []) [] []
-unfolding opened
+unfolding unfolded
 p6-ignored = refl
 
-p7 : shown false false scalarInt (typeInt ∷ []) ≡ shows (row 4 ∅ ∅ ∷ row 5 0 ∅ ∷ []) (err 4 1 0 ∷ []) []
-unfolding opened
+p7 : shown false false scalarInt (typeInt ∷ []) ≡ shows (row 4 ∅ ∅ ∷ row 5 0 ∅ ∷ []) (error 4 1 0 ∷ []) []
+unfolding unfolded
 p7 = refl
 
 p8 : shown false false scalarInt (typeQuery ∷ []) ≡
     shows (row 4 ∅ ∅ ∷ row 26 ∅ ∅ ∷ row 5 0 ∅ ∷ row 6 1 ∅ ∷ row 22 2 ∅ ∷ []) [] []
-unfolding opened
+unfolding unfolded
 p8 = refl
 
 p9 : shown false false scalarInt (typeQuery ∷ extendSchema ∷ []) ≡
-    shows (row 4 ∅ ∅ ∷ row 26 ∅ ∅ ∷ row 5 0 ∅ ∷ row 6 1 ∅ ∷ row 22 2 ∅ ∷ []) [] (err 9 4 ∅ ∷ [])
-unfolding opened
+    shows (row 4 ∅ ∅ ∷ row 26 ∅ ∅ ∷ row 5 0 ∅ ∷ row 6 1 ∅ ∷ row 22 2 ∅ ∷ []) [] (error 9 4 ∅ ∷ [])
+unfolding unfolded
 p9 = refl
 
 p9-adopting : shown true false scalarInt (typeQuery ∷ extendSchema ∷ []) ≡
     shows (row 4 ∅ ∅ ∷ row 26 4 3 ∷ row 5 0 ∅ ∷ row 6 1 ∅ ∷ row 22 2 ∅ ∷ []) [] []
-unfolding opened
+unfolding unfolded
 p9-adopting = refl
 
-p10 : shown false false directiveD (directiveD ∷ directiveD ∷ []) ≡ shows (row 4 ∅ ∅ ∷ row 3 1 ∅ ∷ []) (err 3 2 1 ∷ []) []
-unfolding opened
+p10 : shown false false directiveD (directiveD ∷ directiveD ∷ []) ≡ shows (row 4 ∅ ∅ ∷ row 3 1 ∅ ∷ []) (error 3 2 1 ∷ []) []
+unfolding unfolded
 p10 = refl

@@ -1,5 +1,9 @@
 // The answers of the public entries. Contracts and definitions share these types; specs/ says what each case stands for.
 
+pub mod build_error;
+pub mod layout;
+pub mod refusal;
+
 // The word that stands for no card, `-` in 01.
 pub const ABSENT: u32 = 4294967295;
 
@@ -14,7 +18,7 @@ pub struct Answer {
 // One tally for each error number, 1 to 16, and how many errors there are in all.
 #[repr(C)]
 pub struct Tallies {
-    pub counts: [u32; 16],
+    pub counts: [u32; build_error::ERROR_NUMBERS],
     pub total: u32,
 }
 

@@ -1,2 +1,2 @@
-pub mod Drawn
+pub mod Built
 pub mod Sizes

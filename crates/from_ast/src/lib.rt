@@ -1,56 +1,145 @@
-// `SchemaBuilder::build_inner` of schema/from_ast.rs: a store is indexed and drawn over local arrays of one of three sizes.
-use definition::Drawing;
+// `SchemaBuilder::build_inner` of schema/from_ast.rs: a store is indexed and built over local arrays of one of three sizes.
+use crate::sizes::LARGE_BUCKETS;
+use crate::sizes::MEDIUM_BUCKETS;
+use crate::sizes::MEDIUM_CARDS;
+use crate::sizes::SMALL_BUCKETS;
+use crate::sizes::SMALL_CARDS;
 use crate::sizes::Size;
+use definition::ABSENT;
+use definition::Drawing;
+use definition::layout;
+use definition::layout::CARD_CAPACITY;
+use from_ast_errors::ErrorCounts;
+use from_ast_index::Counts;
 ghost use mathlib.Core.Path.{_≡_};
 ghost use Prim.Native.Nat.{_≤_};
-ghost use lib.ListN.{length};
-ghost use Rattle.definition.specs.Merge.{draw};
-ghost use Rattle.definition.specs.Store.{accountIn, cardsUsed};
-ghost use Rattle.definition.specs.Outcomes.{drawnInto};
+ghost use lib.ListN.{length, take};
+ghost use Rattle.definition.specs.Refusals.{cardCapacity};
+ghost use Rattle.definition.specs.Store.{cardsUsed};
+ghost use Rattle.from_ast_index.specs.Index.{Indexed, Spanned};
 ghost use Rattle.from_ast_indexing.specs.Steps.{IndexAsked};
-ghost use Rattle.from_ast.specs.Drawn.{DrawAsked, Drawn};
+ghost use Rattle.from_ast.specs.Built.{drawingOf, BuildAsked, Built};
+ghost use Rattle.from_ast.specs.Sizes.{smallCards, mediumCards};
 
-pub mod drawing;
 pub mod sizes;
 
-// Draws a sound store over arrays that have a word for each of its cards; one more heading marks the end. With more words in `firsts` than
-// types, each larger than any place, a type's name is seldom sought among others; the drawing then uses them as its scratch.
-fn draw_store(
+// What a build answers, by the counts of its rows and errors.
+fn drawing_of(rows: u32, told: ErrorCounts) -> Drawing
+    ensures { λ r. ⌜ r ≡ drawingOf rows told ⌝ }
+{
+    let tallies = told.tallies;
+    Drawing {
+        number: 0,
+        rows,
+        reading_errors: told.reading,
+        drawing_errors: told.drawing,
+        tallies,
+    }
+}
+
+// Builds an indexed store: rows first, then errors by the rows. The scratch serves the rows and then the errors.
+fn build_indexed(
     text: &[u8],
     words: &[u32],
-    heads: &mut [u32],
-    prints: &mut [u32],
+    headings: &[u32],
+    hashes: &[u32],
+    owners: &[u32],
+    types: &[u32],
+    orphans: &[u32],
+    extensions: &[u32],
+    starts: &[u32],
+    ends: &[u32],
+    counts: Counts,
+    scratch: &mut [u32],
+    rows: &mut [u32],
+    errors: &mut [u32],
+) -> Drawing
+    requires { ⌜ BuildAsked (now text) (now words) (now rows) (now errors)
+        × Indexed (now text) (now words) (now headings) (now hashes) (now owners) (now types) (now orphans) (now extensions)
+        (counts .headings) (counts .types) (counts .orphans) (counts .extensions)
+        × Spanned (now words) (now owners) (take (counts .extensions) (now extensions)) (now starts) (now ends)
+        × (cardsUsed (now words) ≤ length (now scratch)) ⌝ }
+    ensures { λ r. ⌜ Built (now (text .entry)) (now (words .entry)) (now (rows .entry)) (now (errors .entry)) r
+        (now (rows .exit)) (now (errors .exit)) ⌝ }
+{
+    let adopt = words[layout::ADOPT_SWITCH] == 1;
+    let used = from_ast_rows::write_rows(
+        text,
+        words,
+        headings,
+        hashes,
+        types,
+        orphans,
+        extensions,
+        starts,
+        ends,
+        counts,
+        adopt,
+        scratch,
+        rows,
+    );
+    let told = from_ast_errors::write_errors(
+        text,
+        words,
+        headings,
+        hashes,
+        owners,
+        orphans,
+        extensions,
+        starts,
+        ends,
+        counts,
+        adopt,
+        rows,
+        used,
+        scratch,
+        errors,
+    );
+    drawing_of(used as u32, told)
+}
+
+// Builds a sound store over arrays that have a word for each of its cards; one more heading marks the end. With more words in `buckets` than
+// types, each larger than any place, a type's name is seldom sought among others; `build_indexed` then uses them as its scratch.
+fn build_store(
+    text: &[u8],
+    words: &[u32],
+    headings: &mut [u32],
+    hashes: &mut [u32],
     owners: &mut [u32],
     types: &mut [u32],
     orphans: &mut [u32],
     extensions: &mut [u32],
     starts: &mut [u32],
     ends: &mut [u32],
-    firsts: &mut [u32],
+    buckets: &mut [u32],
     rows: &mut [u32],
     errors: &mut [u32],
 ) -> Drawing
-    requires { ⌜ DrawAsked (now text) (now words) (now rows) (now errors) × IndexAsked (now text) (now words) (now heads) (now prints) (now owners) (now types) (now orphans) (now extensions) (now starts) (now ends) (now firsts) × (cardsUsed (now words) ≤ length (now firsts)) ⌝ }
-    ensures { λ r. ⌜ Drawn (now (text .entry)) (now (words .entry)) (now (rows .entry)) (now (errors .entry)) r (now (rows .exit)) (now (errors .exit)) ⌝ }
+    requires { ⌜ BuildAsked (now text) (now words) (now rows) (now errors)
+        × IndexAsked (now text) (now words) (now headings) (now hashes) (now owners) (now types) (now orphans) (now extensions)
+        (now starts) (now ends) (now buckets)
+        × (cardsUsed (now words) ≤ length (now buckets)) ⌝ }
+    ensures { λ r. ⌜ Built (now (text .entry)) (now (words .entry)) (now (rows .entry)) (now (errors .entry)) r
+        (now (rows .exit)) (now (errors .exit)) ⌝ }
 {
     let counts = from_ast_indexing::index(
         text,
         words,
-        heads,
-        prints,
+        headings,
+        hashes,
         owners,
         types,
         orphans,
         extensions,
         starts,
         ends,
-        firsts,
+        buckets,
     );
-    crate::drawing::draw_indexed(
+    build_indexed(
         text,
         words,
-        heads,
-        prints,
+        headings,
+        hashes,
         owners,
         types,
         orphans,
@@ -58,109 +147,116 @@ fn draw_store(
         starts,
         ends,
         counts,
-        firsts,
+        buckets,
         rows,
         errors,
     )
 }
 
-// Draws a store of at most 64 cards.
+// Builds a store of few cards.
 fn build_small(text: &[u8], words: &[u32], rows: &mut [u32], errors: &mut [u32]) -> Drawing
-    requires { ⌜ DrawAsked (now text) (now words) (now rows) (now errors) × (cardsUsed (now words) ≤ 64) ⌝ }
-    ensures { λ r. ⌜ Drawn (now (text .entry)) (now (words .entry)) (now (rows .entry)) (now (errors .entry)) r (now (rows .exit)) (now (errors .exit)) ⌝ }
+    requires { ⌜ BuildAsked (now text) (now words) (now rows) (now errors)
+        × (cardsUsed (now words) ≤ smallCards) ⌝ }
+    ensures { λ r. ⌜ Built (now (text .entry)) (now (words .entry)) (now (rows .entry)) (now (errors .entry)) r
+        (now (rows .exit)) (now (errors .exit)) ⌝ }
 {
-    let mut heads = [0u32; 65];
-    let mut prints = [0u32; 64];
-    let mut owners = [0u32; 64];
-    let mut types = [0u32; 64];
-    let mut orphans = [0u32; 64];
-    let mut extensions = [0u32; 64];
-    let mut starts = [0u32; 64];
-    let mut ends = [0u32; 64];
-    let mut firsts = [4294967295u32; 128];
-    draw_store(
+    let mut headings = [0u32; SMALL_CARDS + 1];
+    let mut hashes = [0u32; SMALL_CARDS];
+    let mut owners = [0u32; SMALL_CARDS];
+    let mut types = [0u32; SMALL_CARDS];
+    let mut orphans = [0u32; SMALL_CARDS];
+    let mut extensions = [0u32; SMALL_CARDS];
+    let mut starts = [0u32; SMALL_CARDS];
+    let mut ends = [0u32; SMALL_CARDS];
+    let mut buckets = [ABSENT; SMALL_BUCKETS];
+    build_store(
         text,
         words,
-        &mut heads,
-        &mut prints,
+        &mut headings,
+        &mut hashes,
         &mut owners,
         &mut types,
         &mut orphans,
         &mut extensions,
         &mut starts,
         &mut ends,
-        &mut firsts,
+        &mut buckets,
         rows,
         errors,
     )
 }
 
-// Draws a store of at most 512 cards.
+// Builds a store of more.
 fn build_medium(text: &[u8], words: &[u32], rows: &mut [u32], errors: &mut [u32]) -> Drawing
-    requires { ⌜ DrawAsked (now text) (now words) (now rows) (now errors) × (cardsUsed (now words) ≤ 512) ⌝ }
-    ensures { λ r. ⌜ Drawn (now (text .entry)) (now (words .entry)) (now (rows .entry)) (now (errors .entry)) r (now (rows .exit)) (now (errors .exit)) ⌝ }
+    requires { ⌜ BuildAsked (now text) (now words) (now rows) (now errors)
+        × (cardsUsed (now words) ≤ mediumCards) ⌝ }
+    ensures { λ r. ⌜ Built (now (text .entry)) (now (words .entry)) (now (rows .entry)) (now (errors .entry)) r
+        (now (rows .exit)) (now (errors .exit)) ⌝ }
 {
-    let mut heads = [0u32; 513];
-    let mut prints = [0u32; 512];
-    let mut owners = [0u32; 512];
-    let mut types = [0u32; 512];
-    let mut orphans = [0u32; 512];
-    let mut extensions = [0u32; 512];
-    let mut starts = [0u32; 512];
-    let mut ends = [0u32; 512];
-    let mut firsts = [4294967295u32; 1024];
-    draw_store(
+    let mut headings = [0u32; MEDIUM_CARDS + 1];
+    let mut hashes = [0u32; MEDIUM_CARDS];
+    let mut owners = [0u32; MEDIUM_CARDS];
+    let mut types = [0u32; MEDIUM_CARDS];
+    let mut orphans = [0u32; MEDIUM_CARDS];
+    let mut extensions = [0u32; MEDIUM_CARDS];
+    let mut starts = [0u32; MEDIUM_CARDS];
+    let mut ends = [0u32; MEDIUM_CARDS];
+    let mut buckets = [ABSENT; MEDIUM_BUCKETS];
+    build_store(
         text,
         words,
-        &mut heads,
-        &mut prints,
+        &mut headings,
+        &mut hashes,
         &mut owners,
         &mut types,
         &mut orphans,
         &mut extensions,
         &mut starts,
         &mut ends,
-        &mut firsts,
+        &mut buckets,
         rows,
         errors,
     )
 }
 
-// Draws a store of as many cards as a store holds.
+// Builds a store of as many cards as a store holds.
 fn build_large(text: &[u8], words: &[u32], rows: &mut [u32], errors: &mut [u32]) -> Drawing
-    requires { ⌜ DrawAsked (now text) (now words) (now rows) (now errors) × (cardsUsed (now words) ≤ 2300) ⌝ }
-    ensures { λ r. ⌜ Drawn (now (text .entry)) (now (words .entry)) (now (rows .entry)) (now (errors .entry)) r (now (rows .exit)) (now (errors .exit)) ⌝ }
+    requires { ⌜ BuildAsked (now text) (now words) (now rows) (now errors)
+        × (cardsUsed (now words) ≤ cardCapacity) ⌝ }
+    ensures { λ r. ⌜ Built (now (text .entry)) (now (words .entry)) (now (rows .entry)) (now (errors .entry)) r
+        (now (rows .exit)) (now (errors .exit)) ⌝ }
 {
-    let mut heads = [0u32; 2301];
-    let mut prints = [0u32; 2300];
-    let mut owners = [0u32; 2300];
-    let mut types = [0u32; 2300];
-    let mut orphans = [0u32; 2300];
-    let mut extensions = [0u32; 2300];
-    let mut starts = [0u32; 2300];
-    let mut ends = [0u32; 2300];
-    let mut firsts = [4294967295u32; 8192];
-    draw_store(
+    let mut headings = [0u32; CARD_CAPACITY + 1];
+    let mut hashes = [0u32; CARD_CAPACITY];
+    let mut owners = [0u32; CARD_CAPACITY];
+    let mut types = [0u32; CARD_CAPACITY];
+    let mut orphans = [0u32; CARD_CAPACITY];
+    let mut extensions = [0u32; CARD_CAPACITY];
+    let mut starts = [0u32; CARD_CAPACITY];
+    let mut ends = [0u32; CARD_CAPACITY];
+    let mut buckets = [ABSENT; LARGE_BUCKETS];
+    build_store(
         text,
         words,
-        &mut heads,
-        &mut prints,
+        &mut headings,
+        &mut hashes,
         &mut owners,
         &mut types,
         &mut orphans,
         &mut extensions,
         &mut starts,
         &mut ends,
-        &mut firsts,
+        &mut buckets,
         rows,
         errors,
     )
 }
 
-// Draws a sound store, over arrays of the size that it needs.
+// Builds a sound store, over arrays of the size that it needs.
 pub fn build_inner(text: &[u8], words: &[u32], rows: &mut [u32], errors: &mut [u32]) -> Drawing
-    requires { ⌜ DrawAsked (now text) (now words) (now rows) (now errors) ⌝ }
-    ensures { λ r. ⌜ record { drawing = r; rows = now (rows .exit); errors = now (errors .exit) } ≡ drawnInto (now (rows .entry)) (now (errors .entry)) (draw (accountIn (now (text .entry)) (now (words .entry)) .adopt) (accountIn (now (text .entry)) (now (words .entry)) .documents)) ⌝ }
+    requires { ⌜ BuildAsked (now text) (now words) (now rows) (now errors) ⌝ }
+    ensures { λ r. ⌜ Built (now (text .entry)) (now (words .entry)) (now (rows .entry)) (now (errors .entry)) r
+        (now (rows .exit)) (now (errors .exit)) ⌝ }
 {
     match crate::sizes::size_for(store_reader::cards_used(words)) {
         Size::Small => return build_small(text, words, rows, errors),

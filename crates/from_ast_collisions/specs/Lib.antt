@@ -1,6 +1,6 @@
--- What the errors of a drawing are, in terms of cards and rows.
-pub mod ByCards
+-- What the errors of a build are, in terms of cards and rows.
+pub mod ErrorsByCards
 pub mod Placing
 pub mod Pushing
-pub mod Standing
+pub mod Earlier
 pub mod Views

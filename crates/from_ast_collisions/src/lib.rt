@@ -1,6 +1,4 @@
-// What reading and drawing push their errors with: the places of rows, and the clashes of parts that are merged.
-pub mod errors_laws;
-
+// What the errors of reading and of building are pushed with: the places of rows, and the collisions of parts that are merged.
 pub mod merging;
 pub mod placing;
 pub mod pushing;

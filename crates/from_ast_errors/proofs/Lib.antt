@@ -1,1 +1,2 @@
-pub mod LawsDrawn
+pub mod Fits
+pub mod Written

@@ -1,76 +1,86 @@
-// from_ast.rs: the errors of a drawing, in the order in which the Rust pushes them. The finished rows tell which card stands for a name.
-use crate::drawing::drawing_errors;
-use from_ast_collisions::placing::place_rows;
+// from_ast.rs: the errors of a build, in the order in which the Rust pushes them. The finished rows tell which card stands for a name.
+use crate::building::drawing_errors;
+use crate::reading::reading_errors;
 use definition::Tallies;
+use definition::layout;
+use from_ast_collisions::placing::place_rows;
 use from_ast_index::Counts;
-use crate::reading::reading::reading_errors;
-ghost use mathlib.Core.List.{[], _++_};
-ghost use lib.ListN.{getD};
+ghost use mathlib.Core.List.{_++_};
 ghost use Rattle.store_reader.specs.Stored.{storedHeadings};
 ghost use Rattle.from_ast_index.specs.Index.{Spanned};
-ghost use Rattle.from_ast_collisions.specs.Pushing.{ledger, noErrors, Room};
-ghost use Rattle.from_ast_collisions.specs.ByCards.{readingAt, drawingAt};
-ghost use Rattle.from_ast_collisions.specs.Views.{viewOf, Searching, Held, HeldHeadings, HeldExtensions, Ascending};
-ghost use Rattle.from_ast_errors.specs.Drawn.{ErrorsPushed, ErrorsAsked, ErrorsDrawn};
+ghost use Rattle.from_ast_collisions.specs.Pushing.{noErrors, ErrorsFit};
+ghost use Rattle.from_ast_collisions.specs.Views.{Searching, Held, HeldHeadings, HeldExtensions, Ascending};
+ghost use Rattle.from_ast_errors.specs.Written.{readingErrorsIn, drawingErrorsIn, ErrorsPushed, ErrorsAsked, ErrorsWritten};
 
-pub mod reading;
-pub mod redefinitions;
+mod building;
 pub mod extensions;
 pub mod orphans;
+pub mod reading;
+pub mod redefinitions;
 
-mod drawing;
-
-// How many errors arose while reading documents and while drawing, and the tallies of all.
+// How many errors arose while reading documents and while building, and the tallies of all.
 pub struct ErrorCounts {
     pub reading: u32,
     pub drawing: u32,
     pub tallies: Tallies,
 }
 
-// Pushes the errors of reading and then those of drawing; each slice has just what is used of it.
+// Pushes the errors of reading and then those of building; each slice has just what is used of it.
 fn push_errors(
-    adopt: bool,
     text: &[u8],
     words: &[u32],
-    prints: &[u32],
+    headings: &[u32],
+    hashes: &[u32],
     owners: &[u32],
+    orphans: &[u32],
     extensions: &[u32],
     starts: &[u32],
     ends: &[u32],
+    adopt: bool,
     rows: &[u32],
     places: &[u32],
-    orphans: &[u32],
-    heads: &[u32],
     errors: &mut [u32],
 ) -> ErrorCounts
-    requires { ⌜ Searching (now text) (now words) (now prints) (now rows) (now places) × HeldHeadings (now words) (now heads) × Held (now words) (now extensions) × Ascending (now extensions) × Spanned (now words) (now owners) (now extensions) (now starts) (now ends) × HeldExtensions (now words) (now orphans) × Room (ledger (now errors) noErrors) (readingAt (viewOf (now text) (now words) (now owners)) (now rows) (getD (now rows) 1 0) (now extensions) [] (now heads) ++ drawingAt adopt (viewOf (now text) (now words) (now owners)) (now rows) (getD (now rows) 1 0) (now extensions) (now orphans) (now heads)) ⌝ }
-    ensures { λ r. ⌜ ErrorsPushed (now (errors .entry)) (now (errors .exit)) r (readingAt (viewOf (now (text .entry)) (now (words .entry)) (now (owners .entry))) (now (rows .entry)) (getD (now (rows .entry)) 1 0) (now (extensions .entry)) [] (now (heads .entry))) (drawingAt adopt (viewOf (now (text .entry)) (now (words .entry)) (now (owners .entry))) (now (rows .entry)) (getD (now (rows .entry)) 1 0) (now (extensions .entry)) (now (orphans .entry)) (now (heads .entry))) ⌝ }
+    requires { ⌜ Searching (now text) (now words) (now hashes) (now rows) (now places)
+        × HeldHeadings (now words) (now headings)
+        × Held (now words) (now extensions)
+        × Ascending (now extensions)
+        × Spanned (now words) (now owners) (now extensions) (now starts) (now ends)
+        × HeldExtensions (now words) (now orphans)
+        × ErrorsFit (now errors) noErrors
+        (readingErrorsIn (now text) (now words) (now owners) (now rows) (now extensions) (now headings)
+        ++ drawingErrorsIn adopt (now text) (now words) (now owners) (now rows) (now extensions) (now orphans) (now headings)) ⌝ }
+    ensures { λ r. ⌜ ErrorsPushed (now (errors .entry)) (now (errors .exit)) r
+        (readingErrorsIn (now (text .entry)) (now (words .entry)) (now (owners .entry)) (now (rows .entry))
+        (now (extensions .entry)) (now (headings .entry)))
+        (drawingErrorsIn adopt (now (text .entry)) (now (words .entry)) (now (owners .entry)) (now (rows .entry))
+        (now (extensions .entry)) (now (orphans .entry)) (now (headings .entry))) ⌝ }
 {
     let t = reading_errors(
         text,
         words,
-        prints,
+        headings,
+        hashes,
         owners,
         extensions,
         starts,
         ends,
         rows,
         places,
-        heads,
         errors,
     );
     let reading = t.total;
     let t = drawing_errors(
-        adopt,
         text,
         words,
-        prints,
+        headings,
+        hashes,
         owners,
+        orphans,
         extensions,
+        adopt,
         rows,
         places,
-        orphans,
-        heads,
         errors,
         t,
     );
@@ -81,12 +91,12 @@ fn push_errors(
     }
 }
 
-// Writes the errors of reading and then those of drawing, for a store whose rows are drawn. `places` is scratch.
-pub fn draw_errors(
+// Writes the errors of reading and then those of building, for a store whose rows are built. `places` is scratch.
+pub fn write_errors(
     text: &[u8],
     words: &[u32],
-    heads: &[u32],
-    prints: &[u32],
+    headings: &[u32],
+    hashes: &[u32],
     owners: &[u32],
     orphans: &[u32],
     extensions: &[u32],
@@ -99,31 +109,33 @@ pub fn draw_errors(
     places: &mut [u32],
     errors: &mut [u32],
 ) -> ErrorCounts
-    requires { ⌜ ErrorsAsked (now text) (now words) (now heads) (now prints) (now owners) (now orphans) (now extensions) (now starts) (now ends) counts adopt (now rows) «row_count» (now errors) ⌝ }
-    ensures { λ r. ⌜ ErrorsDrawn adopt (storedHeadings (now (text .entry)) (now (words .entry))) (now (errors .entry)) (now (errors .exit)) r ⌝ }
+    requires { ⌜ ErrorsAsked (now text) (now words) (now headings) (now hashes) (now owners) (now orphans) (now extensions)
+        (now starts) (now ends) counts adopt (now rows) «row_count» (now errors) ⌝ }
+    ensures { λ r. ⌜ ErrorsWritten adopt (storedHeadings (now (text .entry)) (now (words .entry))) (now (errors .entry))
+        (now (errors .exit)) r ⌝ }
 {
     let m = counts.headings;
     let o = counts.orphans;
     let e = counts.extensions;
-    let end = 3 * row_count;
+    let end = layout::ROW_WORDS * row_count;
     let extensions = &extensions[0..e];
     let rows = &rows[0..end];
     let orphans = &orphans[0..o];
-    let heads = &heads[0..m];
+    let headings = &headings[0..m];
     place_rows(rows, places);
     push_errors(
-        adopt,
         text,
         words,
-        prints,
+        headings,
+        hashes,
         owners,
+        orphans,
         extensions,
         starts,
         ends,
+        adopt,
         rows,
         places,
-        orphans,
-        heads,
         errors,
     )
 }

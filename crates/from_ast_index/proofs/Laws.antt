@@ -1,20 +1,21 @@
 -- Which heading an entry of the arrays of types and of extensions is.
 use mathlib.Core.Path.{_≡_, sym, _∙_, ap}
 use mathlib.Core.List.{List, [], map}
-use mathlib.Core.Bool.{Bool, true}
+use mathlib.Core.Bool.{Bool}
 use mathlib.Core.Option.{some}
 use Prim.Native.Nat.{ℕ, _-_, _<_}
 use native.Mathlib.Omega.{arith}
 use lib.ListN.{length, take, getD, getElem?}
 use lib.Seq.{getD-take}
-use Rattle.definition.specs.Lists.{keep, All}
-use Rattle.definition.specs.Headings.{Heading, isTypeExtension, sameNamed, types}
+use Rattle.definition.specs.Lists.{filter, All}
+use Rattle.definition.specs.Headings.{Heading, isTypeExtension, sameNamed, definedTypes}
 use Rattle.definition.specs.Store.{cardsUsed}
 use Rattle.store_reader.specs.Stored.{storedHeadings, headingAt}
-use Rattle.store_reader.proofs.Lists.{all-get, all-to}
+use Rattle.definition.proofs.All.{all-filter, all-firsts, all-to}
+use Rattle.store_reader.proofs.Lists.{all-get}
 use Rattle.store_reader.proofs.Words.{headings-at}
 use Rattle.from_ast_index.specs.Index.{Indexed, headingNumber}
-use Rattle.from_ast_index.proofs.Lists.{all-keep, all-firsts, getD-picture, get-some}
+use Rattle.from_ast_index.proofs.Lists.{getD-picture, get-some}
 
 -- ---- Entries of an array.
 
@@ -25,10 +26,8 @@ Standing text words h = (h .number < cardsUsed words) × (h ≡ headingAt text w
 pub headings-stand : (text words : List ℕ) → All (Standing text words) (storedHeadings text words)
 headings-stand text words = all-to _ (Standing text words) (λ h a. (a .0, a .2)) (storedHeadings text words) (headings-at text words)
 
-kept-stand : (text words : List ℕ) (p : Heading → Bool) → All (Standing text words) (keep p (storedHeadings text words))
-kept-stand text words p =
-    all-keep (Standing text words) p (storedHeadings text words)
-    (all-to (Standing text words) (λ h. p h ≡ true → Standing text words h) (λ h a q. a) (storedHeadings text words) (headings-stand text words))
+kept-stand : (text words : List ℕ) (p : Heading → Bool) → All (Standing text words) (filter p (storedHeadings text words))
+kept-stand text words p = all-filter (Standing text words) p (storedHeadings text words) (headings-stand text words)
 
 module _ (text words : List ℕ) where
   -- Where an array begins with the numbers of such headings, its entry is the heading's card.
@@ -43,15 +42,17 @@ module _ (text words : List ℕ) where
       ∙ ap some (all-get (Standing text words) hs a k (g .0) (g .1) .1)
       ∙ ap (λ (c : ℕ). some (headingAt text words c)) (sym number)
 
-module _ (text words heads prints owners typeCards orphanCards extensionCards : List ℕ) (m t o e : ℕ)
-    (x : Indexed text words heads prints owners typeCards orphanCards extensionCards m t o e) where
-  pub type-here : (k : ℕ) → k < t → getElem? (types (storedHeadings text words)) k ≡ some (headingAt text words (getD typeCards k 0))
-  unfolding types
+module _ (text words headings hashes owners typeCards orphanCards extensionCards : List ℕ) (m t o e : ℕ)
+    (x : Indexed text words headings hashes owners typeCards orphanCards extensionCards m t o e) where
+  pub type-here : (k : ℕ) → k < t → getElem? (definedTypes (storedHeadings text words)) k ≡ some (headingAt text words (getD typeCards k 0))
+  unfolding definedTypes
   type-here =
-      entry-is text words (types (storedHeadings text words))
-      (all-firsts (Standing text words) sameNamed [] (keep _ (storedHeadings text words)) (kept-stand text words _)) typeCards t (x .types-are) (x .types-count)
+      entry-is text words (definedTypes (storedHeadings text words))
+      (all-firsts (Standing text words) sameNamed [] (filter _ (storedHeadings text words)) (kept-stand text words _)) typeCards t (x .types-are)
+      (x .types-count)
 
   pub extension-here : (k : ℕ) → k < e →
-      getElem? (keep isTypeExtension (storedHeadings text words)) k ≡ some (headingAt text words (getD extensionCards k 0))
+      getElem? (filter isTypeExtension (storedHeadings text words)) k ≡ some (headingAt text words (getD extensionCards k 0))
   extension-here =
-      entry-is text words (keep isTypeExtension (storedHeadings text words)) (kept-stand text words isTypeExtension) extensionCards e (x .extensions-are) (x .extensions-count)
+      entry-is text words (filter isTypeExtension (storedHeadings text words)) (kept-stand text words isTypeExtension) extensionCards e (x .extensions-are)
+      (x .extensions-count)

@@ -1,5 +1,6 @@
+-- Lists, then what the arrays hold. Each file comes after those that it leans on.
 pub mod Lists
-pub mod Prints
+pub mod Hashes
 pub mod Search
 pub mod Laws
 pub mod Spans

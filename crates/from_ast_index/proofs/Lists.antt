@@ -1,16 +1,21 @@
--- Lists, searches in them and the first ones of them: what the other files lean on.
+-- Lists, searches in them and the first ones of them: what the other files lean on beyond the laws of `definition`.
 use mathlib.Core.Path.{_≡_, refl, sym, _∙_, ap}
-use mathlib.Core.List.{List, [], _∷_, _++_, map, append-assoc, append-nil}
-use mathlib.Core.Bool.{Bool, true, false}
+use mathlib.Core.List.{List, [], _∷_, _++_, map, append-nil}
+use mathlib.Core.Bool.{Bool, true, false, _&&_}
 use mathlib.Core.Option.{Option, none, some}
 use Prim.Native.Nat.{ℕ, zero, suc, _+_, _≤_, _<_}
 use native.Mathlib.Omega.{arith}
-use lib.ListN.{length, take, getD, getElem?}
-use lib.Seq.{take-take, take-at}
-use Rattle.definition.specs.Lists.{choose, found, keep, any, firstWhere, firsts, All, orElse}
+use lib.ListN.{length, take, drop, getD, getElem?, drop-of-length-le}
+use lib.Seq.{take-take, take-at, drop-cons}
+use Rattle.definition.specs.Lists.{choose, found, filter, any, find, firsts, All, orElse}
+use Rattle.definition.proofs.Lists.{map-append, any-first-some, any-first-none, firsts-nil, firsts-old, firsts-new, firsts-append}
 
 pub never {ℓ} : {A : Type ℓ} → true ≡ false → A
 never e = absurd (let z : _≡_ {A = ℕ} 0 1 = cc in omega arith)
+
+pub chosen-both : (a b : Bool) → choose a b false ≡ (a && b)
+chosen-both true b = refl
+chosen-both false b = refl
 
 module _ {ℓ} {A : Type ℓ} where
   pub none-some : (x : A) → _≡_ {A = Option A} none (some x) → ⊥
@@ -18,106 +23,59 @@ module _ {ℓ} {A : Type ℓ} where
 
   -- ---- What a test keeps.
 
-  pub keep-yes : (p : A → Bool) (x : A) (xs : List A) → p x ≡ true → keep p (x ∷ xs) ≡ x ∷ keep p xs
-  unfolding keep
-  keep-yes p x xs e = simp e
-
-  pub keep-append : (p : A → Bool) (xs ys : List A) → keep p (xs ++ ys) ≡ keep p xs ++ keep p ys
-  unfolding keep
-  keep-append p [] ys = refl
-  keep-append p (x ∷ xs) ys = go (p x) refl (keep-append p xs ys)
+  pub filter-most : (p : A → Bool) (xs : List A) → length (filter p xs) ≤ length xs
+  unfolding filter
+  filter-most p [] = omega arith
+  filter-most p (x ∷ xs) = go (p x) refl (filter-most p xs)
     where
-      go : (b : Bool) → p x ≡ b → keep p (xs ++ ys) ≡ keep p xs ++ keep p ys → keep p (x ∷ (xs ++ ys)) ≡ keep p (x ∷ xs) ++ keep p ys
-      go true e h = simp (e, h)
-      go false e h = simp (e, h)
-
-  pub keep-most : (p : A → Bool) (xs : List A) → length (keep p xs) ≤ length xs
-  unfolding keep
-  keep-most p [] = omega arith
-  keep-most p (x ∷ xs) = go (p x) refl (keep-most p xs)
-    where
-      go : (b : Bool) → p x ≡ b → length (keep p xs) ≤ length xs → length (keep p (x ∷ xs)) ≤ suc (length xs)
+      go : (b : Bool) → p x ≡ b → length (filter p xs) ≤ length xs → length (filter p (x ∷ xs)) ≤ suc (length xs)
       go true e h = simp e (omega arith)
       go false e h = simp e (omega arith)
 
   -- ---- The first that passes a test.
 
-  pub first-yes : (p : A → Bool) (x : A) (xs : List A) → p x ≡ true → firstWhere p (x ∷ xs) ≡ some x
-  unfolding firstWhere
-  first-yes p x xs e = simp e
-
-  pub first-no : (p : A → Bool) (x : A) (xs : List A) → p x ≡ false → firstWhere p (x ∷ xs) ≡ firstWhere p xs
-  unfolding firstWhere
-  first-no p x xs e = simp e
-
-  pub first-empty : (p : A → Bool) → firstWhere p [] ≡ none
-  unfolding firstWhere
-  first-empty p = refl
-
-  pub first-append : (p : A → Bool) (xs ys : List A) → firstWhere p (xs ++ ys) ≡ orElse (firstWhere p xs) (firstWhere p ys)
-  unfolding firstWhere
+  pub first-append : (p : A → Bool) (xs ys : List A) → find p (xs ++ ys) ≡ orElse (find p xs) (find p ys)
+  unfolding find
   first-append p [] ys = refl
   first-append p (x ∷ xs) ys = go (p x) refl (first-append p xs ys)
     where
-      go : (b : Bool) → p x ≡ b → firstWhere p (xs ++ ys) ≡ orElse (firstWhere p xs) (firstWhere p ys) →
-          firstWhere p (x ∷ (xs ++ ys)) ≡ orElse (firstWhere p (x ∷ xs)) (firstWhere p ys)
+      go : (b : Bool) → p x ≡ b → find p (xs ++ ys) ≡ orElse (find p xs) (find p ys) →
+          find p (x ∷ (xs ++ ys)) ≡ orElse (find p (x ∷ xs)) (find p ys)
       go true e h = simp e
       go false e h = simp (e, h)
 
-  pub first-any : (p : A → Bool) (xs : List A) (x : A) → firstWhere p xs ≡ some x → any p xs ≡ true
-  unfolding any
-  first-any p [] x e = absurd (none-some x (sym (first-empty p) ∙ e))
-  first-any p (y ∷ xs) x e = go (p y) refl (first-any p xs x)
-    where
-      go : (b : Bool) → p y ≡ b → (firstWhere p xs ≡ some x → any p xs ≡ true) → any p (y ∷ xs) ≡ true
-      go true q h = simp q
-      go false q h = simp q (h (sym (first-no p y xs q) ∙ e))
-
-  pub first-none : (p : A → Bool) (xs : List A) → firstWhere p xs ≡ none → any p xs ≡ false
-  unfolding any
-  first-none p [] e = refl
-  first-none p (y ∷ xs) e = go (p y) refl (first-none p xs)
-    where
-      go : (b : Bool) → p y ≡ b → (firstWhere p xs ≡ none → any p xs ≡ false) → any p (y ∷ xs) ≡ false
-      go true q h = absurd (none-some y (sym e ∙ first-yes p y xs q))
-      go false q h = simp q (h (sym (first-no p y xs q) ∙ e))
-
   -- A test that asks more finds the same where what the other keeps is searched.
-  pub first-keep : (p q r : A → Bool) (xs : List A) → All (λ x. choose (q x) (p x) false ≡ r x) xs → firstWhere p (keep q xs) ≡ firstWhere r xs
-  unfolding keep firstWhere
-  first-keep p q r [] a = refl
-  first-keep p q r (x ∷ xs) a = go (q x) refl (first-keep p q r xs (a .1))
+  pub first-filter : (p q r : A → Bool) (xs : List A) → All (λ x. choose (q x) (p x) false ≡ r x) xs → find p (filter q xs) ≡ find r xs
+  unfolding filter find
+  first-filter p q r [] a = refl
+  first-filter p q r (x ∷ xs) a = go (q x) refl (first-filter p q r xs (a .1))
     where
-      go : (b : Bool) → q x ≡ b → firstWhere p (keep q xs) ≡ firstWhere r xs → firstWhere p (keep q (x ∷ xs)) ≡ firstWhere r (x ∷ xs)
+      go : (b : Bool) → q x ≡ b → find p (filter q xs) ≡ find r xs → find p (filter q (x ∷ xs)) ≡ find r (x ∷ xs)
       go true e h = let k : p x ≡ r x = (rw e at (a .0)) in simp (e, k, h)
       go false e h = let k : false ≡ r x = (rw e at (a .0)) in simp (e, sym k, h)
 
 -- ---- Pictures of lists.
 
 module _ {ℓ κ} {A : Type ℓ} {B : Type κ} (f : A → B) where
-  pub map-append : (xs ys : List A) → map f (xs ++ ys) ≡ map f xs ++ map f ys
-  map-append [] ys = refl
-  map-append (x ∷ xs) ys = ap (λ (l : List B). f x ∷ l) (map-append xs ys)
-
-  pub keep-map : (p : A → Bool) (q : B → Bool) (xs : List A) → All (λ x. q (f x) ≡ p x) xs → keep q (map f xs) ≡ map f (keep p xs)
-  unfolding keep
-  keep-map p q [] a = refl
-  keep-map p q (x ∷ xs) a = go (p x) refl (keep-map p q xs (a .1))
+  pub filter-map : (p : A → Bool) (q : B → Bool) (xs : List A) → All (λ x. q (f x) ≡ p x) xs → filter q (map f xs) ≡ map f (filter p xs)
+  unfolding filter
+  filter-map p q [] a = refl
+  filter-map p q (x ∷ xs) a = go (p x) refl (filter-map p q xs (a .1))
     where
-      go : (b : Bool) → p x ≡ b → keep q (map f xs) ≡ map f (keep p xs) → keep q (f x ∷ map f xs) ≡ map f (keep p (x ∷ xs))
+      go : (b : Bool) → p x ≡ b → filter q (map f xs) ≡ map f (filter p xs) → filter q (f x ∷ map f xs) ≡ map f (filter p (x ∷ xs))
       go true e h = simp (a .0, e, h)
       go false e h = simp (a .0, e, h)
 
   abbrev pub pictured : Option A → Option B
   pictured o = found o (λ x. some (f x)) none
 
-  pub first-map : (p : A → Bool) (q : B → Bool) (xs : List A) → All (λ x. q (f x) ≡ p x) xs → firstWhere q (map f xs) ≡ pictured (firstWhere p xs)
-  unfolding firstWhere
+  pub first-map : (p : A → Bool) (q : B → Bool) (xs : List A) → All (λ x. q (f x) ≡ p x) xs → find q (map f xs) ≡ pictured (find p xs)
+  unfolding find
   first-map p q [] a = refl
   first-map p q (x ∷ xs) a = go (p x) refl (first-map p q xs (a .1))
     where
-      go : (b : Bool) → p x ≡ b → firstWhere q (map f xs) ≡ pictured (firstWhere p xs) →
-          firstWhere q (f x ∷ map f xs) ≡ pictured (firstWhere p (x ∷ xs))
+      go : (b : Bool) → p x ≡ b → find q (map f xs) ≡ pictured (find p xs) →
+          find q (f x ∷ map f xs) ≡ pictured (find p (x ∷ xs))
       go true e h = simp (a .0, e)
       go false e h = simp (a .0, e, h)
 
@@ -130,72 +88,19 @@ module _ {ℓ κ} {A : Type ℓ} {B : Type κ} (f : A → B) where
 
 module _ {ℓ} {A : Type ℓ} (alike : A → A → Bool) where
   -- One more at the end: it is a first one where none of the first ones so far is like it.
-  abbrev pub grown : Bool → List A → A → List A
-  grown b xs x = choose b xs (xs ++ (x ∷ []))
+  pub firsts-again : (xs : List A) (x y : A) → find (alike x) (firsts alike [] xs) ≡ some y → firsts alike [] (xs ++ (x ∷ [])) ≡ firsts alike [] xs
+  firsts-again xs x y e =
+      let seen = firsts alike [] xs in
+      firsts-append alike [] xs (x ∷ [])
+      ∙ ap (λ (l : List A). seen ++ l) (firsts-old alike seen x [] (any-first-some (alike x) seen y e) ∙ firsts-nil alike seen)
+      ∙ append-nil seen
 
-  grown-inside : (y : A) (b : Bool) (xs : List A) (x : A) → y ∷ grown b xs x ≡ grown b (y ∷ xs) x
-  grown-inside y true xs x = refl
-  grown-inside y false xs x = refl
-
-  firsts-end : (seen xs : List A) (x : A) →
-      firsts alike seen (xs ++ (x ∷ [])) ≡ grown (any (alike x) (seen ++ firsts alike seen xs)) (firsts alike seen xs) x
-  unfolding firsts
-  firsts-end seen [] x = rw (append-nil seen)
-  firsts-end seen (y ∷ xs) x = go (any (alike y) seen) refl (firsts-end seen xs x) (firsts-end (seen ++ (y ∷ [])) xs x)
-    where
-      go : (b : Bool) → any (alike y) seen ≡ b →
-          firsts alike seen (xs ++ (x ∷ [])) ≡ grown (any (alike x) (seen ++ firsts alike seen xs)) (firsts alike seen xs) x →
-          firsts alike (seen ++ (y ∷ [])) (xs ++ (x ∷ [])) ≡
-          grown (any (alike x) ((seen ++ (y ∷ [])) ++ firsts alike (seen ++ (y ∷ [])) xs)) (firsts alike (seen ++ (y ∷ [])) xs) x →
-          firsts alike seen (y ∷ (xs ++ (x ∷ []))) ≡ grown (any (alike x) (seen ++ firsts alike seen (y ∷ xs))) (firsts alike seen (y ∷ xs)) x
-      go true e h k = simp e h
-      go false e h k =
-          simp e (ap (λ (l : List A). y ∷ l) (rw append-assoc at k)
-          ∙ grown-inside y (any (alike x) (seen ++ (y ∷ firsts alike (seen ++ (y ∷ [])) xs))) (firsts alike (seen ++ (y ∷ [])) xs) x)
-
-  pub firsts-again : (xs : List A) (x y : A) → firstWhere (alike x) (firsts alike [] xs) ≡ some y → firsts alike [] (xs ++ (x ∷ [])) ≡ firsts alike [] xs
-  firsts-again xs x y e = firsts-end [] xs x ∙ ap (λ (b : Bool). grown b (firsts alike [] xs) x) (first-any (alike x) (firsts alike [] xs) y e)
-
-  pub firsts-more : (xs : List A) (x : A) → firstWhere (alike x) (firsts alike [] xs) ≡ none → firsts alike [] (xs ++ (x ∷ [])) ≡ firsts alike [] xs ++ (x ∷ [])
-  firsts-more xs x e = firsts-end [] xs x ∙ ap (λ (b : Bool). grown b (firsts alike [] xs) x) (first-none (alike x) (firsts alike [] xs) e)
-
-  -- A test that what is alike passes alike finds the same among the first ones as among all.
-  module _ (p : A → Bool) (fair : (x y : A) → alike x y ≡ true → p x ≡ p y) where
-    passed : (seen : List A) (x : A) → any (alike x) seen ≡ true → any p seen ≡ false → p x ≡ false
-    unfolding any
-    passed [] x a n = never (sym a)
-    passed (y ∷ seen) x a n = go (alike x y) (p y) refl refl (passed seen x)
-      where
-        go : (b c : Bool) → alike x y ≡ b → p y ≡ c → (any (alike x) seen ≡ true → any p seen ≡ false → p x ≡ false) → p x ≡ false
-        go b true e f h = never (rw f at n)
-        go true false e f h = fair x y e ∙ f
-        go false false e f h = h (rw e at a) (rw f at n)
-
-    any-end : (seen : List A) (x : A) → any p seen ≡ false → p x ≡ false → any p (seen ++ (x ∷ [])) ≡ false
-    unfolding any
-    any-end [] x n e = simp e
-    any-end (y ∷ seen) x n e = go (p y) refl (any-end seen x)
-      where
-        go : (b : Bool) → p y ≡ b → (any p seen ≡ false → p x ≡ false → any p (seen ++ (x ∷ [])) ≡ false) → any p (y ∷ (seen ++ (x ∷ []))) ≡ false
-        go true f h = never (rw f at n)
-        go false f h = simp f (h (rw f at n) e)
-
-    firsts-found : (seen xs : List A) → any p seen ≡ false → firstWhere p (firsts alike seen xs) ≡ firstWhere p xs
-    unfolding firstWhere firsts
-    firsts-found seen [] n = refl
-    firsts-found seen (x ∷ xs) n = go (any (alike x) seen) (p x) refl refl (firsts-found seen xs n) (firsts-found (seen ++ (x ∷ [])) xs)
-      where
-        go : (b c : Bool) → any (alike x) seen ≡ b → p x ≡ c → firstWhere p (firsts alike seen xs) ≡ firstWhere p xs →
-            (any p (seen ++ (x ∷ [])) ≡ false → firstWhere p (firsts alike (seen ++ (x ∷ [])) xs) ≡ firstWhere p xs) →
-            firstWhere p (firsts alike seen (x ∷ xs)) ≡ firstWhere p (x ∷ xs)
-        go true true e f h k = never (sym f ∙ passed seen x e n)
-        go true false e f h k = simp (e, f) h
-        go false true e f h k = simp (e, f)
-        go false false e f h k = simp (e, f) (k (any-end seen x n f))
-
-    pub first-of-firsts : (xs : List A) → firstWhere p (firsts alike [] xs) ≡ firstWhere p xs
-    unfolding any
-    first-of-firsts xs = firsts-found [] xs refl
+  pub firsts-more : (xs : List A) (x : A) → find (alike x) (firsts alike [] xs) ≡ none → firsts alike [] (xs ++ (x ∷ [])) ≡ firsts alike [] xs ++ (x ∷ [])
+  firsts-more xs x e =
+      let seen = firsts alike [] xs in
+      firsts-append alike [] xs (x ∷ [])
+      ∙ ap (λ (l : List A). seen ++ l)
+      (firsts-new alike seen x [] (any-first-none (alike x) seen e) ∙ ap (λ (l : List A). x ∷ l) (firsts-nil alike (seen ++ (x ∷ []))))
 
 -- First ones of a picture.
 module _ {ℓ κ} {A : Type ℓ} {B : Type κ} (f : A → B) (alike : A → A → Bool) (like : B → B → Bool) (P : A → Type 0)
@@ -229,46 +134,45 @@ module _ {ℓ} {A : Type ℓ} where
   get-all P [] f = tt
   get-all P (x ∷ xs) f = (f 0 x refl, get-all P xs (λ i y e. f (suc i) y e))
 
-  pub all-keep : (P : A → Type 0) (p : A → Bool) (xs : List A) → All (λ x. p x ≡ true → P x) xs → All P (keep p xs)
-  unfolding keep
-  all-keep P p [] a = tt
-  all-keep P p (x ∷ xs) a = go (p x) refl (all-keep P p xs (a .1))
+  pub all-kept : (P : A → Type 0) (p : A → Bool) (xs : List A) → All (λ x. p x ≡ true → P x) xs → All P (filter p xs)
+  unfolding filter
+  all-kept P p [] a = tt
+  all-kept P p (x ∷ xs) a = go (p x) refl (all-kept P p xs (a .1))
     where
-      go : (b : Bool) → p x ≡ b → All P (keep p xs) → All P (keep p (x ∷ xs))
+      go : (b : Bool) → p x ≡ b → All P (filter p xs) → All P (filter p (x ∷ xs))
       go true e h = simp e (a .0 e, h)
       go false e h = simp e h
 
-  pub all-firsts : (P : A → Type 0) (alike : A → A → Bool) (seen xs : List A) → All P xs → All P (firsts alike seen xs)
-  unfolding firsts
-  all-firsts P alike seen [] a = tt
-  all-firsts P alike seen (x ∷ xs) a =
-      go (any (alike x) seen) refl (all-firsts P alike seen xs (a .1)) (all-firsts P alike (seen ++ (x ∷ [])) xs (a .1))
+  pub filter-both : (p q r : A → Bool) (xs : List A) → All (λ x. choose (p x) (q x) false ≡ r x) xs → filter q (filter p xs) ≡ filter r xs
+  unfolding filter
+  filter-both p q r [] a = refl
+  filter-both p q r (x ∷ xs) a = go (p x) (q x) refl refl (filter-both p q r xs (a .1))
     where
-      go : (b : Bool) → any (alike x) seen ≡ b → All P (firsts alike seen xs) → All P (firsts alike (seen ++ (x ∷ [])) xs) → All P (firsts alike seen (x ∷ xs))
-      go true e h k = simp e h
-      go false e h k = simp e (a .0, k)
-
-  pub all-first : (P : A → Type 0) (p : A → Bool) (xs : List A) (x : A) → All P xs → firstWhere p xs ≡ some x → P x
-  all-first P p [] x a e = absurd (none-some x (sym (first-empty p) ∙ e))
-  all-first P p (y ∷ xs) x a e = go (p y) refl (all-first P p xs x (a .1))
-    where
-      go : (b : Bool) → p y ≡ b → (firstWhere p xs ≡ some x → P x) → P x
-      go true q h =
-          let same : _≡_ {A = Option A} (some y) (some x) = sym (first-yes p y xs q) ∙ e in
-          let s : y ≡ x = cc in rw (← s) (a .0)
-      go false q h = h (sym (first-no p y xs q) ∙ e)
-
-  pub keep-both : (p q r : A → Bool) (xs : List A) → All (λ x. choose (p x) (q x) false ≡ r x) xs → keep q (keep p xs) ≡ keep r xs
-  unfolding keep
-  keep-both p q r [] a = refl
-  keep-both p q r (x ∷ xs) a = go (p x) (q x) refl refl (keep-both p q r xs (a .1))
-    where
-      go : (b c : Bool) → p x ≡ b → q x ≡ c → keep q (keep p xs) ≡ keep r xs → keep q (keep p (x ∷ xs)) ≡ keep r (x ∷ xs)
+      go : (b c : Bool) → p x ≡ b → q x ≡ c → filter q (filter p xs) ≡ filter r xs → filter q (filter p (x ∷ xs)) ≡ filter r (x ∷ xs)
       go true true e f h = let k : r x ≡ true = sym (rw (e, f) at (a .0)) in simp (e, f, k, h)
       go true false e f h = let k : r x ≡ false = sym (rw (e, f) at (a .0)) in simp (e, f, k, h)
       go false c e f h = let k : r x ≡ false = sym (rw e at (a .0)) in simp (e, k, h)
 
--- Elements by position, of a picture.
+-- ---- Elements by position.
+
+-- The element at a place, and the rest.
+pub drop-next : (xs : List ℕ) (i : ℕ) → i < length xs → drop i xs ≡ getD xs i 0 ∷ drop (i + 1) xs
+drop-next xs i h = let e : suc i ≡ i + 1 = omega arith in drop-cons xs i 0 h ∙ ap (λ (j : ℕ). getD xs i 0 ∷ drop j xs) e
+
+pub drop-end : (xs : List ℕ) (i : ℕ) → length xs ≤ i → drop i xs ≡ []
+drop-end xs i h = drop-of-length-le xs h
+
+-- What holds at each place holds of each element, and the other way round.
+pub all-places : (P : ℕ → Type 0) (xs : List ℕ) → ((i : ℕ) → i < length xs → P (getD xs i 0)) → All P xs
+all-places P [] h = tt
+all-places P (x ∷ xs) h = (h 0 (omega arith), all-places P xs (λ i l. h (suc i) (omega arith)))
+
+pub all-at : (P : ℕ → Type 0) (xs : List ℕ) → All P xs → (i : ℕ) → i < length xs → P (getD xs i 0)
+all-at P [] a i h = absurd (omega arith)
+all-at P (x ∷ xs) a zero h = a .0
+all-at P (x ∷ xs) a (suc i) h = all-at P xs (a .1) i (omega arith)
+
+-- Of a picture.
 module _ {ℓ} {A : Type ℓ} (f : A → ℕ) where
   pub getD-picture : (xs : List A) (i : ℕ) (x : A) → getElem? xs i ≡ some x → getD (map f xs) i 0 ≡ f x
   getD-picture [] i x e = absurd (none-some x e)

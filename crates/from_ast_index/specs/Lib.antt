@@ -1,2 +1,2 @@
--- What the arrays of a drawing hold.
+-- What the arrays hold that build reads.
 pub mod Index

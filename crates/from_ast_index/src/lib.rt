@@ -1,9 +1,9 @@
-// The arrays that a drawing's walks read, and the reads of them that several walks share. Crate `indexing` fills them.
+// The arrays that build reads: how many there are of what, and the reads of them that several walks share. Crate `from_ast_indexing` fills them.
 ghost use mathlib.Core.Path.{_≡_};
 ghost use Prim.Native.Nat.{_<_};
 ghost use lib.ListN.{length};
 ghost use Rattle.definition.specs.Store.{cardsUsed};
-ghost use Rattle.from_ast_index.specs.Index.{sameCards, Printed, ownExtensions};
+ghost use Rattle.from_ast_index.specs.Index.{sameCards, Hashed, ownExtensions};
 
 // How many headings, types, orphaned names and type extensions there are.
 pub struct Counts {
@@ -23,12 +23,14 @@ pub fn same_names(text: &[u8], words: &[u32], a: u32, b: u32) -> bool
     )
 }
 
-// Whether two cards have one name. Most that have not are told by their fingerprints.
-pub fn same_cards(text: &[u8], words: &[u32], prints: &[u32], a: u32, b: u32) -> bool
-    requires { ⌜ Printed (now text) (now words) (now prints) × (a < cardsUsed (now words)) × (b < cardsUsed (now words)) ⌝ }
+// Whether two cards have one name. Most that have not are told by their hashes.
+pub fn same_cards(text: &[u8], words: &[u32], hashes: &[u32], a: u32, b: u32) -> bool
+    requires { ⌜ Hashed (now text) (now words) (now hashes)
+        × (a < cardsUsed (now words))
+        × (b < cardsUsed (now words)) ⌝ }
     ensures { λ r. ⌜ r ≡ sameCards (now (text .entry)) (now (words .entry)) a b ⌝ }
 {
-    if prints[a as usize] != prints[b as usize] {
+    if hashes[a as usize] != hashes[b as usize] {
         return false;
     }
     same_names(text, words, a, b)
@@ -41,7 +43,8 @@ pub fn own_extensions<'a>(
     ends: &[u32],
     card: u32,
 ) -> &'a [u32]
-    requires { ⌜ (card < length (now starts)) × (card < length (now ends)) ⌝ }
+    requires { ⌜ (card < length (now starts))
+        × (card < length (now ends)) ⌝ }
     ensures { λ r. ⌜ now r ≡ ownExtensions (now (extensions .entry)) (now (starts .entry)) (now (ends .entry)) card ⌝ }
 {
     let start = starts[card as usize] as usize;

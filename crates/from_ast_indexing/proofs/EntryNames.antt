@@ -9,13 +9,14 @@ use native.Mathlib.Numerals.{add-one}
 use native.Mathlib.Omega.{arith}
 use lib.ListN.{length, take, drop, getD}
 use lib.Seq.{take-suc, split-at}
-use Rattle.definition.specs.Lists.{choose, found, keep, firstWhere, firsts, orElse}
+use Rattle.definition.specs.Lists.{choose, found, filter, find, firsts, orElse}
 use Rattle.definition.specs.Answers.{absent}
 use Rattle.definition.specs.Names.{sameName}
 use Rattle.store_reader.specs.Stored.{cardName}
 use Rattle.name.proofs.Laws.{same-equal, same-self}
 use Rattle.from_ast_index.specs.Index.{sameCards}
-use Rattle.from_ast_index.proofs.Lists.{keep-yes, keep-append, first-yes, first-append, firsts-again, firsts-more, first-of-firsts}
+use Rattle.definition.proofs.Lists.{filter-yes, filter-append, first-yes, any-nil, first-firsts}
+use Rattle.from_ast_index.proofs.Lists.{first-append, firsts-again, firsts-more}
 use Rattle.from_ast_indexing.specs.Entering.{firstCard, enteredIn, firstEntered}
 
 -- ---- One more card of a list.
@@ -23,29 +24,29 @@ use Rattle.from_ast_indexing.specs.Entering.{firstCard, enteredIn, first
 pub taken-more : (cards : List ℕ) (k : ℕ) → k < length cards → take (k + 1) cards ≡ take k cards ++ (getD cards k 0 ∷ [])
 taken-more cards k h = rw add-one (take-suc cards k 0 h)
 
-keep-one : (p : ℕ → Bool) (c : ℕ) → keep p (c ∷ []) ≡ choose (p c) (c ∷ []) []
-unfolding keep
-keep-one p c = refl
+filter-one : (p : ℕ → Bool) (c : ℕ) → filter p (c ∷ []) ≡ choose (p c) (c ∷ []) []
+unfolding filter
+filter-one p c = refl
 
 module _ (p : ℕ → Bool) (cards : List ℕ) (k : ℕ) (h : k < length cards) where
-  kept-more : keep p (take (k + 1) cards) ≡ keep p (take k cards) ++ choose (p (getD cards k 0)) (getD cards k 0 ∷ []) []
+  kept-more : filter p (take (k + 1) cards) ≡ filter p (take k cards) ++ choose (p (getD cards k 0)) (getD cards k 0 ∷ []) []
   kept-more =
-      ap (keep p) (taken-more cards k h)
-      ∙ keep-append p (take k cards) (getD cards k 0 ∷ [])
-      ∙ ap (λ (l : List ℕ). keep p (take k cards) ++ l) (keep-one p (getD cards k 0))
+      ap (filter p) (taken-more cards k h)
+      ∙ filter-append p (take k cards) (getD cards k 0 ∷ [])
+      ∙ ap (λ (l : List ℕ). filter p (take k cards) ++ l) (filter-one p (getD cards k 0))
 
-  pub kept-yes : p (getD cards k 0) ≡ true → keep p (take (k + 1) cards) ≡ keep p (take k cards) ++ (getD cards k 0 ∷ [])
+  pub kept-yes : p (getD cards k 0) ≡ true → filter p (take (k + 1) cards) ≡ filter p (take k cards) ++ (getD cards k 0 ∷ [])
   kept-yes e = rw e at kept-more
 
-  pub kept-no : p (getD cards k 0) ≡ false → keep p (take (k + 1) cards) ≡ keep p (take k cards)
-  kept-no e = (rw e at kept-more) ∙ append-nil (keep p (take k cards))
+  pub kept-no : p (getD cards k 0) ≡ false → filter p (take (k + 1) cards) ≡ filter p (take k cards)
+  kept-no e = (rw e at kept-more) ∙ append-nil (filter p (take k cards))
 
   -- What is kept of the whole has the card where it stands.
-  pub kept-split : p (getD cards k 0) ≡ true → keep p cards ≡ keep p (take k cards) ++ (getD cards k 0 ∷ keep p (drop (suc k) cards))
+  pub kept-split : p (getD cards k 0) ≡ true → filter p cards ≡ filter p (take k cards) ++ (getD cards k 0 ∷ filter p (drop (suc k) cards))
   kept-split e =
-      ap (keep p) (split-at cards k 0 h)
-      ∙ keep-append p (take k cards) (getD cards k 0 ∷ drop (suc k) cards)
-      ∙ ap (λ (l : List ℕ). keep p (take k cards) ++ l) (keep-yes p (getD cards k 0) (drop (suc k) cards) e)
+      ap (filter p) (split-at cards k 0 h)
+      ∙ filter-append p (take k cards) (getD cards k 0 ∷ drop (suc k) cards)
+      ∙ ap (λ (l : List ℕ). filter p (take k cards) ++ l) (filter-yes p (getD cards k 0) (drop (suc k) cards) e)
 
 -- Cards in rising order are other cards.
 pub apart : (a b : ℕ) → a < b → a ≢ b
@@ -63,19 +64,20 @@ module _ (text words : List ℕ) where
   same-card c = same-self (cardName text words c)
 
   -- The first ones and the first one of a name, after one more card.
-  pub firsts-entered : (D : List ℕ) (c : ℕ) → firsts (sameCards text words) [] (D ++ (c ∷ [])) ≡ enteredIn (sameCards text words) c (firsts (sameCards text words) [] D)
+  pub firsts-entered : (D : List ℕ) (c : ℕ) → firsts (sameCards text words) [] (D ++ (c ∷ []))
+      ≡ enteredIn (sameCards text words) c (firsts (sameCards text words) [] D)
   unfolding enteredIn
-  firsts-entered D c = go (firstWhere (sameCards text words c) (firsts (sameCards text words) [] D)) refl
+  firsts-entered D c = go (find (sameCards text words c) (firsts (sameCards text words) [] D)) refl
     where
-      go : (o : Option ℕ) → firstWhere (sameCards text words c) (firsts (sameCards text words) [] D) ≡ o →
+      go : (o : Option ℕ) → find (sameCards text words c) (firsts (sameCards text words) [] D) ≡ o →
           firsts (sameCards text words) [] (D ++ (c ∷ [])) ≡
-          found (firstWhere (sameCards text words c) (firsts (sameCards text words) [] D)) (λ d. firsts (sameCards text words) [] D)
+          found (find (sameCards text words c) (firsts (sameCards text words) [] D)) (λ d. firsts (sameCards text words) [] D)
           (firsts (sameCards text words) [] D ++ (c ∷ []))
       go (some d) e = rw e (firsts-again (sameCards text words) D c d e)
       go none e = rw e (firsts-more (sameCards text words) D c e)
 
-  firsts-same : (D : List ℕ) (c : ℕ) → firstWhere (sameCards text words c) (firsts (sameCards text words) [] D) ≡ firstWhere (sameCards text words c) D
-  firsts-same D c = first-of-firsts (sameCards text words) (sameCards text words c) (same-fair c) D
+  firsts-same : (D : List ℕ) (c : ℕ) → find (sameCards text words c) (firsts (sameCards text words) [] D) ≡ find (sameCards text words c) D
+  firsts-same D c = first-firsts (sameCards text words) (sameCards text words c) (same-fair c) [] D (any-nil (sameCards text words c))
 
   pub card-of-firsts : (D : List ℕ) (c : ℕ) → firstCard (sameCards text words) c (firsts (sameCards text words) [] D) ≡ firstCard (sameCards text words) c D
   unfolding firstCard
@@ -90,6 +92,7 @@ module _ (text words : List ℕ) where
   unfolding firstEntered firstCard
   owner-entered D rest c =
       ap (λ (o : Option ℕ). found o (λ d. d) c) (firsts-same D c)
-      ∙ sym (either (firstWhere (sameCards text words c) D) c)
-      ∙ ap (λ (o : Option ℕ). found (orElse (firstWhere (sameCards text words c) D) o) (λ d. d) absent) (sym (first-yes (sameCards text words c) c rest (same-card c)))
+      ∙ sym (either (find (sameCards text words c) D) c)
+      ∙ ap (λ (o : Option ℕ). found (orElse (find (sameCards text words c) D) o) (λ d. d) absent)
+      (sym (first-yes (sameCards text words c) c rest (same-card c)))
       ∙ ap (λ (o : Option ℕ). found o (λ d. d) absent) (sym (first-append (sameCards text words c) D (c ∷ rest)))

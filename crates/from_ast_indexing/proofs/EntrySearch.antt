@@ -6,12 +6,13 @@ use mathlib.Core.Option.{Option, none, some}
 use Prim.Native.Nat.{ℕ, zero, suc, _+_, _-_, _≤_, _<_}
 use native.Mathlib.Numerals.{add-one}
 use native.Mathlib.Omega.{arith}
-use lib.ListN.{length, take, drop, getD, set, length-map, drop-of-length-le}
-use lib.Seq.{drop-cons, drop-at, length-take-le, take-add, take-suc-set}
-use Rattle.definition.specs.Lists.{firstWhere}
-use Rattle.from_ast_index.specs.Index.{cardPrint, sameCards}
-use Rattle.from_ast_index.proofs.Lists.{first-yes, first-no, first-empty, map-append}
-use Rattle.from_ast_index.proofs.Prints.{prints-differ}
+use lib.ListN.{length, take, drop, getD, set, length-map}
+use lib.Seq.{drop-at, length-take-le, take-add, take-suc-set}
+use Rattle.definition.specs.Lists.{find}
+use Rattle.from_ast_index.specs.Index.{cardHash, sameCards}
+use Rattle.definition.proofs.Lists.{map-append, first-nil, first-yes, first-no}
+use Rattle.from_ast_index.proofs.Lists.{drop-next, drop-end}
+use Rattle.from_ast_index.proofs.Hashes.{hashes-differ}
 use Rattle.from_ast_indexing.specs.declared.entry.Entry.{Entry}
 use Rattle.from_ast_indexing.specs.declared.entry.Entry.the-variants.{Occupied, Vacant}
 use Rattle.from_ast_indexing.specs.Entering.{entryOf, enteredIn, firstEntered, Searched, Entering, Entered}
@@ -19,54 +20,51 @@ use Rattle.from_ast_indexing.specs.Entering.{entryOf, enteredIn, firstEn
 -- ---- A turn of the search.
 
 module _ (text words cards : List ℕ) (card i : ℕ) where
-  at-card : i < length cards → drop i cards ≡ getD cards i 0 ∷ drop (i + 1) cards
-  at-card h = rw (add-one, drop-cons cards i 0)
-
   pub search-hit : i < length cards → sameCards text words card (getD cards i 0) ≡ true →
-      entryOf (firstWhere (sameCards text words card) (drop i cards)) ≡ Occupied (getD cards i 0)
-  search-hit h e = rw (at-card h) (ap entryOf (first-yes (sameCards text words card) (getD cards i 0) (drop (i + 1) cards) e))
+      entryOf (find (sameCards text words card) (drop i cards)) ≡ Occupied (getD cards i 0)
+  search-hit h e = rw (drop-next cards i h) (ap entryOf (first-yes (sameCards text words card) (getD cards i 0) (drop (i + 1) cards) e))
 
   pub search-miss : i < length cards → sameCards text words card (getD cards i 0) ≡ false →
-      entryOf (firstWhere (sameCards text words card) (drop i cards)) ≡ entryOf (firstWhere (sameCards text words card) (drop (i + 1) cards))
-  search-miss h e = rw (at-card h) (ap entryOf (first-no (sameCards text words card) (getD cards i 0) (drop (i + 1) cards) e))
+      entryOf (find (sameCards text words card) (drop i cards)) ≡ entryOf (find (sameCards text words card) (drop (i + 1) cards))
+  search-miss h e = rw (drop-next cards i h) (ap entryOf (first-no (sameCards text words card) (getD cards i 0) (drop (i + 1) cards) e))
 
-  pub search-end : length cards ≤ i → entryOf (firstWhere (sameCards text words card) (drop i cards)) ≡ Vacant
-  search-end h = rw (drop-of-length-le cards h) (ap entryOf (first-empty (sameCards text words card)))
+  pub search-end : length cards ≤ i → entryOf (find (sameCards text words card) (drop i cards)) ≡ Vacant
+  search-end h = rw (drop-end cards i h) (ap entryOf (first-nil (sameCards text words card)))
 
--- The prints beside the cards tell other names.
-getD-print : (text words cards : List ℕ) (i : ℕ) → i < length cards → getD (map (cardPrint text words) cards) i 0 ≡ cardPrint text words (getD cards i 0)
-getD-print text words [] i h = absurd (omega arith)
-getD-print text words (x ∷ xs) zero h = refl
-getD-print text words (x ∷ xs) (suc i) h = getD-print text words xs i (omega arith)
+-- The hashes beside the cards tell other names.
+getD-hash : (text words cards : List ℕ) (i : ℕ) → i < length cards → getD (map (cardHash text words) cards) i 0 ≡ cardHash text words (getD cards i 0)
+getD-hash text words [] i h = absurd (omega arith)
+getD-hash text words (x ∷ xs) zero h = refl
+getD-hash text words (x ∷ xs) (suc i) h = getD-hash text words xs i (omega arith)
 
-drop-print : (text words : List ℕ) (n : ℕ) (cards : List ℕ) → drop n (map (cardPrint text words) cards) ≡ map (cardPrint text words) (drop n cards)
-drop-print text words zero cards = refl
-drop-print text words (suc n) [] = refl
-drop-print text words (suc n) (x ∷ xs) = drop-print text words n xs
+drop-hash : (text words : List ℕ) (n : ℕ) (cards : List ℕ) → drop n (map (cardHash text words) cards) ≡ map (cardHash text words) (drop n cards)
+drop-hash text words zero cards = refl
+drop-hash text words (suc n) [] = refl
+drop-hash text words (suc n) (x ∷ xs) = drop-hash text words n xs
 
-module _ (text words cards prints : List ℕ) (card print : ℕ) (s : Searched text words cards prints card print) where
-  pub search-length : length prints ≡ length cards
-  search-length = ap length (s .prints-are) ∙ length-map cards (cardPrint text words)
+module _ (text words cards hashes : List ℕ) (card hash : ℕ) (s : Searched text words cards hashes card hash) where
+  pub search-length : length hashes ≡ length cards
+  search-length = ap length (s .hashes-are) ∙ length-map cards (cardHash text words)
 
-  pub search-differ : (i : ℕ) → i < length cards → (getD prints i 0 ≡ print → ⊥) → sameCards text words card (getD cards i 0) ≡ false
-  unfolding sameCards cardPrint
+  pub search-differ : (i : ℕ) → i < length cards → (getD hashes i 0 ≡ hash → ⊥) → sameCards text words card (getD cards i 0) ≡ false
+  unfolding sameCards cardHash
   search-differ i h d =
-      prints-differ _ _
-      (λ e. d (ap (λ (l : List ℕ). getD l i 0) (s .prints-are) ∙ getD-print text words cards i h ∙ sym e ∙ sym (s .print-is)))
+      hashes-differ _ _
+      (λ e. d (ap (λ (l : List ℕ). getD l i 0) (s .hashes-are) ∙ getD-hash text words cards i h ∙ sym e ∙ sym (s .hash-is)))
 
-  -- A search that begins later finds the same where none before has the fingerprint.
-  pub search-from : (from : ℕ) → from ≤ length cards → ((j : ℕ) → j < from → getD prints j 0 ≡ print → ⊥) →
-      entryOf (firstWhere (sameCards text words card) cards) ≡ entryOf (firstWhere (sameCards text words card) (drop from cards))
+  -- A search that begins later finds the same where none before has the hash.
+  pub search-from : (from : ℕ) → from ≤ length cards → ((j : ℕ) → j < from → getD hashes j 0 ≡ hash → ⊥) →
+      entryOf (find (sameCards text words card) cards) ≡ entryOf (find (sameCards text words card) (drop from cards))
   search-from zero h d = refl
   search-from (suc n) h d =
       search-from n (omega arith) (λ j l. d j (omega arith))
       ∙ search-miss text words cards card n h (search-differ n h (d n (omega arith)))
-      ∙ ap (λ (k : ℕ). entryOf (firstWhere (sameCards text words card) (drop k cards))) (add-one n)
+      ∙ ap (λ (k : ℕ). entryOf (find (sameCards text words card) (drop k cards))) (add-one n)
 
-  pub searched-from : (from : ℕ) → Searched text words (drop from cards) (drop from prints) card print
+  pub searched-from : (from : ℕ) → Searched text words (drop from cards) (drop from hashes) card hash
   searched-from from = record {
-    prints-are = ap (drop from) (s .prints-are) ∙ drop-print text words from cards;
-    print-is = s .print-is;
+    hashes-are = ap (drop from) (s .hashes-are) ∙ drop-hash text words from cards;
+    hash-is = s .hash-is;
   }
 
 -- ---- A card that comes to the first ones.
@@ -86,53 +84,55 @@ part-taken from count xs h l =
     ∙ ap (drop from) (take-add from (count - from) xs)
     ∙ drop-at (take from xs) (take (count - from) (drop from xs)) from (length-take-le from xs l)
 
-module _ (text words cards prints : List ℕ) (from count card print : ℕ) (s : Entering text words cards prints from count card print) where
+module _ (text words cards hashes : List ℕ) (from count card hash : ℕ) (s : Entering text words cards hashes from count card hash) where
   cards-part : drop from (take count cards) ≡ take (count - from) (drop from cards)
-  cards-part = part-taken from count cards (s .from-most) (omega (arith, s .from-most, s .cards-room))
+  cards-part = part-taken from count cards (s .from-most) (omega (arith, s .from-most, s .cards-capacity))
 
-  prints-part : drop from (take count prints) ≡ take (count - from) (drop from prints)
-  prints-part = part-taken from count prints (s .from-most) (omega (arith, s .from-most, s .prints-room))
+  hashes-part : drop from (take count hashes) ≡ take (count - from) (drop from hashes)
+  hashes-part = part-taken from count hashes (s .from-most) (omega (arith, s .from-most, s .hashes-capacity))
 
   -- The search goes over the part from `from` to `count`.
-  pub entering-searched : Searched text words (take (count - from) (drop from cards)) (take (count - from) (drop from prints)) card print
+  pub entering-searched : Searched text words (take (count - from) (drop from cards)) (take (count - from) (drop from hashes)) card hash
   entering-searched =
-      rw (sym cards-part, sym prints-part)
-      (searched-from text words (take count cards) (take count prints) card print (s .searched) from)
+      rw (sym cards-part, sym hashes-part)
+      (searched-from text words (take count cards) (take count hashes) card hash (s .searched) from)
 
-  searched-all : entryOf (firstWhere (sameCards text words card) (take count cards)) ≡ entryOf (firstWhere (sameCards text words card) (take (count - from) (drop from cards)))
+  searched-all : entryOf (find (sameCards text words card) (take count cards))
+      ≡ entryOf (find (sameCards text words card) (take (count - from) (drop from cards)))
   searched-all =
-      let l : length (take count cards) ≡ count = length-take-le count cards (omega (arith, s .cards-room)) in
-      search-from text words (take count cards) (take count prints) card print (s .searched) from (omega (arith, s .from-most)) (s .passed)
-      ∙ ap (λ (xs : List ℕ). entryOf (firstWhere (sameCards text words card) xs)) cards-part
+      let l : length (take count cards) ≡ count = length-take-le count cards (omega (arith, s .cards-capacity)) in
+      search-from text words (take count cards) (take count hashes) card hash (s .searched) from (omega (arith, s .from-most)) (s .passed)
+      ∙ ap (λ (xs : List ℕ). entryOf (find (sameCards text words card) xs)) cards-part
 
-  pub entered-old : (f : Entry) (d : ℕ) → f ≡ entryOf (firstWhere (sameCards text words card) (take (count - from) (drop from cards))) → f ≡ Occupied d →
-      Entered text words card count (record { card = d; count = count }) cards cards prints
+  pub entered-old : (f : Entry) (d : ℕ) → f ≡ entryOf (find (sameCards text words card) (take (count - from) (drop from cards))) → f ≡ Occupied d →
+      Entered text words card count (record { card = d; count = count }) cards cards hashes
   unfolding firstEntered enteredIn
   entered-old f d r e =
-      let q = occupied (firstWhere (sameCards text words card) (take count cards)) d (searched-all ∙ sym r ∙ e) in
+      let q = occupied (find (sameCards text words card) (take count cards)) d (searched-all ∙ sym r ∙ e) in
       record {
         first-is = rw q;
         cards-are = rw q;
-        prints-are = s .searched .prints-are;
+        hashes-are = s .searched .hashes-are;
         count-most = omega arith;
       }
 
-  pub entered-new : (f : Entry) → f ≡ entryOf (firstWhere (sameCards text words card) (take (count - from) (drop from cards))) → f ≡ Vacant →
+  pub entered-new : (f : Entry) → f ≡ entryOf (find (sameCards text words card) (take (count - from) (drop from cards))) → f ≡ Vacant →
       Entered text words card count (record { card = card; count = count + 1 }) cards (set cards count card)
-      (set prints count print)
+      (set hashes count hash)
   unfolding firstEntered enteredIn
   entered-new f r e =
-      let q = vacant (firstWhere (sameCards text words card) (take count cards)) (searched-all ∙ sym r ∙ e) in
-      let taken : take (count + 1) (set cards count card) ≡ take count cards ++ (card ∷ []) = rw add-one (take-suc-set cards count card (s .cards-room)) in
-      let printed : take (count + 1) (set prints count print) ≡ take count prints ++ (print ∷ []) = rw add-one (take-suc-set prints count print (s .prints-room)) in
+      let q = vacant (find (sameCards text words card) (take count cards)) (searched-all ∙ sym r ∙ e) in
+      let taken : take (count + 1) (set cards count card) ≡ take count cards ++ (card ∷ []) = rw add-one (take-suc-set cards count card (s .cards-capacity)) in
+      let hashed : take (count + 1) (set hashes count hash) ≡ take count hashes ++ (hash ∷ []) =
+      rw add-one (take-suc-set hashes count hash (s .hashes-capacity)) in
       record {
         first-is = rw q;
         cards-are = rw q taken;
-        prints-are =
-            printed
-            ∙ ap (λ (l : List ℕ). l ++ (print ∷ [])) (s .searched .prints-are)
-            ∙ ap (λ (p : ℕ). map (cardPrint text words) (take count cards) ++ (p ∷ [])) (s .searched .print-is)
-            ∙ sym (map-append (cardPrint text words) (take count cards) (card ∷ []))
-            ∙ ap (map (cardPrint text words)) (sym taken);
+        hashes-are =
+            hashed
+            ∙ ap (λ (l : List ℕ). l ++ (hash ∷ [])) (s .searched .hashes-are)
+            ∙ ap (λ (p : ℕ). map (cardHash text words) (take count cards) ++ (p ∷ [])) (s .searched .hash-is)
+            ∙ sym (map-append (cardHash text words) (take count cards) (card ∷ []))
+            ∙ ap (map (cardHash text words)) (sym taken);
         count-most = omega arith;
       }

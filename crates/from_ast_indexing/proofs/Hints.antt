@@ -1,75 +1,72 @@
--- Where the search for a fingerprint may begin, and what a fingerprint that comes next does to it.
+-- Where the search for a hash may begin, and what a hash that comes next does to it.
 use mathlib.Core.Path.{_≡_, refl, _∙_, ap}
 use mathlib.Core.List.{List, [], _∷_, _++_}
 use mathlib.Core.Bool.{Bool, true, false}
-use Prim.Native.Nat.{ℕ, zero, suc, _+_, _%_, _≤_, _<_}
+use Prim.Native.Nat.{ℕ, _+_, _%_, _≤_, _<_}
 use native.Mathlib.Nat.{mod-lt}
 use native.Mathlib.Omega.{arith}
 use lib.Dec.{eqb, ltb}
-use lib.ListN.{length, getD, set, length-append, length-set}
+use lib.ListN.{length, getD, set, length-append, length-set, List·getD-append}
 use lib.Seq.{getD-set-same, getD-set-other, getD-at}
 use borrow.Author.Tests.{eqb-true, eqb-false, ltb-true, ltb-false}
 use Rattle.from_ast_indexing.specs.Entering.{Hinted}
 
-pub hint-none : (firsts : List ℕ) → 0 < length firsts → Hinted [] firsts
-hint-none firsts h = record { slots = h; hinted = λ j l. absurd (omega arith) }
+pub hint-none : (buckets : List ℕ) → 0 < length buckets → Hinted [] buckets
+hint-none buckets h = record { slots = h; hinted = λ j l. absurd (omega arith) }
 
-getD-before : (xs ys : List ℕ) (j : ℕ) → j < length xs → getD (xs ++ ys) j 0 ≡ getD xs j 0
-getD-before [] ys j h = absurd (omega arith)
-getD-before (x ∷ xs) ys zero h = refl
-getD-before (x ∷ xs) ys (suc j) h = getD-before xs ys j (omega arith)
+module _ (hashes buckets : List ℕ) (h : Hinted hashes buckets) (hash from : ℕ) (l : from ≤ getD buckets (hash % length buckets) 0) where
+  -- None before has the hash.
+  pub hint-passed : (j : ℕ) → j < from → j < length hashes → getD hashes j 0 ≡ hash → ⊥
+  hint-passed j k capacity e =
+      let q : getD buckets (getD hashes j 0 % length buckets) 0 ≡ getD buckets (hash % length buckets) 0 =
+      ap (λ (p : ℕ). getD buckets (p % length buckets) 0) e in
+      omega (arith, h .hinted j capacity)
 
-module _ (prints firsts : List ℕ) (h : Hinted prints firsts) (print from : ℕ) (l : from ≤ getD firsts (print % length firsts) 0) where
-  -- None before has the fingerprint.
-  pub hint-passed : (j : ℕ) → j < from → j < length prints → getD prints j 0 ≡ print → ⊥
-  hint-passed j k room e =
-      let q : getD firsts (getD prints j 0 % length firsts) 0 ≡ getD firsts (print % length firsts) 0 = ap (λ (p : ℕ). getD firsts (p % length firsts) 0) e in
-      omega (arith, h .hinted j room)
-
-  own-slot : getD (set firsts (print % length firsts) from) (print % length firsts) 0 ≡ from
-  own-slot = getD-set-same firsts (print % length firsts) from 0 (mod-lt print (h .slots))
+  own-slot : getD (set buckets (hash % length buckets) from) (hash % length buckets) 0 ≡ from
+  own-slot = getD-set-same buckets (hash % length buckets) from 0 (mod-lt hash (h .slots))
 
   -- No word grows.
-  slot-most : (s j : ℕ) → getD firsts s 0 ≤ j → getD (set firsts (print % length firsts) from) s 0 ≤ j
-  slot-most s j n = go (eqb s (print % length firsts)) refl
+  slot-most : (s j : ℕ) → getD buckets s 0 ≤ j → getD (set buckets (hash % length buckets) from) s 0 ≤ j
+  slot-most s j n = go (eqb s (hash % length buckets)) refl
     where
-      go : (b : Bool) → eqb s (print % length firsts) ≡ b → getD (set firsts (print % length firsts) from) s 0 ≤ j
+      go : (b : Bool) → eqb s (hash % length buckets) ≡ b → getD (set buckets (hash % length buckets) from) s 0 ≤ j
       go true e =
-          let q = eqb-true s (print % length firsts) e in
-          let new : getD (set firsts (print % length firsts) from) s 0 ≡ from = ap (λ (k : ℕ). getD (set firsts (print % length firsts) from) k 0) q ∙ own-slot in
-          let old : getD firsts s 0 ≡ getD firsts (print % length firsts) 0 = ap (λ (k : ℕ). getD firsts k 0) q in
+          let q = eqb-true s (hash % length buckets) e in
+          let new : getD (set buckets (hash % length buckets) from) s 0 ≡ from =
+          ap (λ (k : ℕ). getD (set buckets (hash % length buckets) from) k 0) q ∙ own-slot in
+          let old : getD buckets s 0 ≡ getD buckets (hash % length buckets) 0 = ap (λ (k : ℕ). getD buckets k 0) q in
           omega arith
       go false e =
-          let new = getD-set-other firsts (print % length firsts) s from 0 (eqb-false s (print % length firsts) e) in
+          let new = getD-set-other buckets (hash % length buckets) s from 0 (eqb-false s (hash % length buckets) e) in
           omega arith
 
-  kept-length : length (set firsts (print % length firsts) from) ≡ length firsts
-  kept-length = length-set firsts (print % length firsts) from
+  kept-length : length (set buckets (hash % length buckets) from) ≡ length buckets
+  kept-length = length-set buckets (hash % length buckets) from
 
-  pub hint-kept : Hinted prints (set firsts (print % length firsts) from)
+  pub hint-kept : Hinted hashes (set buckets (hash % length buckets) from)
   hint-kept = record {
     slots = omega (arith, kept-length, h .slots);
-    hinted = λ j k. rw kept-length (slot-most (getD prints j 0 % length firsts) j (h .hinted j k));
+    hinted = λ j k. rw kept-length (slot-most (getD hashes j 0 % length buckets) j (h .hinted j k));
   }
 
-  more-at : from ≤ length prints → (j : ℕ) → j < length (prints ++ (print ∷ [])) →
-      getD (set firsts (print % length firsts) from) (getD (prints ++ (print ∷ [])) j 0 % length firsts) 0 ≤ j
-  more-at room j k = go (ltb j (length prints)) refl
+  more-at : from ≤ length hashes → (j : ℕ) → j < length (hashes ++ (hash ∷ [])) →
+      getD (set buckets (hash % length buckets) from) (getD (hashes ++ (hash ∷ [])) j 0 % length buckets) 0 ≤ j
+  more-at capacity j k = go (ltb j (length hashes)) refl
     where
-      go : (b : Bool) → ltb j (length prints) ≡ b →
-          getD (set firsts (print % length firsts) from) (getD (prints ++ (print ∷ [])) j 0 % length firsts) 0 ≤ j
+      go : (b : Bool) → ltb j (length hashes) ≡ b →
+          getD (set buckets (hash % length buckets) from) (getD (hashes ++ (hash ∷ [])) j 0 % length buckets) 0 ≤ j
       go true e =
-          let i = ltb-true j (length prints) e in
-          rw (getD-before prints (print ∷ []) j i) (slot-most (getD prints j 0 % length firsts) j (h .hinted j i))
+          let i = ltb-true j (length hashes) e in
+          rw (List·getD-append hashes (hash ∷ []) 0 j i) (slot-most (getD hashes j 0 % length buckets) j (h .hinted j i))
       go false e =
-          let i = ltb-false j (length prints) e in
-          let at : length prints ≡ j = omega (arith, length-append prints (print ∷ [])) in
-          let q : getD (set firsts (print % length firsts) from) (getD (prints ++ (print ∷ [])) j 0 % length firsts) 0 ≡ from =
-          ap (λ (p : ℕ). getD (set firsts (print % length firsts) from) (p % length firsts) 0) (getD-at prints print [] 0 j at) ∙ own-slot in
+          let i = ltb-false j (length hashes) e in
+          let at : length hashes ≡ j = omega (arith, length-append hashes (hash ∷ [])) in
+          let q : getD (set buckets (hash % length buckets) from) (getD (hashes ++ (hash ∷ [])) j 0 % length buckets) 0 ≡ from =
+          ap (λ (p : ℕ). getD (set buckets (hash % length buckets) from) (p % length buckets) 0) (getD-at hashes hash [] 0 j at) ∙ own-slot in
           omega arith
 
-  pub hint-more : from ≤ length prints → Hinted (prints ++ (print ∷ [])) (set firsts (print % length firsts) from)
-  hint-more room = record {
+  pub hint-more : from ≤ length hashes → Hinted (hashes ++ (hash ∷ [])) (set buckets (hash % length buckets) from)
+  hint-more capacity = record {
     slots = omega (arith, kept-length, h .slots);
-    hinted = λ j k. rw kept-length (more-at room j k);
+    hinted = λ j k. rw kept-length (more-at capacity j k);
   }

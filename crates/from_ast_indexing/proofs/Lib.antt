@@ -1,5 +1,6 @@
-pub mod Prints
-pub mod Heads
+-- What the walks do, turn by turn; and, in Told, that the arrays then hold what the headings say.
+pub mod HashLaws
+pub mod Headings
 pub mod Owners
 pub mod Told
 pub mod EntrySearch

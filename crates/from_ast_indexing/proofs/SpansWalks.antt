@@ -53,21 +53,23 @@ module _ (owners extensions : List ℕ) where
   pub ends-none : (ends : List ℕ) → EndsAre owners extensions ends 0
   ends-none ends = record { before-end = λ i h l. absurd (omega arith) }
 
-  pub ends-turn : (ends : List ℕ) (k : ℕ) → EndsAre owners extensions ends k → EndsAre owners extensions (set ends (ownerAt owners extensions k) (k + 1)) (k + 1)
+  pub ends-turn : (ends : List ℕ) (k : ℕ) → EndsAre owners extensions ends k →
+      EndsAre owners extensions (set ends (ownerAt owners extensions k) (k + 1)) (k + 1)
   ends-turn ends k s = record { before-end = later-ends (ownerAt owners extensions) ends k (s .before-end) }
 
   pub starts-none : (starts : List ℕ) → StartsAre owners extensions starts (length extensions)
   starts-none starts = record { at-or-after = λ i h u l. absurd (omega arith) }
 
-  pub starts-turn : (starts : List ℕ) (k : ℕ) → StartsAre owners extensions starts (k + 1) → StartsAre owners extensions (set starts (ownerAt owners extensions k) k) k
+  pub starts-turn : (starts : List ℕ) (k : ℕ) → StartsAre owners extensions starts (k + 1) →
+      StartsAre owners extensions (set starts (ownerAt owners extensions k) k) k
   starts-turn starts k s = record { at-or-after = earlier-starts (ownerAt owners extensions) starts k (length extensions) (s .at-or-after) }
 
-module _ (text words heads prints owners typeCards orphanCards extensionCards : List ℕ) (m t o e : ℕ)
-    (x : Indexed text words heads prints owners typeCards orphanCards extensionCards m t o e) where
+module _ (text words headings hashes owners typeCards orphanCards extensionCards : List ℕ) (m t o e : ℕ)
+    (x : Indexed text words headings hashes owners typeCards orphanCards extensionCards m t o e) where
   pub spans-ready : SpansAsked owners (take e extensionCards)
   spans-ready = record {
     stored = λ j h. in-owners j (omega (arith, h, taken-most e extensionCards));
-    few = omega (arith, taken-most e extensionCards, x .extensions-most, x .headings-most, x .printed .cards-most);
+    few = omega (arith, taken-most e extensionCards, x .extensions-most, x .headings-most, x .hashed .cards-most);
   }
     where
       in-owners : (j : ℕ) → j < e → getD (take e extensionCards) j 0 < length owners

@@ -1,3 +1,4 @@
+-- What each step of filling the arrays asks and does.
 pub mod Steps
 pub mod Entering
 pub mod Types

@@ -4,10 +4,10 @@ use mathlib.Core.List.{List, [], _∷_, _++_, map}
 use mathlib.Core.Bool.{true, false}
 use Prim.Native.Nat.{ℕ, _+_, _≤_, _<_}
 use lib.ListN.{length, take, getD}
-use Rattle.definition.specs.Lists.{keep, firsts}
+use Rattle.definition.specs.Lists.{filter, firsts}
 use Rattle.definition.specs.Cards.{isPart}
-use Rattle.definition.specs.Refusals.{cardRoom}
-use Rattle.definition.specs.Store.{cardsUsed, wordsRoom, sound}
+use Rattle.definition.specs.Refusals.{cardCapacity}
+use Rattle.definition.specs.Store.{cardsUsed, wordsCapacity, sound}
 use Rattle.store_reader.specs.Stored.{cardKind, storedHeadings}
 use Rattle.from_ast_index.specs.Index.{headingNumber, sameCards, Cards}
 use Rattle.from_ast_index.specs.declared.Counts.{Counts}
@@ -17,53 +17,53 @@ use Rattle.from_ast_indexing.specs.Extensions.{isExtensionCard, isUnowne
 
 -- ---- All arrays.
 
--- What filling the arrays asks: a store that decodes, and room for its cards; one more heading marks the end. `firsts` has any length.
-pub record IndexAsked (text words heads prints owners types orphans extensions starts ends firsts : List ℕ) : Type 0 where
+-- What filling the arrays asks: a store that decodes, and room for its cards; one more heading marks the end. `buckets` has any length but 0.
+pub record IndexAsked (text words headings hashes owners types orphans extensions starts ends buckets : List ℕ) : Type 0 where
   pub store-sound : sound text words ≡ true
-  pub words-length : wordsRoom ≤ length words
-  pub heads-length : cardsUsed words < length heads
-  pub prints-length : cardsUsed words ≤ length prints
+  pub words-length : wordsCapacity ≤ length words
+  pub headings-length : cardsUsed words < length headings
+  pub hashes-length : cardsUsed words ≤ length hashes
   pub owners-length : cardsUsed words ≤ length owners
   pub types-length : cardsUsed words ≤ length types
   pub orphans-length : cardsUsed words ≤ length orphans
   pub extensions-length : cardsUsed words ≤ length extensions
   pub starts-length : cardsUsed words ≤ length starts
   pub ends-length : cardsUsed words ≤ length ends
-  pub slots : 0 < length firsts
+  pub slots : 0 < length buckets
 
 -- ---- Headings.
 
-pub record HeadsAsked (words heads : List ℕ) : Type 0 where
-  pub cards-most : cardsUsed words ≤ cardRoom
-  pub heads-room : cardsUsed words < length heads
+pub record HeadingsAsked (words headings : List ℕ) : Type 0 where
+  pub cards-most : cardsUsed words ≤ cardCapacity
+  pub headings-capacity : cardsUsed words < length headings
   pub headed : 0 < cardsUsed words → isPart (cardKind words 0) ≡ false
 
-pub record HeadsAre (words heads : List ℕ) (m : ℕ) : Type 0 where
-  pub heads-are : (text : List ℕ) → take (m + 1) heads ≡ map headingNumber (storedHeadings text words) ++ (cardsUsed words ∷ [])
-  pub headings-count : (text : List ℕ) → length (storedHeadings text words) ≡ m
-  pub headings-most : m ≤ cardsUsed words
+pub record HeadingsAre (words headings : List ℕ) (headingCount : ℕ) : Type 0 where
+  pub headings-are : (text : List ℕ) → take (headingCount + 1) headings ≡ map headingNumber (storedHeadings text words) ++ (cardsUsed words ∷ [])
+  pub headings-count : (text : List ℕ) → length (storedHeadings text words) ≡ headingCount
+  pub headings-most : headingCount ≤ cardsUsed words
 
 -- ---- Types, extensions and orphans of all headings' cards.
 
-pub record OwnersAsked (text words prints cards owners types orphans extensions scratch : List ℕ) : Type 0 where
-  pub all-cards : Cards text words prints cards
-  pub owners-room : cardsUsed words ≤ length owners
-  pub types-room : cardsUsed words ≤ length types
-  pub orphans-room : cardsUsed words ≤ length orphans
-  pub extensions-room : cardsUsed words ≤ length extensions
-  pub scratch-room : cardsUsed words ≤ length scratch
+pub record OwnersAsked (text words hashes cards owners types orphans extensions scratch : List ℕ) : Type 0 where
+  pub all-cards : Cards text words hashes cards
+  pub owners-capacity : cardsUsed words ≤ length owners
+  pub types-capacity : cardsUsed words ≤ length types
+  pub orphans-capacity : cardsUsed words ≤ length orphans
+  pub extensions-capacity : cardsUsed words ≤ length extensions
+  pub scratch-capacity : cardsUsed words ≤ length scratch
 
 pub record OwnersAre (text words cards owners types orphans extensions : List ℕ) (r : Counts) : Type 0 where
   pub headings-are : r .headings ≡ length cards
-  pub types-are : take (r .types) types ≡ firsts (sameCards text words) [] (keep (isTypeCard words) cards)
-  pub extensions-are : take (r .extensions) extensions ≡ keep (isExtensionCard words) cards
-  pub orphans-are : take (r .orphans) orphans ≡ firsts (sameCards text words) [] (keep (isUnowned owners) (keep (isExtensionCard words) cards))
+  pub types-are : take (r .types) types ≡ firsts (sameCards text words) [] (filter (isTypeCard words) cards)
+  pub extensions-are : take (r .extensions) extensions ≡ filter (isExtensionCard words) cards
+  pub orphans-are : take (r .orphans) orphans ≡ firsts (sameCards text words) [] (filter (isUnowned owners) (filter (isExtensionCard words) cards))
   pub type-owners :
       (j : ℕ) → j < length cards → isTypeCard words (getD cards j 0) ≡ true →
-      getD owners (getD cards j 0) 0 ≡ firstCard (sameCards text words) (getD cards j 0) (keep (isTypeCard words) cards)
+      getD owners (getD cards j 0) 0 ≡ firstCard (sameCards text words) (getD cards j 0) (filter (isTypeCard words) cards)
   pub extension-owners :
       (j : ℕ) → j < length cards → isExtensionCard words (getD cards j 0) ≡ true →
-      getD owners (getD cards j 0) 0 ≡ firstCard (sameCards text words) (getD cards j 0) (keep (isTypeCard words) cards)
+      getD owners (getD cards j 0) 0 ≡ firstCard (sameCards text words) (getD cards j 0) (filter (isTypeCard words) cards)
   pub types-most : r .types ≤ length cards
   pub extensions-most : r .extensions ≤ length cards
   pub orphans-most : r .orphans ≤ r .extensions

@@ -1,11 +1,10 @@
 // The type extensions of a store, their owners, and the first orphan of each name.
-use definition::ABSENT;
 use crate::entry::Entry;
-ghost use mathlib.Core.Path.{_≡_};
+use ast::kinds;
+use definition::ABSENT;
 ghost use lib.ListN.{length};
 ghost use Rattle.from_ast_indexing.specs.Entering.{Hinted};
 ghost use Rattle.from_ast_indexing.specs.Extensions.{
-  extendsType,
   ExtensionAsked,
   ExtensionTurn,
   ExtensionsAsked,
@@ -16,46 +15,39 @@ ghost use Rattle.from_ast_indexing.specs.Extensions.{
   OrphansAre,
 };
 
-// A type extension's kind.
-pub fn is_type_extension(kind: u32) -> bool
-    ensures { λ r. ⌜ r ≡ extendsType kind ⌝ }
-{
-    if kind < 12 {
-        return false;
-    }
-    kind <= 17
-}
-
 // One heading: an extension is listed, and the first definition of its name owns it.
 fn index_extension(
     text: &[u8],
     words: &[u32],
-    prints: &[u32],
+    hashes: &[u32],
     types: &[u32],
-    type_prints: &[u32],
-    firsts: &[u32],
+    type_hashes: &[u32],
+    buckets: &[u32],
     card: u32,
     owners: &mut [u32],
     extensions: &mut [u32],
     count: usize,
 ) -> usize
-    requires { ⌜ ExtensionAsked (now text) (now words) (now prints) (now types) (now «type_prints») (now owners) (now extensions) card count × Hinted (now «type_prints») (now firsts) ⌝ }
-    ensures { λ r. ⌜ ExtensionTurn (now (text .entry)) (now (words .entry)) (now (types .entry)) card count r (now (owners .entry)) (now (owners .exit)) (now (extensions .entry)) (now (extensions .exit)) ⌝ }
+    requires { ⌜ ExtensionAsked (now text) (now words) (now hashes) (now types) (now «type_hashes») (now owners) (now extensions)
+        card count
+        × Hinted (now «type_hashes») (now buckets) ⌝ }
+    ensures { λ r. ⌜ ExtensionTurn (now (text .entry)) (now (words .entry)) (now (types .entry)) card count r (now (owners .entry))
+        (now (owners .exit)) (now (extensions .entry)) (now (extensions .exit)) ⌝ }
 {
     let at = card as usize;
-    if !is_type_extension(store_reader::card_kind(words, at)) {
+    if !kinds::is_type_extension(store_reader::card_kind(words, at)) {
         return count;
     }
     extensions[count] = card;
-    let print = prints[at];
-    let from = crate::entry::hint(firsts, print, type_prints.len());
+    let hash = hashes[at];
+    let from = crate::entry::hint(buckets, hash, type_hashes.len());
     let Entry::Occupied(first) = crate::entry::find(
         text,
         words,
         &types[from..],
-        &type_prints[from..],
+        &type_hashes[from..],
         card,
-        print,
+        hash,
     ) else {
         owners[at] = ABSENT;
         return count + 1;
@@ -68,28 +60,31 @@ fn index_extension(
 pub fn index_extensions(
     text: &[u8],
     words: &[u32],
-    prints: &[u32],
-    heads: &[u32],
+    headings: &[u32],
+    hashes: &[u32],
     types: &[u32],
-    type_prints: &[u32],
-    firsts: &[u32],
+    type_hashes: &[u32],
+    buckets: &[u32],
     owners: &mut [u32],
     extensions: &mut [u32],
 ) -> usize
-    requires { ⌜ ExtensionsAsked (now text) (now words) (now prints) (now heads) (now types) (now «type_prints») (now owners) (now extensions) × Hinted (now «type_prints») (now firsts) ⌝ }
-    ensures { λ r. ⌜ ExtensionsAre (now (text .entry)) (now (words .entry)) (now (heads .entry)) (now (types .entry)) (now (owners .entry)) (now (owners .exit)) (now (extensions .exit)) (length (now (heads .entry))) r ⌝ }
+    requires { ⌜ ExtensionsAsked (now text) (now words) (now hashes) (now headings) (now types) (now «type_hashes») (now owners)
+        (now extensions)
+        × Hinted (now «type_hashes») (now buckets) ⌝ }
+    ensures { λ r. ⌜ ExtensionsAre (now (text .entry)) (now (words .entry)) (now (headings .entry)) (now (types .entry))
+        (now (owners .entry)) (now (owners .exit)) (now (extensions .exit)) (length (now (headings .entry))) r ⌝ }
 {
     let mut count = 0;
     let mut k = 0;
-    while k < heads.len() {
+    while k < headings.len() {
         count = index_extension(
             text,
             words,
-            prints,
+            hashes,
             types,
-            type_prints,
-            firsts,
-            heads[k],
+            type_hashes,
+            buckets,
+            headings[k],
             owners,
             extensions,
             count,
@@ -103,15 +98,16 @@ pub fn index_extensions(
 fn index_orphan(
     text: &[u8],
     words: &[u32],
-    prints: &[u32],
+    hashes: &[u32],
     owners: &[u32],
     card: u32,
     orphans: &mut [u32],
-    orphan_prints: &mut [u32],
+    orphan_hashes: &mut [u32],
     count: usize,
 ) -> usize
-    requires { ⌜ OrphanAsked (now text) (now words) (now prints) (now owners) (now orphans) (now «orphan_prints») card count ⌝ }
-    ensures { λ r. ⌜ OrphanTurn (now (text .entry)) (now (words .entry)) (now (owners .entry)) card count r (now (orphans .entry)) (now (orphans .exit)) (now («orphan_prints» .exit)) ⌝ }
+    requires { ⌜ OrphanAsked (now text) (now words) (now hashes) (now owners) (now orphans) (now «orphan_hashes») card count ⌝ }
+    ensures { λ r. ⌜ OrphanTurn (now (text .entry)) (now (words .entry)) (now (owners .entry)) card count r (now (orphans .entry))
+        (now (orphans .exit)) (now («orphan_hashes» .exit)) ⌝ }
 {
     let at = card as usize;
     if owners[at] != ABSENT {
@@ -121,9 +117,9 @@ fn index_orphan(
         text,
         words,
         card,
-        prints[at],
+        hashes[at],
         orphans,
-        orphan_prints,
+        orphan_hashes,
         0,
         count,
     );
@@ -134,14 +130,16 @@ fn index_orphan(
 pub fn index_orphans(
     text: &[u8],
     words: &[u32],
-    prints: &[u32],
+    hashes: &[u32],
     owners: &[u32],
     extensions: &[u32],
     orphans: &mut [u32],
-    orphan_prints: &mut [u32],
+    orphan_hashes: &mut [u32],
 ) -> usize
-    requires { ⌜ OrphansAsked (now text) (now words) (now prints) (now owners) (now extensions) (now orphans) (now «orphan_prints») ⌝ }
-    ensures { λ r. ⌜ OrphansAre (now (text .entry)) (now (words .entry)) (now (owners .entry)) (now (extensions .entry)) (now (orphans .exit)) (now («orphan_prints» .exit)) (length (now (extensions .entry))) r ⌝ }
+    requires { ⌜ OrphansAsked (now text) (now words) (now hashes) (now owners) (now extensions) (now orphans)
+        (now «orphan_hashes») ⌝ }
+    ensures { λ r. ⌜ OrphansAre (now (text .entry)) (now (words .entry)) (now (owners .entry)) (now (extensions .entry))
+        (now (orphans .exit)) (now («orphan_hashes» .exit)) (length (now (extensions .entry))) r ⌝ }
 {
     let mut count = 0;
     let mut k = 0;
@@ -149,11 +147,11 @@ pub fn index_orphans(
         count = index_orphan(
             text,
             words,
-            prints,
+            hashes,
             owners,
             extensions[k],
             orphans,
-            orphan_prints,
+            orphan_hashes,
             count,
         );
         k += 1;

@@ -5,7 +5,7 @@ ghost use Rattle.from_ast_index.specs.Index.{StartsAre, EndsAre};
 ghost use Rattle.from_ast_indexing.specs.Spans.{SpansAsked};
 
 // Writes a word where the array has that place.
-fn note(array: &mut [u32], at: usize, word: u32)
+fn note(at: usize, word: u32, array: &mut [u32])
     ensures { λ _. ⌜ now (array .exit) ≡ set (now (array .entry)) at word ⌝ }
 {
     if array.len() <= at {
@@ -22,7 +22,7 @@ pub fn index_starts(owners: &[u32], extensions: &[u32], starts: &mut [u32])
     let mut i = extensions.len();
     while i > 0 {
         i -= 1;
-        note(starts, owners[extensions[i] as usize] as usize, i as u32);
+        note(owners[extensions[i] as usize] as usize, i as u32, starts);
     }
 }
 
@@ -35,6 +35,6 @@ pub fn index_ends(owners: &[u32], extensions: &[u32], ends: &mut [u32])
     while i < extensions.len() {
         let owner = owners[extensions[i] as usize];
         i += 1;
-        note(ends, owner as usize, i as u32);
+        note(owner as usize, i as u32, ends);
     }
 }

@@ -1,6 +1,5 @@
-// The types of a store: the first definition of each name, found among those before by the fingerprint.
+// The types of a store: the first definition of each name, found among those before by the hash.
 use ast::kinds;
-ghost use mathlib.Core.Path.{_≡_};
 ghost use Prim.Native.Nat.{_<_};
 ghost use lib.ListN.{length, take};
 ghost use Rattle.from_ast_indexing.specs.Entering.{Hinted};
@@ -10,26 +9,29 @@ ghost use Rattle.from_ast_indexing.specs.Types.{TypeAsked, TypeTurn, Typ
 fn index_type(
     text: &[u8],
     words: &[u32],
-    prints: &[u32],
+    hashes: &[u32],
     card: u32,
     owners: &mut [u32],
     types: &mut [u32],
-    type_prints: &mut [u32],
-    firsts: &mut [u32],
+    type_hashes: &mut [u32],
+    buckets: &mut [u32],
     count: usize,
 ) -> usize
-    requires { ⌜ TypeAsked (now text) (now words) (now prints) (now owners) (now types) (now «type_prints») card count × Hinted (take count (now «type_prints»)) (now firsts) ⌝ }
-    ensures { λ r. ⌜ TypeTurn (now (text .entry)) (now (words .entry)) card count r (now (owners .entry)) (now (owners .exit)) (now (types .entry)) (now (types .exit)) (now («type_prints» .exit)) × Hinted (take r (now («type_prints» .exit))) (now (firsts .exit)) ⌝ }
+    requires { ⌜ TypeAsked (now text) (now words) (now hashes) (now owners) (now types) (now «type_hashes») card count
+        × Hinted (take count (now «type_hashes»)) (now buckets) ⌝ }
+    ensures { λ r. ⌜ TypeTurn (now (text .entry)) (now (words .entry)) card count r (now (owners .entry)) (now (owners .exit))
+        (now (types .entry)) (now (types .exit)) (now («type_hashes» .exit))
+        × Hinted (take r (now («type_hashes» .exit))) (now (buckets .exit)) ⌝ }
 {
     let at = card as usize;
     if !kinds::is_type(store_reader::card_kind(words, at)) {
         return count;
     }
-    let print = prints[at];
-    let from = crate::entry::hint(firsts, print, count);
-    let slot = print as usize % firsts.len();
-    firsts[slot] = from as u32;
-    let first = crate::entry::enter(text, words, card, print, types, type_prints, from, count);
+    let hash = hashes[at];
+    let from = crate::entry::hint(buckets, hash, count);
+    let slot = hash as usize % buckets.len();
+    buckets[slot] = from as u32;
+    let first = crate::entry::enter(text, words, card, hash, types, type_hashes, from, count);
     owners[at] = first.card;
     first.count
 }
@@ -38,28 +40,31 @@ fn index_type(
 pub fn index_types(
     text: &[u8],
     words: &[u32],
-    prints: &[u32],
-    heads: &[u32],
+    headings: &[u32],
+    hashes: &[u32],
     owners: &mut [u32],
     types: &mut [u32],
-    type_prints: &mut [u32],
-    firsts: &mut [u32],
+    type_hashes: &mut [u32],
+    buckets: &mut [u32],
 ) -> usize
-    requires { ⌜ TypesAsked (now text) (now words) (now prints) (now heads) (now owners) (now types) (now «type_prints») × (0 < length (now firsts)) ⌝ }
-    ensures { λ r. ⌜ TypesAre (now (text .entry)) (now (words .entry)) (now (heads .entry)) (now (owners .exit)) (now (types .exit)) (now («type_prints» .exit)) (length (now (heads .entry))) r × Hinted (take r (now («type_prints» .exit))) (now (firsts .exit)) ⌝ }
+    requires { ⌜ TypesAsked (now text) (now words) (now hashes) (now headings) (now owners) (now types) (now «type_hashes»)
+        × (0 < length (now buckets)) ⌝ }
+    ensures { λ r. ⌜ TypesAre (now (text .entry)) (now (words .entry)) (now (headings .entry)) (now (owners .exit))
+        (now (types .exit)) (now («type_hashes» .exit)) (length (now (headings .entry))) r
+        × Hinted (take r (now («type_hashes» .exit))) (now (buckets .exit)) ⌝ }
 {
     let mut count = 0;
     let mut k = 0;
-    while k < heads.len() {
+    while k < headings.len() {
         count = index_type(
             text,
             words,
-            prints,
-            heads[k],
+            hashes,
+            headings[k],
             owners,
             types,
-            type_prints,
-            firsts,
+            type_hashes,
+            buckets,
             count,
         );
         k += 1;

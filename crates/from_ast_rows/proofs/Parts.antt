@@ -3,12 +3,13 @@ use mathlib.Core.Path.{_≡_, refl, sym, ap, _∙_}
 use mathlib.Core.Bool.{Bool, true, false}
 use mathlib.Core.List.{List, _∷_}
 use Prim.Native.Nat.{ℕ, _<_}
-use lib.ListN.{getD, take}
-use Rattle.definition.specs.Lists.{flatMap}
-use Rattle.definition.specs.Catalogue.{underType}
+use native.Mathlib.Omega.{arith}
+use lib.ListN.{length, getD, take}
+use lib.Seq.{getD-take}
 use Rattle.from_ast_index.specs.Index.{sameCards, Indexed, Spanned, ownExtensions}
+use Rattle.from_ast_index.proofs.Lists.{taken-most}
 use Rattle.from_ast_index.proofs.Spans.{kept-spanned}
-use Rattle.component.specs.Drawn.{extensionKind, isMatching, matching, listAt, typeRowAt, typeRowsAt}
+use Rattle.component.specs.RowsByCards.{extensionKind, isMatching, matching, listsAt, typeRowAt, typeRowsAt}
 use Rattle.component.proofs.Matching.{matching-unlike}
 use Rattle.from_ast_rows.specs.Parted.{Parted}
 
@@ -19,8 +20,8 @@ matching-named text words ext owner n h = go (sameCards text words owner n) refl
     go true e = e
     go false e = let q : true ≡ false = sym h ∙ matching-unlike text words ext owner n e in cc
 
-module _ (text words heads prints owners typeCards orphanCards extensionCards : List ℕ) (m t o e : ℕ)
-    (x : Indexed text words heads prints owners typeCards orphanCards extensionCards m t o e)
+module _ (text words headings hashes owners typeCards orphanCards extensionCards : List ℕ) (m t o e : ℕ)
+    (x : Indexed text words headings hashes owners typeCards orphanCards extensionCards m t o e)
     (starts ends : List ℕ) (s : Spanned words owners (take e extensionCards) starts ends) where
   part-matching : (k : ℕ) → k < t →
       matching text words (ownExtensions (take e extensionCards) starts ends (getD typeCards k 0)) (getD typeCards k 0)
@@ -28,16 +29,21 @@ module _ (text words heads prints owners typeCards orphanCards extensionCards : 
   unfolding matching
   part-matching k k-t =
       let c = getD typeCards k 0 in
-      sym (kept-spanned text words heads prints owners typeCards orphanCards extensionCards m t o e x starts ends s k k-t
+      sym (kept-spanned text words headings hashes owners typeCards orphanCards extensionCards m t o e x starts ends s k k-t
       (isMatching text words (extensionKind words c) c) (λ d h. matching-named text words (extensionKind words c) c d h))
 
-  part-drawn : (k : ℕ) → k < t →
+  part-built : (k : ℕ) → k < t →
       typeRowsAt text words (ownExtensions (take e extensionCards) starts ends (getD typeCards k 0)) (getD typeCards k 0)
       ≡ typeRowsAt text words (take e extensionCards) (getD typeCards k 0)
   unfolding typeRowsAt
-  part-drawn k k-t =
+  part-built k k-t =
       let c = getD typeCards k 0 in
-      ap (λ (l : List ℕ). typeRowAt words c ∷ flatMap (listAt text words l c) underType) (part-matching k k-t)
+      ap (λ (l : List ℕ). typeRowAt words c ∷ listsAt text words l c) (part-matching k k-t)
 
-  pub spanned-parted : Parted text words typeCards extensionCards starts ends t e
-  spanned-parted = record { starts-length = s .starts-length; ends-length = s .ends-length; part-draws = part-drawn }
+  part-here : (k : ℕ) → k < length (take t typeCards) →
+      typeRowsAt text words (ownExtensions (take e extensionCards) starts ends (getD (take t typeCards) k 0)) (getD (take t typeCards) k 0)
+      ≡ typeRowsAt text words (take e extensionCards) (getD (take t typeCards) k 0)
+  part-here k l = let h : k < t = omega (arith, taken-most t typeCards) in rw (getD-take t typeCards k 0 h) (part-built k h)
+
+  pub spanned-parted : Parted text words (take t typeCards) (take e extensionCards) starts ends
+  spanned-parted = record { starts-length = s .starts-length; ends-length = s .ends-length; part-builds = part-here }

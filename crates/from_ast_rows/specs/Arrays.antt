@@ -1,21 +1,28 @@
--- What drawing rows asks of the arrays that it is lent: all but the owners of `Indexed`. proofs/Catalogue.antt has the one from the other.
+-- What building the rows asks of the arrays that it is lent: all but the owners of `Indexed`, and of each array the part that is used. proofs/Catalogue has
+-- the one from the other.
 use mathlib.Core.Path.{_≡_}
 use mathlib.Core.List.{List, [], map}
-use Prim.Native.Nat.{ℕ}
-use lib.ListN.{take}
-use Rattle.definition.specs.Lists.{keep, firsts}
-use Rattle.definition.specs.Headings.{types, orphans, sameNamed, isTypeExtension}
+use Prim.Native.Nat.{ℕ, _≤_}
+use lib.ListN.{length, take}
+use Rattle.definition.specs.Lists.{filter, firsts}
+use Rattle.definition.specs.Headings.{definedTypes, orphans, sameNamed, isTypeExtension}
 use Rattle.store_reader.specs.Stored.{storedHeadings}
-use Rattle.from_ast_index.specs.Index.{Printed, headingNumber}
-use Rattle.component.specs.Drawn.{Stored}
+use Rattle.from_ast_index.specs.Index.{Hashed, headingNumber}
+use Rattle.component.specs.RowsByCards.{Stored}
 
-pub record Arrays (text words headings prints typeCards orphanCards extensionCards : List ℕ) (m t o e : ℕ) : Type 0 where
-  pub printed : Printed text words prints
-  pub headings-stored : Stored words headings m
-  pub types-stored : Stored words typeCards t
-  pub orphans-stored : Stored words orphanCards o
-  pub extensions-stored : Stored words extensionCards e
-  pub headings-are : take m headings ≡ map headingNumber (storedHeadings text words)
-  pub types-are : take t typeCards ≡ map headingNumber (types (storedHeadings text words))
-  pub orphans-are : take o orphanCards ≡ map headingNumber (firsts sameNamed [] (orphans (storedHeadings text words)))
-  pub extensions-are : take e extensionCards ≡ map headingNumber (keep isTypeExtension (storedHeadings text words))
+-- The first words of an array are numbers of stored cards.
+pub record Used (words cards : List ℕ) (count : ℕ) : Type 0 where
+  pub inside : count ≤ length cards
+  pub stored : Stored words (take count cards)
+
+pub record Arrays (text words headings hashes typeCards orphanCards extensionCards : List ℕ)
+    (headingCount typeCount orphanCount extensionCount : ℕ) : Type 0 where
+  pub hashed : Hashed text words hashes
+  pub headings-used : Used words headings headingCount
+  pub types-used : Used words typeCards typeCount
+  pub orphans-used : Used words orphanCards orphanCount
+  pub extensions-used : Used words extensionCards extensionCount
+  pub headings-are : take headingCount headings ≡ map headingNumber (storedHeadings text words)
+  pub types-are : take typeCount typeCards ≡ map headingNumber (definedTypes (storedHeadings text words))
+  pub orphans-are : take orphanCount orphanCards ≡ map headingNumber (firsts sameNamed [] (orphans (storedHeadings text words)))
+  pub extensions-are : take extensionCount extensionCards ≡ map headingNumber (filter isTypeExtension (storedHeadings text words))

@@ -1,4 +1,3 @@
--- The arrays that the rows are read from.
+-- What the rows are read from: the arrays, and of all extensions the parts that belong to the defined types.
 pub mod Arrays
--- The parts of all extensions that the rows of defined types are read from.
 pub mod Parted

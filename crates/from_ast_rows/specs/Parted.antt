@@ -1,17 +1,17 @@
--- What drawing defined types asks of the arrays that tell where among all extensions those of a type stand: with its part a defined type has the rows that
--- it has with all.
+-- What building the defined types asks of the arrays that tell where among all extensions those of a type stand: with its part a defined type has the
+-- rows that it has with all. proofs/Parts has it from what `from_ast_index` says of these arrays.
 use mathlib.Core.Path.{_≡_}
 use mathlib.Core.List.{List}
 use Prim.Native.Nat.{ℕ, _≤_, _<_}
-use lib.ListN.{length, take, getD}
+use lib.ListN.{length, getD}
 use Rattle.definition.specs.Store.{cardsUsed}
 use Rattle.from_ast_index.specs.Index.{ownExtensions}
-use Rattle.component.specs.Drawn.{typeRowsAt}
+use Rattle.component.specs.RowsByCards.{typeRowsAt}
 
-pub record Parted (text words typeCards extensionCards starts ends : List ℕ) (t e : ℕ) : Type 0 where
+pub record Parted (text words types extensions starts ends : List ℕ) : Type 0 where
   pub starts-length : cardsUsed words ≤ length starts
   pub ends-length : cardsUsed words ≤ length ends
-  pub part-draws :
-      (k : ℕ) → k < t →
-      typeRowsAt text words (ownExtensions (take e extensionCards) starts ends (getD typeCards k 0)) (getD typeCards k 0)
-      ≡ typeRowsAt text words (take e extensionCards) (getD typeCards k 0)
+  pub part-builds :
+      (k : ℕ) → k < length types →
+      typeRowsAt text words (ownExtensions extensions starts ends (getD types k 0)) (getD types k 0)
+      ≡ typeRowsAt text words extensions (getD types k 0)

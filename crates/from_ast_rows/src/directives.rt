@@ -1,43 +1,46 @@
 // The rows of the directive definitions, of schema/from_ast.rs.
+use ast::kinds;
 use definition::ABSENT;
 ghost use mathlib.Core.Path.{_≡_};
-ghost use Prim.Native.Nat.{_*_, _≤_, _<_};
-ghost use lib.ListN.{length, take};
+ghost use Prim.Native.Nat.{_<_};
 ghost use Rattle.definition.specs.Store.{cardsUsed};
-ghost use Rattle.from_ast_index.specs.Index.{Printed};
-ghost use Rattle.component.specs.Pushed.{filled, pushed, extended};
-ghost use Rattle.component.specs.Drawn.{Stored, sameStored, namesDirective, standingAt, directiveRowsOf, directiveRowsAt};
+ghost use Rattle.from_ast_index.specs.Index.{Hashed};
+ghost use Rattle.component.specs.Pushed.{filled, Fits, pushed};
+ghost use Rattle.component.specs.RowsByCards.{Stored, namesDirective, standingAt, extendByDirective, directiveRowsAt};
 
 // Whether a heading is a directive definition with the name of the card.
-fn names_directive(text: &[u8], words: &[u32], prints: &[u32], card: u32, other: u32) -> bool
-    requires { ⌜ Printed (now text) (now words) (now prints) × (card < cardsUsed (now words)) × (other < cardsUsed (now words)) ⌝ }
+fn names_directive(text: &[u8], words: &[u32], hashes: &[u32], card: u32, other: u32) -> bool
+    requires { ⌜ Hashed (now text) (now words) (now hashes)
+        × (card < cardsUsed (now words))
+        × (other < cardsUsed (now words)) ⌝ }
     ensures { λ r. ⌜ r ≡ namesDirective (now (text .entry)) (now (words .entry)) card other ⌝ }
 {
-    if store_reader::card_kind(words, other as usize) != 3 {
+    if store_reader::card_kind(words, other as usize) != kinds::DIRECTIVE_DEFINITION {
         return false;
     }
-    from_ast_index::same_cards(text, words, prints, card, other)
+    from_ast_index::same_cards(text, words, hashes, card, other)
 }
 
 // The directive definition that stands for a card's name: a built-in one gives way to the next, and any other stays.
 fn standing_directive(
     text: &[u8],
     words: &[u32],
-    prints: &[u32],
-    heads: &[u32],
-    m: usize,
+    headings: &[u32],
+    hashes: &[u32],
     card: u32,
 ) -> u32
-    requires { ⌜ Printed (now text) (now words) (now prints) × Stored (now words) (now heads) m × (card < cardsUsed (now words)) ⌝ }
-    ensures { λ r. ⌜ r ≡ standingAt (now (text .entry)) (now (words .entry)) (take m (now (heads .entry))) card ⌝ }
+    requires { ⌜ Hashed (now text) (now words) (now hashes)
+        × Stored (now words) (now headings)
+        × (card < cardsUsed (now words)) ⌝ }
+    ensures { λ r. ⌜ r ≡ standingAt (now (text .entry)) (now (words .entry)) (now (headings .entry)) card ⌝ }
 {
     let first = store_reader::documents::built_in_count(words);
     let mut standing = ABSENT;
     let mut i = 0;
-    while i < m {
-        let other = heads[i];
+    while i < headings.len() {
+        let other = headings[i];
         i += 1;
-        if !names_directive(text, words, prints, card, other) {
+        if !names_directive(text, words, hashes, card, other) {
             continue;
         }
         if first <= other as usize {
@@ -52,43 +55,61 @@ fn standing_directive(
 fn directive_definition(
     text: &[u8],
     words: &[u32],
-    prints: &[u32],
-    heads: &[u32],
-    m: usize,
+    headings: &[u32],
+    hashes: &[u32],
     card: u32,
     rows: &mut [u32],
     start: usize,
     used: usize,
 ) -> usize
-    requires { ⌜ Printed (now text) (now words) (now prints) × Stored (now words) (now heads) m × (card < cardsUsed (now words)) × (3 * extended (sameStored (now text) (now words)) start (directiveRowsOf (now text) (now words) (take m (now heads)) card) (filled (now rows) used) .used ≤ length (now rows)) ⌝ }
-    ensures { λ r. ⌜ filled (now (rows .exit)) r ≡ extended (sameStored (now (text .entry)) (now (words .entry))) start (directiveRowsOf (now (text .entry)) (now (words .entry)) (take m (now (heads .entry))) card) (filled (now (rows .entry)) used) ⌝ }
+    requires { ⌜ Hashed (now text) (now words) (now hashes)
+        × Stored (now words) (now headings)
+        × (card < cardsUsed (now words))
+        × Fits (now rows) (extendByDirective (now text) (now words) (now headings) card start (filled (now rows) used)) ⌝ }
+    ensures { λ r. ⌜ filled (now (rows .exit)) r
+        ≡ extendByDirective (now (text .entry)) (now (words .entry)) (now (headings .entry)) card start
+        (filled (now (rows .entry)) used) ⌝ }
 {
-    if store_reader::card_kind(words, card as usize) != 3 {
+    if store_reader::card_kind(words, card as usize) != kinds::DIRECTIVE_DEFINITION {
         return used;
     }
-    let standing = standing_directive(text, words, prints, heads, m, card);
-    component::extend_sticky(text, words, prints, 3, standing, ABSENT, rows, start, used)
+    let standing = standing_directive(text, words, headings, hashes, card);
+    let kind = kinds::DIRECTIVE_DEFINITION;
+    component::extend_sticky(
+        text,
+        words,
+        hashes,
+        kind,
+        standing,
+        ABSENT,
+        rows,
+        start,
+        used,
+    )
 }
 
 // Pushes the directive definitions.
 pub fn directive_definitions(
     text: &[u8],
     words: &[u32],
-    prints: &[u32],
-    heads: &[u32],
-    m: usize,
+    headings: &[u32],
+    hashes: &[u32],
     rows: &mut [u32],
     used: usize,
 ) -> usize
-    requires { ⌜ Printed (now text) (now words) (now prints) × Stored (now words) (now heads) m × (3 * pushed (directiveRowsAt (now text) (now words) (take m (now heads))) (filled (now rows) used) .used ≤ length (now rows)) ⌝ }
-    ensures { λ r. ⌜ filled (now (rows .exit)) r ≡ pushed (directiveRowsAt (now (text .entry)) (now (words .entry)) (take m (now (heads .entry)))) (filled (now (rows .entry)) used) ⌝ }
+    requires { ⌜ Hashed (now text) (now words) (now hashes)
+        × Stored (now words) (now headings)
+        × Fits (now rows) (pushed (directiveRowsAt (now text) (now words) (now headings)) (filled (now rows) used)) ⌝ }
+    ensures { λ r. ⌜ filled (now (rows .exit)) r
+        ≡ pushed (directiveRowsAt (now (text .entry)) (now (words .entry)) (now (headings .entry)))
+        (filled (now (rows .entry)) used) ⌝ }
 {
-    let mut t = used;
+    let mut next = used;
     let mut i = 0;
-    while i < m {
-        let card = heads[i];
-        t = directive_definition(text, words, prints, heads, m, card, rows, used, t);
+    while i < headings.len() {
+        let card = headings[i];
+        next = directive_definition(text, words, headings, hashes, card, rows, used, next);
         i += 1;
     }
-    t
+    next
 }

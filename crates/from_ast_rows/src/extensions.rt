@@ -1,54 +1,47 @@
 // The extensions that a type takes in, and the rows that they add to its lists.
+use ast::kinds;
 ghost use mathlib.Core.Path.{_≡_};
-ghost use Prim.Native.Nat.{_*_, _≤_, _<_};
+ghost use Prim.Native.Nat.{_≤_, _<_};
 ghost use lib.ListN.{length};
 ghost use Rattle.definition.specs.Store.{cardsUsed};
-ghost use Rattle.from_ast_index.specs.Index.{Printed};
-ghost use Rattle.component.specs.Pushed.{filled, extended};
-ghost use Rattle.component.specs.Drawn.{Stored, sameStored, extensionKind, Matched, extensionRows};
+ghost use Rattle.from_ast_index.specs.Index.{Hashed};
+ghost use Rattle.component.specs.Pushed.{filled, Fits};
+ghost use Rattle.component.specs.RowsByCards.{Stored, Matched, extendByExtensions};
 
-// The kind of the extensions that a type takes in: an adopted type is one of them.
-fn extension_kind(words: &[u32], card: u32) -> u32
-    ensures { λ r. ⌜ r ≡ extensionKind (now (words .entry)) card ⌝ }
-{
-    let kind = store_reader::card_kind(words, card as usize);
-    if 12 <= kind {
-        return kind;
-    }
-    kind + 7
-}
-
-// Lists the extensions that a type takes in, those of its name and of the kind sought, in filing order. Hands back how many these are. Most others are told
-// by their fingerprints.
+// Lists the extensions that a type takes in, in filing order: those of its name that extend what it is. An adopted type is one of them. Hands
+// back how many these are. Most others are told by their hashes.
 pub fn matching_extensions(
     text: &[u8],
     words: &[u32],
-    prints: &[u32],
-    exts: &[u32],
-    n: usize,
+    hashes: &[u32],
+    extensions: &[u32],
     card: u32,
     mine: &mut [u32],
 ) -> usize
-    requires { ⌜ Printed (now text) (now words) (now prints) × Stored (now words) (now exts) n × (card < cardsUsed (now words)) × (n ≤ length (now mine)) ⌝ }
-    ensures { λ r. ⌜ Matched (now (text .entry)) (now (words .entry)) (now (exts .entry)) n card (now (mine .exit)) r ⌝ }
+    requires { ⌜ Hashed (now text) (now words) (now hashes)
+        × Stored (now words) (now extensions)
+        × (card < cardsUsed (now words))
+        × (length (now extensions) ≤ length (now mine)) ⌝ }
+    ensures { λ r. ⌜ Matched (now (text .entry)) (now (words .entry)) (now (extensions .entry)) card (now (mine .exit)) r ⌝ }
 {
-    let sought = extension_kind(words, card);
-    let print = prints[card as usize];
+    let definition = kinds::definition_of(store_reader::card_kind(words, card as usize));
+    let hash = hashes[card as usize];
     let mut count = 0;
     let mut i = 0;
-    while i < n {
-        let ext = exts[i];
+    while i < extensions.len() {
+        let extension = extensions[i];
         i += 1;
-        if prints[ext as usize] != print {
+        if hashes[extension as usize] != hash {
             continue;
         }
-        if store_reader::card_kind(words, ext as usize) != sought {
+        let kind = store_reader::card_kind(words, extension as usize);
+        if !kinds::is_extension_of(kind, definition) {
             continue;
         }
-        if !from_ast_index::same_cards(text, words, prints, card, ext) {
+        if !from_ast_index::same_cards(text, words, hashes, card, extension) {
             continue;
         }
-        mine[count] = ext;
+        mine[count] = extension;
         count += 1;
     }
     count
@@ -58,22 +51,27 @@ pub fn matching_extensions(
 pub fn type_extensions(
     text: &[u8],
     words: &[u32],
-    prints: &[u32],
+    hashes: &[u32],
     mine: &[u32],
     kind: u32,
     rows: &mut [u32],
     start: usize,
     used: usize,
 ) -> usize
-    requires { ⌜ Printed (now text) (now words) (now prints) × Stored (now words) (now mine) (length (now mine)) × (kind ≤ 28) × (start ≤ used) × (3 * extended (sameStored (now text) (now words)) start (extensionRows (now text) (now words) kind (now mine)) (filled (now rows) used) .used ≤ length (now rows)) ⌝ }
-    ensures { λ r. ⌜ filled (now (rows .exit)) r ≡ extended (sameStored (now (text .entry)) (now (words .entry))) start (extensionRows (now (text .entry)) (now (words .entry)) kind (now (mine .entry))) (filled (now (rows .entry)) used) ⌝ }
+    requires { ⌜ Hashed (now text) (now words) (now hashes)
+        × Stored (now words) (now mine)
+        × (start ≤ used)
+        × Fits (now rows) (extendByExtensions (now text) (now words) kind (now mine) start (filled (now rows) used)) ⌝ }
+    ensures { λ r. ⌜ filled (now (rows .exit)) r
+        ≡ extendByExtensions (now (text .entry)) (now (words .entry)) kind (now (mine .entry)) start
+        (filled (now (rows .entry)) used) ⌝ }
 {
-    let mut t = used;
+    let mut next = used;
     let mut i = 0;
     while i < mine.len() {
         let card = mine[i];
-        t = component::extend_ast(text, words, prints, kind, card, card, rows, start, t);
+        next = component::extend_ast(text, words, hashes, kind, card, card, rows, start, next);
         i += 1;
     }
-    t
+    next
 }

@@ -5,7 +5,7 @@ use Prim.Native.Nat.{ℕ, _<_, _≤_}
 use borrow.Author.Tests.{eq-eqb, ne-eqb, lt-ltb, le-ltb}
 use lib.ListN.{length}
 use Rattle.definition.specs.declared.OperationType.the-variants.{Query, Mutation, Subscription}
-use Rattle.definition.specs.Lists.{choose, written}
+use Rattle.definition.specs.Lists.{written}
 use Rattle.definition.specs.Outcomes.{root-operation}
 use Rattle.gimletaspen.specs.Exported.{rootNamed, copiedName}
 

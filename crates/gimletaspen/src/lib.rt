@@ -1,16 +1,19 @@
-// The public entries for C: a slice is a pointer and a length, an enum's answer its numbers in 01, written through lent words.
+// The public entries for C: a slice is a pointer and a length, an enum's answer its numbers in 01, written through lent words. Where the answer has a C
+// form of its own, the promise is the entry's in crate api.
 use api::answers::field_card;
 use api::answers::field_meta;
 use api::answers::field_number;
 use api::answers::field_refusal;
 use api::answers::subtype_number;
 use api::answers::subtype_refusal;
+use ast::kinds;
 use definition::Answer;
 use definition::Drawing;
 use definition::OperationType;
 ghost use mathlib.Core.Path.{_≡_};
 ghost use lib.ListN.{length};
-ghost use Rattle.definition.specs.Outcomes.{open-store, add-ast, adopt-orphan-extensions, ignore-builtin-redefinitions, build, check-rows, type-field, is-subtype, iter-origins, extensions, implementers-map};
+ghost use Rattle.definition.specs.Outcomes.{type-field, is-subtype};
+ghost use Rattle.api.specs.Promised.{Opens, Files, Adopts, Ignores, Builds, ChecksRows, ListsOrigins, ListsExtensions, MapsImplementers};
 ghost use Rattle.gimletaspen.specs.Exported.{rootNamed, copiedName, FieldNumbers, SubtypeNumbers};
 
 #[no_mangle]
@@ -20,7 +23,8 @@ pub extern "C" fn gimletaspen_open(
     lent: &[u8],
     cards: &[u32],
 ) -> Answer
-    ensures { λ r. ⌜ record { answer = r; text = now (text .exit); words = now (words .exit) } ≡ open-store (now (text .entry)) (now (words .entry)) (now (lent .entry)) (now (cards .entry)) ⌝ }
+    ensures { λ r. ⌜ Opens (now (text .entry)) (now (words .entry)) (now (lent .entry)) (now (cards .entry)) r
+        (now (text .exit)) (now (words .exit)) ⌝ }
 {
     api::open(text, words, lent, cards)
 }
@@ -32,21 +36,22 @@ pub extern "C" fn gimletaspen_add_ast(
     lent: &[u8],
     cards: &[u32],
 ) -> Answer
-    ensures { λ r. ⌜ record { answer = r; text = now (text .exit); words = now (words .exit) } ≡ add-ast (now (text .entry)) (now (words .entry)) (now (lent .entry)) (now (cards .entry)) ⌝ }
+    ensures { λ r. ⌜ Files (now (text .entry)) (now (words .entry)) (now (lent .entry)) (now (cards .entry)) r
+        (now (text .exit)) (now (words .exit)) ⌝ }
 {
     api::add_ast(text, words, lent, cards)
 }
 
 #[no_mangle]
 pub extern "C" fn gimletaspen_adopt_orphan_extensions(text: &[u8], words: &mut [u32]) -> Answer
-    ensures { λ r. ⌜ record { answer = r; text = now (text .exit); words = now (words .exit) } ≡ adopt-orphan-extensions (now (text .entry)) (now (words .entry)) ⌝ }
+    ensures { λ r. ⌜ Adopts (now (text .entry)) (now (words .entry)) r (now (text .exit)) (now (words .exit)) ⌝ }
 {
     api::adopt_orphan_extensions(text, words)
 }
 
 #[no_mangle]
 pub extern "C" fn gimletaspen_ignore_builtin_redefinitions(text: &[u8], words: &mut [u32]) -> Answer
-    ensures { λ r. ⌜ record { answer = r; text = now (text .exit); words = now (words .exit) } ≡ ignore-builtin-redefinitions (now (text .entry)) (now (words .entry)) ⌝ }
+    ensures { λ r. ⌜ Ignores (now (text .entry)) (now (words .entry)) r (now (text .exit)) (now (words .exit)) ⌝ }
 {
     api::ignore_builtin_redefinitions(text, words)
 }
@@ -58,21 +63,23 @@ pub extern "C" fn gimletaspen_build(
     rows: &mut [u32],
     errors: &mut [u32],
 ) -> Drawing
-    ensures { λ r. ⌜ record { drawing = r; rows = now (rows .exit); errors = now (errors .exit) } ≡ build (now (text .entry)) (now (words .entry)) (now (rows .entry)) (now (errors .entry)) ⌝ }
+    ensures { λ r. ⌜ Builds (now (text .entry)) (now (words .entry)) (now (rows .entry)) (now (errors .entry)) r
+        (now (rows .exit)) (now (errors .exit)) ⌝ }
 {
     api::build(text, words, rows, errors)
 }
 
 #[no_mangle]
 pub extern "C" fn gimletaspen_check_rows(text: &[u8], words: &[u32], rows: &[u32]) -> Answer
-    ensures { λ r. ⌜ r ≡ check-rows (now (text .entry)) (now (words .entry)) (now (rows .entry)) ⌝ }
+    ensures { λ r. ⌜ ChecksRows (now (text .entry)) (now (words .entry)) (now (rows .entry)) r ⌝ }
 {
     api::check_rows(text, words, rows)
 }
 
 // Copies a name to the front of the lent bytes where it fits, and hands back its length.
 fn copy_name(found: &[u8], name: &mut [u8]) -> usize
-    ensures { λ r. ⌜ (r ≡ length (now (found .entry))) × (now (name .exit) ≡ copiedName (now (name .entry)) (now (found .entry))) ⌝ }
+    ensures { λ r. ⌜ (r ≡ length (now (found .entry)))
+        × (now (name .exit) ≡ copiedName (now (name .entry)) (now (found .entry))) ⌝ }
 {
     if name.len() < found.len() {
         return found.len();
@@ -85,13 +92,13 @@ fn copy_name(found: &[u8], name: &mut [u8]) -> usize
 fn root_of<'a>(text: &'a [u8], words: &[u32], rows: &[u32], kind: u32) -> &'a [u8]
     ensures { λ r. ⌜ now r ≡ rootNamed (now (text .entry)) (now (words .entry)) (now (rows .entry)) kind ⌝ }
 {
-    if kind == 26 {
+    if kind == kinds::QUERY {
         return api::root_operation(text, words, rows, OperationType::Query);
     }
-    if kind == 27 {
+    if kind == kinds::MUTATION {
         return api::root_operation(text, words, rows, OperationType::Mutation);
     }
-    if kind == 28 {
+    if kind == kinds::SUBSCRIPTION {
         return api::root_operation(text, words, rows, OperationType::Subscription);
     }
     &text[0..0]
@@ -106,7 +113,9 @@ pub extern "C" fn gimletaspen_root_operation(
     kind: u32,
     name: &mut [u8],
 ) -> usize
-    ensures { λ r. ⌜ (r ≡ length (rootNamed (now (text .entry)) (now (words .entry)) (now (rows .entry)) kind)) × (now (name .exit) ≡ copiedName (now (name .entry)) (rootNamed (now (text .entry)) (now (words .entry)) (now (rows .entry)) kind)) ⌝ }
+    ensures { λ r. ⌜ (r ≡ length (rootNamed (now (text .entry)) (now (words .entry)) (now (rows .entry)) kind))
+        × (now (name .exit)
+        ≡ copiedName (now (name .entry)) (rootNamed (now (text .entry)) (now (words .entry)) (now (rows .entry)) kind)) ⌝ }
 {
     copy_name(root_of(text, words, rows, kind), name)
 }
@@ -123,7 +132,10 @@ pub extern "C" fn gimletaspen_type_field(
     meta: &mut u32,
     card: &mut u32,
 ) -> u32
-    ensures { λ r. ⌜ FieldNumbers (type-field (now (text .entry)) (now (words .entry)) (now (rows .entry)) (now («type_name» .entry)) (now (field .entry))) r (now (number .exit)) (now (meta .exit)) (now (card .exit)) ⌝ }
+    ensures { λ r. ⌜ FieldNumbers
+        (type-field (now (text .entry)) (now (words .entry)) (now (rows .entry)) (now («type_name» .entry))
+        (now (field .entry)))
+        r (now (number .exit)) (now (meta .exit)) (now (card .exit)) ⌝ }
 {
     let answer = api::type_field(text, words, rows, type_name, field);
     *number = field_number(answer);
@@ -142,7 +154,10 @@ pub extern "C" fn gimletaspen_is_subtype(
     other: &[u8],
     yes: &mut u32,
 ) -> u32
-    ensures { λ r. ⌜ SubtypeNumbers (is-subtype (now (text .entry)) (now (words .entry)) (now (rows .entry)) (now (general .entry)) (now (other .entry))) r (now (yes .exit)) ⌝ }
+    ensures { λ r. ⌜ SubtypeNumbers
+        (is-subtype (now (text .entry)) (now (words .entry)) (now (rows .entry)) (now (general .entry))
+        (now (other .entry)))
+        r (now (yes .exit)) ⌝ }
 {
     let answer = api::is_subtype(text, words, rows, general, other);
     *yes = subtype_number(answer);
@@ -156,7 +171,8 @@ pub extern "C" fn gimletaspen_iter_origins(
     rows: &[u32],
     list: &mut [u32],
 ) -> Answer
-    ensures { λ r. ⌜ record { answer = r; list = now (list .exit) } ≡ iter-origins (now (text .entry)) (now (words .entry)) (now (rows .entry)) (now (list .entry)) ⌝ }
+    ensures { λ r. ⌜ ListsOrigins (now (text .entry)) (now (words .entry)) (now (rows .entry)) (now (list .entry)) r
+        (now (list .exit)) ⌝ }
 {
     api::iter_origins(text, words, rows, list)
 }
@@ -168,7 +184,8 @@ pub extern "C" fn gimletaspen_extensions(
     rows: &[u32],
     list: &mut [u32],
 ) -> Answer
-    ensures { λ r. ⌜ record { answer = r; list = now (list .exit) } ≡ extensions (now (text .entry)) (now (words .entry)) (now (rows .entry)) (now (list .entry)) ⌝ }
+    ensures { λ r. ⌜ ListsExtensions (now (text .entry)) (now (words .entry)) (now (rows .entry)) (now (list .entry)) r
+        (now (list .exit)) ⌝ }
 {
     api::extensions(text, words, rows, list)
 }
@@ -180,7 +197,8 @@ pub extern "C" fn gimletaspen_implementers_map(
     rows: &[u32],
     list: &mut [u32],
 ) -> Answer
-    ensures { λ r. ⌜ record { answer = r; list = now (list .exit) } ≡ implementers-map (now (text .entry)) (now (words .entry)) (now (rows .entry)) (now (list .entry)) ⌝ }
+    ensures { λ r. ⌜ MapsImplementers (now (text .entry)) (now (words .entry)) (now (rows .entry)) (now (list .entry)) r
+        (now (list .exit)) ⌝ }
 {
     api::implementers_map(text, words, rows, list)
 }

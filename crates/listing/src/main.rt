@@ -2,10 +2,15 @@
 mod switches;
 
 use definition::Answer;
+use definition::layout::ERRORS_CAPACITY;
+use definition::layout::ROWS_CAPACITY;
+use definition::layout::TEXT_CAPACITY;
+use definition::layout::WORDS_CAPACITY;
+use definition::refusal;
+use libc::STDOUT_FILENO;
 use program_io::filing::Filed;
 use program_io::filing::file_document;
 use program_io::input::buffers;
-use libc::STDOUT_FILENO;
 use program_io::output::put::put_listing;
 use program_io::output::put::put_refusal;
 use switches::Switches;
@@ -14,15 +19,6 @@ use switches::read_switches;
 
 // No folder has a document of this number: the store holds 64.
 const LAST: usize = 18446744073709551615;
-
-// The store and the slices that a drawing fills.
-const STORE_BYTES: usize = 65536;
-
-const STORE_WORDS: usize = 11761;
-
-const ROWS: usize = 6912;
-
-const ERRORS: usize = 6900;
 
 // What comes after a document's turn.
 enum Next {
@@ -35,8 +31,8 @@ fn main() {
     let SwitchesFile::Set(switches) = read_switches() else {
         return;
     };
-    let mut text = [0u8; STORE_BYTES];
-    let mut words = [0u32; STORE_WORDS];
+    let mut text = [0u8; TEXT_CAPACITY];
+    let mut words = [0u32; WORDS_CAPACITY];
     if file_documents(switches, &mut text, &mut words) {
         draw(&text, &words);
     }
@@ -60,7 +56,10 @@ fn run_document(n: usize, switches: Switches, text: &mut [u8], words: &mut [u32]
     match file_document(n == 0, b"", n, text, words) {
         Filed::Missing => Next::Drawing,
         Filed::Told => Next::End,
-        Filed::Uneven => print_refusal(Answer { number: 1, card: 0 }),
+        Filed::Uneven => print_refusal(Answer {
+            number: refusal::CARDS_NOT_WHOLE,
+            card: 0,
+        }),
         Filed::Answered(filed) => {
             if filed.number != 0 {
                 return print_refusal(filed);
@@ -91,8 +90,8 @@ fn turn_on(switches: Switches, text: &[u8], words: &mut [u32]) -> Answer {
 }
 
 fn draw(text: &[u8], words: &[u32]) {
-    let mut rows = [0u32; ROWS];
-    let mut errors = [0u32; ERRORS];
+    let mut rows = [0u32; ROWS_CAPACITY];
+    let mut errors = [0u32; ERRORS_CAPACITY];
     let drawing = api::build(text, words, &mut rows, &mut errors);
     let mut out = buffers::output();
     let n = put_listing(drawing, &rows, &errors, &mut out);

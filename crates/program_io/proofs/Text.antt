@@ -138,10 +138,10 @@ pub listing-refused : (d : Drawing) (rows errors : List ℕ) → (d .number ≡ 
 unfolding listing
 listing-refused d rows errors h = rw (ne-eqb (d .number) 0 h)
 
-pub listing-drawn : (d : Drawing) (rows errors : List ℕ) → d .number ≡ 0
+pub listing-built : (d : Drawing) (rows errors : List ℕ) → d .number ≡ 0
     → listing d rows errors ≡ rowsShown (d .rows) rows ++ errorsShown (d .«reading_errors») (d .«drawing_errors») errors
 unfolding listing
-listing-drawn d rows errors h = rw (eq-eqb (d .number) 0 h)
+listing-built d rows errors h = rw (eq-eqb (d .number) 0 h)
 
 -- What was put from the front on lies in the buffer.
 pub put-within : {a xs b : List ℕ} {r : ℕ} → Put a 0 xs b r → r ≤ length b

@@ -7,6 +7,16 @@ use Rattle.program_io.specs.declared.input.documents.Document.the-varian
 use Rattle.program_io.specs.declared.input.files.File.{File}
 use Rattle.program_io.specs.declared.input.files.File.the-variants.{Whole, Told}
 
+-- The bytes that a file of a document may have, a folder's path and any path.
+abbrev pub fileCapacity : ℕ
+fileCapacity = 1048576
+
+abbrev pub folderCapacity : ℕ
+folderCapacity = 24
+
+abbrev pub pathCapacity : ℕ
+pathCapacity = 64
+
 -- A file that was read has fewer bytes than its buffer, so that none was cut off.
 abbrev pub Within : File → ℕ → Type 0
 Within (Whole n) size = n < size

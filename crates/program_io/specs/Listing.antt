@@ -55,6 +55,10 @@ listing d rows errors =
     let shown = rowsShown (d .rows) rows ++ errorsShown (d .«reading_errors») (d .«drawing_errors») errors in
     choose (eqb (d .number) 0) shown (refused (d .number) 0)
 
+-- The bytes that are room enough for a drawing of so many words of rows and errors: 33 for each line of three words, and two lines of counts.
+abbrev pub listingCapacity : ℕ → ℕ
+listingCapacity words = 11 * words + 75
+
 -- The name of a numbered file: its folder, a stem, the number and an ending.
 unfoldable pub fileName : List ℕ → List ℕ → ℕ → List ℕ → List ℕ
 unfolding decimal
@@ -64,6 +68,7 @@ fileName folder stem n ending = folder ++ (stem ++ (decimal n ++ ending))
 drawing-P1 : Drawing
 drawing-P1 = record { number = 0; rows = 5; «reading_errors» = 1; «drawing_errors» = 0; tallies = record { counts = set (replicate 16 0) 11 1; total = 1 } }
 
-P1 : listing drawing-P1 (4 ∷ absent ∷ absent ∷ 5 ∷ 0 ∷ absent ∷ 6 ∷ 1 ∷ absent ∷ 22 ∷ 2 ∷ absent ∷ 22 ∷ 5 ∷ 4 ∷ []) (12 ∷ 3 ∷ 2 ∷ []) ≡ bytes "rows 5\n4 - -\n5 0 -\n6 1 -\n22 2 -\n22 5 4\nerrors 1 0\n12 3 2\n"
+P1 : listing drawing-P1 (4 ∷ absent ∷ absent ∷ 5 ∷ 0 ∷ absent ∷ 6 ∷ 1 ∷ absent ∷ 22 ∷ 2 ∷ absent ∷ 22 ∷ 5 ∷ 4 ∷ []) (12 ∷ 3 ∷ 2 ∷ [])
+    ≡ bytes "rows 5\n4 - -\n5 0 -\n6 1 -\n22 2 -\n22 5 4\nerrors 1 0\n12 3 2\n"
 unfolding listing drawing-P1
 P1 = refl

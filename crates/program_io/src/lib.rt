@@ -1,3 +1,3 @@
-pub mod output;
-pub mod input;
 pub mod filing;
+pub mod input;
+pub mod output;

@@ -1,5 +1,6 @@
 -- How much a case counts at most: a line has at least one byte.
 use Prim.Native.Nat.{ℕ, _≤_}
+use Rattle.replay_calls.specs.LineWords.{callsCapacity}
 use Rattle.replay.specs.declared.expected.report.Tally.{Tally}
 use Rattle.replay.specs.declared.Case.{Case}
 use Rattle.replay.specs.declared.Case.the-variants.{Ran, Missing}
@@ -9,5 +10,5 @@ pub record Few (most : ℕ) (t : Tally) : Type 0 where
   pub failures : t .failures ≤ most
 
 abbrev pub FewRan : Case → Type 0
-FewRan (Ran t) = Few 262144 t
+FewRan (Ran t) = Few callsCapacity t
 FewRan Missing = Unit {0}

@@ -1,10 +1,14 @@
 // Drawing, and what is expected of it: the listing, and that nothing is written past what is drawn.
-use replay_calls::calls::parse::read_numbers;
-use definition::Drawing;
 use crate::expected::hold::hold_drawing;
+use definition::Drawing;
+use definition::layout::ERROR_WORDS;
+use definition::layout::ERRORS_CAPACITY;
+use definition::layout::ROW_WORDS;
+use definition::layout::ROWS_CAPACITY;
+use replay_calls::calls::parse::read_numbers;
 use replay_calls::steps::buffers;
-use replay_calls::steps::compare::copy_words;
-use replay_calls::steps::compare::same_words;
+use replay_calls::steps::slices::copy_words;
+use replay_calls::steps::slices::same_words;
 use replay_calls::steps::step::Lent;
 use replay_calls::steps::step::Step;
 use replay_calls::steps::step::Verdict;
@@ -13,11 +17,9 @@ use replay_calls::steps::step::blamed;
 ghost use mathlib.Core.Path.{_≡_};
 ghost use Prim.Native.Nat.{_≤_};
 ghost use lib.ListN.{length};
-
-// The words that rows and errors have.
-const ROWS: usize = 6912;
-
-const ERRORS: usize = 6900;
+ghost use Rattle.definition.specs.Refusals.{rowsCapacity, errorsCapacity};
+ghost use Rattle.program_io.specs.Input.{folderCapacity};
+ghost use Rattle.replay_calls.specs.LineWords.{callsCapacity};
 
 // `build R E N K`
 pub fn run_build(
@@ -28,16 +30,18 @@ pub fn run_build(
     words: &[u32],
     rows: &mut [u32],
 ) -> Step
-    requires { ⌜ (length (now folder) ≤ 24) × (length (now line) ≤ 262144) × (length (now rows) ≡ 6912) ⌝ }
+    requires { ⌜ (length (now folder) ≤ folderCapacity)
+        × (length (now line) ≤ callsCapacity)
+        × (length (now rows) ≡ rowsCapacity) ⌝ }
 {
     let mut given = [0usize; 4];
     if !read_numbers(line, 1, &mut given) {
         return asked(lent, Verdict::Malformed);
     }
-    if ROWS < given[0] {
+    if ROWS_CAPACITY < given[0] {
         return asked(lent, Verdict::Malformed);
     }
-    if ERRORS < given[1] {
+    if ERRORS_CAPACITY < given[1] {
         return asked(lent, Verdict::Malformed);
     }
     let expected = Expected {
@@ -65,7 +69,10 @@ fn hold_build(
     words: &[u32],
     rows: &mut [u32],
 ) -> Step
-    requires { ⌜ (length (now folder) ≤ 24) × (expected .r ≤ 6912) × (expected .e ≤ 6900) × (length (now rows) ≡ 6912) ⌝ }
+    requires { ⌜ (length (now folder) ≤ folderCapacity)
+        × (expected .r ≤ rowsCapacity)
+        × (expected .e ≤ errorsCapacity)
+        × (length (now rows) ≡ rowsCapacity) ⌝ }
 {
     let mut errors = buffers::errors();
     let mut old_rows = buffers::rows();
@@ -73,7 +80,7 @@ fn hold_build(
     let drawing = draw(text, words, rows, expected.r, &mut errors, expected.e);
     let verdict = hold_drawing(folder, drawing, expected.number, expected.k, rows, &errors);
     asked(
-        lend_drawn(lent, drawing),
+        lend_built(lent, drawing),
         hold_rest(verdict, drawing, rows, &old_rows, &errors),
     )
 }
@@ -87,13 +94,14 @@ fn draw(
     errors: &mut [u32],
     e: usize,
 ) -> Drawing
-    requires { ⌜ (r ≤ length (now rows)) × (e ≤ length (now errors)) ⌝ }
+    requires { ⌜ (r ≤ length (now rows))
+        × (e ≤ length (now errors)) ⌝ }
 {
     api::build(text, words, &mut rows[..r], &mut errors[..e])
 }
 
 // The rows drawn are lent from now on; a refused drawing leaves what was lent, and counts nothing.
-fn lend_drawn(lent: Lent, drawing: Drawing) -> Lent {
+fn lend_built(lent: Lent, drawing: Drawing) -> Lent {
     let tallies = drawing.tallies;
     if drawing.number != 0 {
         return Lent {
@@ -106,24 +114,24 @@ fn lend_drawn(lent: Lent, drawing: Drawing) -> Lent {
     Lent {
         text: lent.text,
         words: lent.words,
-        rows: rows_drawn(drawing),
+        rows: rows_built(drawing),
         tallies,
     }
 }
 
 // How many words of rows a drawing writes: none where it is refused.
-fn rows_drawn(drawing: Drawing) -> usize {
+fn rows_built(drawing: Drawing) -> usize {
     if drawing.number != 0 {
         return 0;
     }
-    3 * (drawing.rows as usize)
+    ROW_WORDS * (drawing.rows as usize)
 }
 
-fn errors_drawn(drawing: Drawing) -> usize {
+fn errors_built(drawing: Drawing) -> usize {
     if drawing.number != 0 {
         return 0;
     }
-    3 * (drawing.reading_errors as usize + drawing.drawing_errors as usize)
+    ERROR_WORDS * (drawing.reading_errors as usize + drawing.drawing_errors as usize)
 }
 
 // Rows and errors stay past what is drawn.
@@ -134,11 +142,11 @@ fn hold_rest(
     old_rows: &[u32],
     errors: &[u32],
 ) -> Verdict {
-    if !same_words(rows, old_rows, rows_drawn(drawing)) {
+    if !same_words(rows, old_rows, rows_built(drawing)) {
         return blamed(verdict);
     }
     let untouched = buffers::errors();
-    if !same_words(errors, &untouched, errors_drawn(drawing)) {
+    if !same_words(errors, &untouched, errors_built(drawing)) {
         return blamed(verdict);
     }
     verdict

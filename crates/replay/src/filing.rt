@@ -1,23 +1,25 @@
 // The calls that write the store: opening, filing, turning a switch on. What is expected of one stands in its line.
-use replay_calls::calls::parse::read_numbers;
+use crate::expected::hold::hold_answer;
 use definition::Answer;
 use program_io::filing::Filed;
 use program_io::filing::file_document;
-use crate::expected::hold::hold_answer;
+use replay_calls::calls::parse::read_numbers;
 use replay_calls::steps::buffers;
 use replay_calls::steps::command::Filing;
 use replay_calls::steps::command::Switch;
-use replay_calls::steps::compare::copy_bytes;
-use replay_calls::steps::compare::copy_words;
-use replay_calls::steps::compare::first_bytes;
-use replay_calls::steps::compare::first_words;
-use replay_calls::steps::compare::same_words;
 use replay_calls::steps::numbers::Pair;
 use replay_calls::steps::numbers::read_pair;
+use replay_calls::steps::slices::copy_bytes;
+use replay_calls::steps::slices::copy_words;
+use replay_calls::steps::slices::first_bytes;
+use replay_calls::steps::slices::first_words;
+use replay_calls::steps::slices::same_words;
 use replay_calls::steps::step::Verdict;
 use replay_calls::steps::step::blamed;
 ghost use Prim.Native.Nat.{_≤_};
 ghost use lib.ListN.{length};
+ghost use Rattle.program_io.specs.Input.{folderCapacity};
+ghost use Rattle.replay_calls.specs.LineWords.{callsCapacity};
 
 // `open D N C` and `add_ast D N C`
 pub fn run_filing(
@@ -27,7 +29,8 @@ pub fn run_filing(
     text: &mut [u8],
     words: &mut [u32],
 ) -> Verdict
-    requires { ⌜ (length (now folder) ≤ 24) × (length (now line) ≤ 262144) ⌝ }
+    requires { ⌜ (length (now folder) ≤ folderCapacity)
+        × (length (now line) ≤ callsCapacity) ⌝ }
 {
     let mut given = [0usize; 3];
     if !read_numbers(line, 1, &mut given) {
@@ -61,7 +64,7 @@ fn hold_filing(
     text: &mut [u8],
     words: &mut [u32],
 ) -> Verdict
-    requires { ⌜ length (now folder) ≤ 24 ⌝ }
+    requires { ⌜ length (now folder) ≤ folderCapacity ⌝ }
 {
     let mut old_text = buffers::text();
     let mut old_words = buffers::words();
@@ -100,7 +103,7 @@ fn hold_words(verdict: Verdict, words: &[u32], old_words: &[u32]) -> Verdict {
 
 // `adopt_orphan_extensions N C` and `ignore_builtin_redefinitions N C`
 pub fn run_switch(switch: Switch, line: &[u8], text: &[u8], words: &mut [u32]) -> Verdict
-    requires { ⌜ length (now line) ≤ 262144 ⌝ }
+    requires { ⌜ length (now line) ≤ callsCapacity ⌝ }
 {
     let Pair::Numbers {
         first: number,

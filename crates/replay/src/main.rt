@@ -1,11 +1,10 @@
 // Runs cases of calls: each folder 0, 1, 2 .. holds a file `calls` with one call a line and what must come of it. Every call goes through the public entries,
 // over a store, rows and errors of local arrays. A failing call is printed, and at the end how many cases, calls and failures there were.
-mod expected;
 mod builds;
-mod lookups;
-
+mod expected;
 mod filing;
 mod lines;
+mod lookups;
 
 use crate::expected::report;
 use crate::expected::report::Tally;
@@ -15,7 +14,7 @@ use program_io::input::files::read_file;
 use program_io::output::put::put_bytes;
 use program_io::output::put::put_name;
 use replay_calls::steps::buffers;
-use replay_calls::steps::compare::first_bytes;
+use replay_calls::steps::slices::first_bytes;
 ghost use Rattle.replay.specs.Counted.{FewRan};
 
 // No folder is reached whose number is this.

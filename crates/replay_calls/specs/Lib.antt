@@ -1,1 +1,1 @@
-pub mod CallsWords
+pub mod LineWords

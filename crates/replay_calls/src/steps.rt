@@ -2,6 +2,6 @@
 pub mod buffers;
 pub mod change;
 pub mod command;
-pub mod compare;
 pub mod numbers;
+pub mod slices;
 pub mod step;

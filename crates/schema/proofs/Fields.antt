@@ -7,8 +7,8 @@ use Prim.Native.Nat.{ℕ, suc, _+_, _*_, _/_, _<_}
 use lib.ListN.{length, drop, getD}
 use Rattle.definition.specs.declared.FieldFound.the-variants.{Explicit}
 use Rattle.definition.specs.declared.FieldLookup.the-variants.{Found, NoSuchType, NoSuchField}
-use Rattle.definition.specs.Lists.{found, firstWhere}
-use Rattle.definition.specs.Headings.{Part}
+use Rattle.definition.specs.Lists.{found, find}
+use Rattle.definition.specs.Headings.{NamedCard}
 use Rattle.definition.specs.Catalogue.{Row}
 use Rattle.definition.specs.Store.{accountIn, sound}
 use Rattle.definition.specs.LentRows.{held, lentRows, isTypeRowNamed}
@@ -20,7 +20,7 @@ use Rattle.schema_rows.specs.declared.search.Found.{Found as FoundRow}
 use Rattle.schema_rows.specs.declared.search.Found.the-variants.{Row as RowAt, Nothing}
 use Rattle.schema_rows.proofs.Rows.{Hit, hit-inside, hit-row}
 use Rattle.schema_rows.specs.declared.search.Located.{Located}
-use Rattle.schema_rows.specs.SearchLaws.{locatedFrom}
+use Rattle.schema_rows.specs.Search.{locatedFrom}
 use Rattle.schema.specs.Answers.{isInside, explicitField, firstFound}
 use Rattle.schema_rows.proofs.SearchLaws.{blockAfter, TypeAt, located-none, located-type, located-no-part, located-part}
 
@@ -39,25 +39,25 @@ module _ (rows : List ℕ) (p : FoundRow) (card : ℕ) where
 
 -- ---- type_field.
 
-module _ (cs : List Part) (rs : List Row) (type field : List ℕ) where
+module _ (cs : List NamedCard) (rs : List Row) (type field : List ℕ) where
   no-type : typeNamed cs rs type ≡ none → NoSuchType ≡ fieldNamed cs rs type field
   unfolding fieldNamed
   no-type e = rw e
 
   module _ (b : Block) (e : typeNamed cs rs type ≡ some b) where
-    other-field : firstWhere (isPartNamed cs 22 field) (b .parts) ≡ none →
+    other-field : find (isPartNamed cs 22 field) (b .parts) ≡ none →
         found (metaField cs rs (b .head .what) type field) (λ m. Found m) (NoSuchField (b .head .card)) ≡ fieldNamed cs rs type field
     unfolding fieldNamed fieldOf
     other-field f = rw (e, f)
 
-    explicit-field : (r : Row) → firstWhere (isPartNamed cs 22 field) (b .parts) ≡ some r → Found (Explicit (r .card)) ≡ fieldNamed cs rs type field
+    explicit-field : (r : Row) → find (isPartNamed cs 22 field) (b .parts) ≡ some r → Found (Explicit (r .card)) ≡ fieldNamed cs rs type field
     unfolding fieldNamed fieldOf
     explicit-field r f = rw (e, f)
 
 module _ (text words rows : List ℕ) (type field : List ℕ) (ok : sound text words ≡ true) (l : Located)
     (e : l ≡ locatedFrom (isTypeRowNamed (storedParts text words) type) (isPartNamed (storedParts text words) 22 field) 0 (lentRows rows)) where
   of-held : fieldNamed (storedParts text words) (lentRows rows) type field ≡ fieldNamed (held (accountIn text words .documents)) (lentRows rows) type field
-  of-held = ap (λ (cs : List Part). fieldNamed cs (lentRows rows) type field) (sym (held-stored text words ok))
+  of-held = ap (λ (cs : List NamedCard). fieldNamed cs (lentRows rows) type field) (sym (held-stored text words ok))
 
   pub field-no-type : l .owner ≡ Nothing → NoSuchType ≡ fieldNamed (held (accountIn text words .documents)) (lentRows rows) type field
   field-no-type o = no-type (storedParts text words) (lentRows rows) type field (located-none (storedParts text words) rows type _ l e o) ∙ of-held
@@ -78,7 +78,7 @@ module _ (text words rows : List ℕ) (type field : List ℕ) (ok : sound text w
         ∙ of-held
 
     module _ (i : ℕ) (p : l .part ≡ RowAt i) where
-      field-at : Hit 0 (lentRows rows) (firstWhere (isPartNamed (storedParts text words) 22 field) (blocks (drop (suc t) (lentRows rows)) .0)) i
+      field-at : Hit 0 (lentRows rows) (find (isPartNamed (storedParts text words) 22 field) (blocks (drop (suc t) (lentRows rows)) .0)) i
       field-at = located-part (storedParts text words) rows type (isPartNamed (storedParts text words) 22 field) l e t o i p
 
       field-inside : i < length rows / 3
@@ -105,7 +105,8 @@ module _ (text words rows : List ℕ) (type field : List ℕ) (ok : sound text w
       where
         go : (p : FoundRow) → l .part ≡ p →
             firstFound (explicitField rows p (getD rows (3 * t + 1) 0))
-            (found (metaField (storedParts text words) (lentRows rows) (getD rows (3 * t) 0) type field) (λ m. Found m) (NoSuchField (getD rows (3 * t + 1) 0))) ≡
+            (found (metaField (storedParts text words) (lentRows rows) (getD rows (3 * t) 0) type field) (λ m. Found m) (NoSuchField (getD rows (3 * t + 1) 0)))
+            ≡
             fieldNamed (held (accountIn text words .documents)) (lentRows rows) type field
         go (RowAt i) q = field-explicit i q
         go Nothing q = field-other q

@@ -4,12 +4,15 @@ use mathlib.Core.List.{List, [], _∷_, _++_, map, append-nil}
 use mathlib.Core.Bool.{Bool, true, false, _&&_}
 use mathlib.Core.Option.{Option, none, some}
 use Prim.Native.Nat.{ℕ}
-use Rattle.definition.specs.Lists.{choose, found, any, keep, firsts, flatMap}
-use Rattle.definition.specs.Headings.{Part}
+use Rattle.definition.specs.Lists.{choose, found, any, filter, firsts, flatMap}
+use Rattle.definition.specs.Headings.{NamedCard}
 use Rattle.definition.specs.Catalogue.{Row}
 use Rattle.definition.specs.LentRows.{isRowNamed, isTypeRow, isTypeRowNamed}
-use Rattle.definition.specs.Lookups.{Block, blocks, types, isBlockNamed, sameBlock, isRowOf, isPartNamed, Implementing, sameInterface, implementing, implementingOf, allImplementing}
+use Rattle.definition.specs.Lookups.{Block, blocks, firstTypes, isBlockNamed, sameBlock, isRowOf, isPartNamed, Implementing, sameInterface}
+use Rattle.definition.specs.Lookups.{implementing, implementingOf, allImplementing}
+use Rattle.definition.proofs.Lists.{filter-nil, filter-yes, filter-no, filter-append}
 use Rattle.name.proofs.Laws.{same-equal}
+use Rattle.schema_rows.proofs.Walk.{any-snoc}
 use Rattle.schema_rows.proofs.SearchLaws.{blocks-type, blocks-under, blocks-nil}
 use Rattle.schema.specs.Gather.{news, gather}
 use Rattle.schema.specs.Owners.{named}
@@ -17,42 +20,6 @@ use Rattle.schema.specs.Owners.{named}
 -- ---- Lists.
 
 module _ {A : Type 0} where
-  pub any-nil : (p : A → Bool) → any p [] ≡ false
-  unfolding any
-  any-nil p = refl
-
-  pub any-snoc : (p : A → Bool) (xs : List A) (x : A) → any p (xs ++ (x ∷ [])) ≡ choose (p x) true (any p xs)
-  unfolding any
-  any-snoc p [] x = refl
-  any-snoc p (y ∷ xs) x = go (p y) (p x) (any-snoc p xs x)
-    where
-      go : (a b : Bool) → any p (xs ++ (x ∷ [])) ≡ choose b true (any p xs) → choose a true (any p (xs ++ (x ∷ []))) ≡ choose b true (choose a true (any p xs))
-      go true true ih = refl
-      go true false ih = refl
-      go false b ih = ih
-
-  pub keep-snoc : (p : A → Bool) (xs : List A) (x : A) → keep p (xs ++ (x ∷ [])) ≡ keep p xs ++ keep p (x ∷ [])
-  unfolding keep
-  keep-snoc p [] x = refl
-  keep-snoc p (y ∷ xs) x = go (p y) (keep-snoc p xs x)
-    where
-      go : (b : Bool) → keep p (xs ++ (x ∷ [])) ≡ keep p xs ++ keep p (x ∷ []) →
-          choose b (y ∷ keep p (xs ++ (x ∷ []))) (keep p (xs ++ (x ∷ []))) ≡ choose b (y ∷ keep p xs) (keep p xs) ++ keep p (x ∷ [])
-      go true ih = ap (λ (l : List A). y ∷ l) ih
-      go false ih = ih
-
-  pub keep-yes : (p : A → Bool) (x : A) (xs : List A) → p x ≡ true → keep p (x ∷ xs) ≡ x ∷ keep p xs
-  unfolding keep
-  keep-yes p x xs e = rw e
-
-  pub keep-no : (p : A → Bool) (x : A) (xs : List A) → p x ≡ false → keep p (x ∷ xs) ≡ keep p xs
-  unfolding keep
-  keep-no p x xs e = rw e
-
-  pub keep-nil : (p : A → Bool) → keep p [] ≡ []
-  unfolding keep
-  keep-nil p = refl
-
   module _ (alike : A → A → Bool) where
     pub news-nil : (pre : List A) → news alike pre [] ≡ []
     unfolding news
@@ -72,7 +39,9 @@ module _ {A : Type 0} where
       unfolding firsts
       news-from seen pre [] h = news-nil pre
       news-from seen pre (x ∷ xs) h =
-          go (any (alike x) seen) refl (news-from seen (pre ++ (x ∷ [])) xs) (news-from (seen ++ (x ∷ [])) (pre ++ (x ∷ [])) xs (λ y. any-snoc (alike y) seen x ∙ ap (choose (alike y x) true) (h y) ∙ sym (any-snoc (alike y) pre x)))
+          go (any (alike x) seen) refl (news-from seen (pre ++ (x ∷ [])) xs)
+          (news-from (seen ++ (x ∷ [])) (pre ++ (x ∷ [])) xs
+          (λ y. any-snoc (alike y) seen x ∙ ap (choose (alike y x) true) (h y) ∙ sym (any-snoc (alike y) pre x)))
         where
           go : (b : Bool) → any (alike x) seen ≡ b →
               (((y : A) → any (alike y) seen ≡ any (alike y) (pre ++ (x ∷ []))) → news alike (pre ++ (x ∷ [])) xs ≡ firsts alike seen xs) →
@@ -81,7 +50,8 @@ module _ {A : Type 0} where
           go true e skip kept = news-old pre x xs (sym (h x) ∙ e) ∙ skip (λ y. old y (alike y x) refl)
             where
               old : (y : A) (b : Bool) → alike y x ≡ b → any (alike y) seen ≡ any (alike y) (pre ++ (x ∷ []))
-              old y true t = ap (λ (p : A → Bool). any p seen) (same y x t) ∙ e ∙ sym (any-snoc (alike y) pre x ∙ ap (λ (b : Bool). choose b true (any (alike y) pre)) t)
+              old y true t =
+                  ap (λ (p : A → Bool). any p seen) (same y x t) ∙ e ∙ sym (any-snoc (alike y) pre x ∙ ap (λ (b : Bool). choose b true (any (alike y) pre)) t)
               old y false t = h y ∙ sym (any-snoc (alike y) pre x ∙ ap (λ (b : Bool). choose b true (any (alike y) pre)) t)
           go false e skip kept = news-new pre x xs (sym (h x) ∙ e) ∙ ap (λ (l : List A). x ∷ l) kept
 
@@ -90,7 +60,7 @@ module _ {A : Type 0} where
 
 -- ---- Names.
 
-module _ (cs : List Part) where
+module _ (cs : List NamedCard) where
   pub interfaces-same : (r s : Row) → sameInterface cs r s ≡ true → sameInterface cs r ≡ sameInterface cs s
   unfolding sameInterface isRowNamed
   interfaces-same r s e = let q : named cs r ≡ named cs s = same-equal (named cs r) (named cs s) e in ap (isRowNamed cs) q
@@ -99,20 +69,20 @@ module _ (cs : List Part) where
   unfolding sameBlock isBlockNamed isRowNamed
   blocks-same b d e = let q : named cs (b .head) ≡ named cs (d .head) = same-equal (named cs (b .head)) (named cs (d .head)) e in ap (isBlockNamed cs) q
 
-  any-interface : (r : Row) (mid : List Row) → any (isPartNamed cs 21 (named cs r)) mid ≡ any (sameInterface cs r) (keep (isRowOf 21) mid)
-  unfolding any keep isPartNamed sameInterface
+  any-interface : (r : Row) (mid : List Row) → any (isPartNamed cs 21 (named cs r)) mid ≡ any (sameInterface cs r) (filter (isRowOf 21) mid)
+  unfolding any filter isPartNamed sameInterface
   any-interface r [] = refl
   any-interface r (x ∷ mid) = go (isRowOf 21 x) (any-interface r mid)
     where
-      go : (b : Bool) → any (isPartNamed cs 21 (named cs r)) mid ≡ any (isRowNamed cs (named cs r)) (keep (isRowOf 21) mid) →
+      go : (b : Bool) → any (isPartNamed cs 21 (named cs r)) mid ≡ any (isRowNamed cs (named cs r)) (filter (isRowOf 21) mid) →
           choose (b && isRowNamed cs (named cs r) x) true (any (isPartNamed cs 21 (named cs r)) mid) ≡
-          any (isRowNamed cs (named cs r)) (choose b (x ∷ keep (isRowOf 21) mid) (keep (isRowOf 21) mid))
+          any (isRowNamed cs (named cs r)) (choose b (x ∷ filter (isRowOf 21) mid) (filter (isRowOf 21) mid))
       go true ih = ap (choose (isRowNamed cs (named cs r) x) true) ih
       go false ih = ih
 
 -- ---- The turns.
 
-module _ (cs : List Part) (pre mid : List Row) (r : Row) (rs : List Row) where
+module _ (cs : List NamedCard) (pre mid : List Row) (r : Row) (rs : List Row) where
   pub gather-type : (o : Option Row) → isTypeRow r ≡ true →
       gather cs pre mid o (r ∷ rs) ≡ gather cs (pre ++ (r ∷ [])) [] (choose (any (isTypeRowNamed cs (named cs r)) pre) none (some r)) rs
   unfolding gather
@@ -138,51 +108,62 @@ module _ (cs : List Part) (pre mid : List Row) (r : Row) (rs : List Row) where
       unfolding gather
       gather-new f g = rw (e, f, g)
 
-pub gather-nil : (cs : List Part) (pre mid : List Row) (o : Option Row) → gather cs pre mid o [] ≡ []
+pub gather-nil : (cs : List NamedCard) (pre mid : List Row) (o : Option Row) → gather cs pre mid o [] ≡ []
 unfolding gather
 gather-nil cs pre mid o = refl
 
 -- ---- What is gathered, block by block.
 
-unfoldable listedUnder : List Part → Row → List Row → List Row → List Implementing
-listedUnder cs t mid ps = map (implementing t) (news (sameInterface cs) (keep (isRowOf 21) mid) (keep (isRowOf 21) ps))
+unfoldable listedUnder : List NamedCard → Row → List Row → List Row → List Implementing
+listedUnder cs t mid ps = map (implementing t) (news (sameInterface cs) (filter (isRowOf 21) mid) (filter (isRowOf 21) ps))
 
-unfoldable listedBy : List Part → Block → List Implementing
+unfoldable listedBy : List NamedCard → Block → List Implementing
 listedBy cs b = listedUnder cs (b .head) [] (b .parts)
 
-unfoldable underIs : List Part → List Row → Option Row → List Row → List Implementing
+unfoldable underIs : List NamedCard → List Row → Option Row → List Row → List Implementing
 underIs cs mid o ps = found o (λ t. listedUnder cs t mid ps) []
 
-module _ (cs : List Part) (t : Row) (mid : List Row) where
+module _ (cs : List NamedCard) (t : Row) (mid : List Row) where
   listed-nil : listedUnder cs t mid [] ≡ []
   unfolding listedUnder
-  listed-nil = rw (keep-nil (isRowOf 21), news-nil (sameInterface cs) (keep (isRowOf 21) mid))
+  listed-nil = rw (filter-nil (isRowOf 21), news-nil (sameInterface cs) (filter (isRowOf 21) mid))
 
   module _ (r : Row) (ps : List Row) where
     listed-other : isRowOf 21 r ≡ false → listedUnder cs t mid (r ∷ ps) ≡ listedUnder cs t (mid ++ (r ∷ [])) ps
     unfolding listedUnder
     listed-other e =
-        let a : keep (isRowOf 21) (r ∷ ps) ≡ keep (isRowOf 21) ps = keep-no (isRowOf 21) r ps e in
-        let b : keep (isRowOf 21) (mid ++ (r ∷ [])) ≡ keep (isRowOf 21) mid =
-        keep-snoc (isRowOf 21) mid r ∙ ap (λ (l : List Row). keep (isRowOf 21) mid ++ l) (keep-no (isRowOf 21) r [] e ∙ keep-nil (isRowOf 21)) ∙ append-nil (keep (isRowOf 21) mid) in
+        let a : filter (isRowOf 21) (r ∷ ps) ≡ filter (isRowOf 21) ps = filter-no (isRowOf 21) r ps e in
+        let b : filter (isRowOf 21) (mid ++ (r ∷ [])) ≡ filter (isRowOf 21) mid =
+        filter-append (isRowOf 21) mid (r ∷ []) ∙ ap (λ (l : List Row). filter (isRowOf 21) mid ++ l) (filter-no (isRowOf 21) r [] e ∙ filter-nil (isRowOf 21))
+        ∙ append-nil (filter (isRowOf 21) mid) in
         rw (a, b)
 
-    with-last : isRowOf 21 r ≡ true → keep (isRowOf 21) mid ++ (r ∷ []) ≡ keep (isRowOf 21) (mid ++ (r ∷ []))
-    with-last e = sym (keep-snoc (isRowOf 21) mid r ∙ ap (λ (l : List Row). keep (isRowOf 21) mid ++ l) (keep-yes (isRowOf 21) r [] e ∙ ap (λ (l : List Row). r ∷ l) (keep-nil (isRowOf 21))))
+    with-last : isRowOf 21 r ≡ true → filter (isRowOf 21) mid ++ (r ∷ []) ≡ filter (isRowOf 21) (mid ++ (r ∷ []))
+    with-last e =
+        sym (filter-append (isRowOf 21) mid (r ∷ [])
+        ∙ ap (λ (l : List Row). filter (isRowOf 21) mid ++ l) (filter-yes (isRowOf 21) r [] e ∙ ap (λ (l : List Row). r ∷ l) (filter-nil (isRowOf 21))))
 
     listed-again : isRowOf 21 r ≡ true → any (isPartNamed cs 21 (named cs r)) mid ≡ true → listedUnder cs t mid (r ∷ ps) ≡ listedUnder cs t (mid ++ (r ∷ [])) ps
     unfolding listedUnder
     listed-again e f =
-        rw (keep-yes (isRowOf 21) r ps e, news-old (sameInterface cs) (keep (isRowOf 21) mid) r (keep (isRowOf 21) ps) (sym (any-interface cs r mid) ∙ f), with-last e)
+        rw (
+          filter-yes (isRowOf 21) r ps e,
+          news-old (sameInterface cs) (filter (isRowOf 21) mid) r (filter (isRowOf 21) ps) (sym (any-interface cs r mid) ∙ f),
+          with-last e,
+        )
 
     listed-new : isRowOf 21 r ≡ true → any (isPartNamed cs 21 (named cs r)) mid ≡ false →
         listedUnder cs t mid (r ∷ ps) ≡ implementing t r ∷ listedUnder cs t (mid ++ (r ∷ [])) ps
     unfolding listedUnder
     listed-new e f =
-        rw (keep-yes (isRowOf 21) r ps e, news-new (sameInterface cs) (keep (isRowOf 21) mid) r (keep (isRowOf 21) ps) (sym (any-interface cs r mid) ∙ f), with-last e)
+        rw (
+          filter-yes (isRowOf 21) r ps e,
+          news-new (sameInterface cs) (filter (isRowOf 21) mid) r (filter (isRowOf 21) ps) (sym (any-interface cs r mid) ∙ f),
+          with-last e,
+        )
 
 -- All types: the rows before and the types before have the same names.
-module _ (cs : List Part) where
+module _ (cs : List NamedCard) where
   Known : List Row → List Block → Type 0
   Known pre preB = (n : List ℕ) → any (isBlockNamed cs n) preB ≡ any (isTypeRowNamed cs n) pre
 
@@ -191,9 +172,11 @@ module _ (cs : List Part) where
 
   known-part : (pre : List Row) (preB : List Block) (r : Row) → isTypeRow r ≡ false → Known pre preB → Known (pre ++ (r ∷ [])) preB
   unfolding Known isTypeRowNamed
-  known-part pre preB r e h n = h n ∙ sym (any-snoc (isTypeRowNamed cs n) pre r ∙ ap (λ (b : Bool). choose (b && isRowNamed cs n r) true (any (isTypeRowNamed cs n) pre)) e)
+  known-part pre preB r e h n =
+      h n ∙ sym (any-snoc (isTypeRowNamed cs n) pre r ∙ ap (λ (b : Bool). choose (b && isRowNamed cs n r) true (any (isTypeRowNamed cs n) pre)) e)
 
-  known-type : (pre : List Row) (preB : List Block) (r : Row) (ps : List Row) → isTypeRow r ≡ true → Known pre preB → Known (pre ++ (r ∷ [])) (preB ++ (record { head = r; parts = ps } ∷ []))
+  known-type : (pre : List Row) (preB : List Block) (r : Row) (ps : List Row) → isTypeRow r ≡ true → Known pre preB →
+      Known (pre ++ (r ∷ [])) (preB ++ (record { head = r; parts = ps } ∷ []))
   unfolding Known isTypeRowNamed isBlockNamed
   known-type pre preB r ps e h n =
       any-snoc (isBlockNamed cs n) preB (record { head = r; parts = ps })
@@ -229,7 +212,8 @@ module _ (cs : List Part) where
       none-left none = (unfold underIs in no-types)
       none-left (some t) = (unfold underIs in rw (no-types) (rw blocks-nil (rw (listed-nil cs t mid))))
   gathered pre mid o (r ∷ rs) preB h =
-      go (isTypeRow r) o refl (gathered (pre ++ (r ∷ [])) [] (choose (any (isTypeRowNamed cs (named cs r)) pre) none (some r)) rs (preB ++ (record { head = r; parts = blocks rs .0 } ∷ [])))
+      go (isTypeRow r) o refl (gathered (pre ++ (r ∷ [])) [] (choose (any (isTypeRowNamed cs (named cs r)) pre) none (some r)) rs
+      (preB ++ (record { head = r; parts = blocks rs .0 } ∷ [])))
       (gathered (pre ++ (r ∷ [])) [] none rs preB) (λ t. gathered (pre ++ (r ∷ [])) (mid ++ (r ∷ [])) (some t) rs preB)
     where
       after : List Row
@@ -249,9 +233,11 @@ module _ (cs : List Part) where
           gather cs after (mid ++ (r ∷ [])) (some t) rs ≡ listedUnder cs t (mid ++ (r ∷ [])) (blocks rs .0) ++ typesIs preB (blocks rs .1) →
           gather cs pre mid (some t) (r ∷ rs) ≡ listedUnder cs t mid (r ∷ blocks rs .0) ++ typesIs preB (blocks rs .1)
       part t e false y s u k =
-          gather-other cs pre mid r rs e t s ∙ k ∙ ap (λ (l : List Implementing). l ++ typesIs preB (blocks rs .1)) (sym (listed-other cs t mid r (blocks rs .0) s))
+          gather-other cs pre mid r rs e t s ∙ k
+          ∙ ap (λ (l : List Implementing). l ++ typesIs preB (blocks rs .1)) (sym (listed-other cs t mid r (blocks rs .0) s))
       part t e true true s u k =
-          gather-again cs pre mid r rs e t s u ∙ k ∙ ap (λ (l : List Implementing). l ++ typesIs preB (blocks rs .1)) (sym (listed-again cs t mid r (blocks rs .0) s u))
+          gather-again cs pre mid r rs e t s u ∙ k
+          ∙ ap (λ (l : List Implementing). l ++ typesIs preB (blocks rs .1)) (sym (listed-again cs t mid r (blocks rs .0) s u))
       part t e true false s u k =
           gather-new cs pre mid r rs e t s u ∙ ap (λ (l : List Implementing). implementing t r ∷ l) k
           ∙ ap (λ (l : List Implementing). l ++ typesIs preB (blocks rs .1)) (sym (listed-new cs t mid r (blocks rs .0) s u))
@@ -259,7 +245,8 @@ module _ (cs : List Part) where
       go : (x : Bool) (o : Option Row) → isTypeRow r ≡ x →
           (Known after (preB ++ (b ∷ [])) → gather cs after [] first rs ≡ underIs cs [] first (blocks rs .0) ++ typesIs (preB ++ (b ∷ [])) (blocks rs .1)) →
           (Known after preB → gather cs after [] none rs ≡ underIs cs [] none (blocks rs .0) ++ typesIs preB (blocks rs .1)) →
-          ((t : Row) → Known after preB → gather cs after (mid ++ (r ∷ [])) (some t) rs ≡ underIs cs (mid ++ (r ∷ [])) (some t) (blocks rs .0) ++ typesIs preB (blocks rs .1)) →
+          ((t : Row) → Known after preB →
+          gather cs after (mid ++ (r ∷ [])) (some t) rs ≡ underIs cs (mid ++ (r ∷ [])) (some t) (blocks rs .0) ++ typesIs preB (blocks rs .1)) →
           gather cs pre mid o (r ∷ rs) ≡ underIs cs mid o (blocks (r ∷ rs) .0) ++ typesIs preB (blocks (r ∷ rs) .1)
       go true o e type outside under =
           gather-type cs pre mid r rs o e
@@ -277,14 +264,19 @@ module _ (cs : List Part) where
 
 -- ---- The whole.
 
-pub gather-all : (cs : List Part) (rs : List Row) → gather cs [] [] none rs ≡ allImplementing cs rs
-unfolding allImplementing types
+pub gather-all : (cs : List NamedCard) (rs : List Row) → gather cs [] [] none rs ≡ allImplementing cs rs
+unfolding allImplementing firstTypes
 gather-all cs rs =
     gathered cs [] [] none rs [] start
-    ∙ (unfold underIs typesIs in (ap (flatMap (listedBy cs)) (news-firsts (sameBlock cs) (blocks-same cs) (blocks rs .1)) ∙ ap (λ (f : Block → List Implementing). flatMap f (firsts (sameBlock cs) [] (blocks rs .1))) (λ j b. listed-is b j)))
+    ∙ (unfold underIs typesIs in (ap (flatMap (listedBy cs)) (news-firsts (sameBlock cs) (blocks-same cs) (blocks rs .1))
+    ∙ ap (λ (f : Block → List Implementing). flatMap f (firsts (sameBlock cs) [] (blocks rs .1))) (λ j b. listed-is b j)))
   where
     start : Known cs [] []
     start = unfold Known any in λ n. refl
 
     listed-is : (b : Block) → listedBy cs b ≡ implementingOf cs b
-    listed-is b = unfold listedBy listedUnder implementingOf in ap (map (implementing (b .head))) (ap (λ (l : List Row). news (sameInterface cs) l (keep (isRowOf 21) (b .parts))) (keep-nil (isRowOf 21)) ∙ news-firsts (sameInterface cs) (interfaces-same cs) (keep (isRowOf 21) (b .parts)))
+    listed-is b =
+        unfold listedBy listedUnder implementingOf in
+        ap (map (implementing (b .head)))
+        (ap (λ (l : List Row). news (sameInterface cs) l (filter (isRowOf 21) (b .parts))) (filter-nil (isRowOf 21))
+        ∙ news-firsts (sameInterface cs) (interfaces-same cs) (filter (isRowOf 21) (b .parts)))

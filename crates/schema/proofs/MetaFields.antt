@@ -9,7 +9,7 @@ use Rattle.definition.specs.declared.FieldFound.the-variants.{Typename, Schema,
 use Rattle.definition.specs.declared.FieldLookup.the-variants.{Found, NoSuchField}
 use Rattle.definition.specs.Lists.{found}
 use Rattle.definition.specs.Names.{sameName, bytes}
-use Rattle.definition.specs.Headings.{Part}
+use Rattle.definition.specs.Headings.{NamedCard}
 use Rattle.definition.specs.Catalogue.{Row}
 use Rattle.definition.specs.Lookups.{isQueryRoot, metaField}
 use Rattle.schema.specs.MetaFields.{isTypename}
@@ -27,7 +27,7 @@ module _ (kind : ℕ) (field : List ℕ) where
   unfolding isTypename
   typename-named h k = rw (le-leb 6 kind h, le-leb kind 8 k)
 
-module _ (cs : List Part) (rs : List Row) (kind card : ℕ) (type field : List ℕ) where
+module _ (cs : List NamedCard) (rs : List Row) (kind card : ℕ) (type field : List ℕ) where
   pub meta-typename : isTypename kind field ≡ true → Found Typename ≡ found (metaField cs rs kind type field) (λ m. Found m) (NoSuchField card)
   unfolding metaField isTypename
   meta-typename e = rw e

@@ -6,11 +6,11 @@ use mathlib.Core.Option.{some}
 use Prim.Native.Nat.{ℕ, suc, _+_, _*_, _/_, _≤_, _<_}
 use native.Mathlib.Numerals.{add-one}
 use native.Mathlib.Omega.{arith}
-use borrow.Author.Tests.{eq-eqb, ne-eqb, le-leb, lt-leb}
-use lib.Dec.{eqb, leb}
+use borrow.Author.Tests.{eq-eqb, ne-eqb}
+use lib.Dec.{eqb}
 use lib.ListN.{length, take, drop, getD, getElem?, set, drop-of-length-le}
 use lib.Seq.{drop-cons, drop-drop}
-use Rattle.definition.specs.Lists.{choose, keep, any, firsts}
+use Rattle.definition.specs.Lists.{choose, filter, any, firsts}
 use Rattle.definition.specs.Answers.{absent}
 use Rattle.definition.specs.Cards.{isRoot}
 use Rattle.definition.specs.Catalogue.{Row, row}
@@ -19,7 +19,7 @@ use Rattle.definition.specs.Lookups.{blocks, isRowOf, isSchemaPart, originOf, o
 use Rattle.store_reader.proofs.Lists.{get-drop, get-inside}
 use Rattle.schema_rows.specs.declared.search.Found.the-variants.{Row as RowAt, Nothing}
 use Rattle.schema_rows.specs.Rows.{rowAt}
-use Rattle.schema_rows.specs.SearchLaws.{partFrom}
+use Rattle.schema_rows.specs.Search.{partFrom}
 use Rattle.schema_rows.proofs.Rows.{length-rows, row-get, never, never-row}
 use Rattle.schema.specs.Extensions.{isNew}
 use Rattle.schema_rows.proofs.SearchLaws.{blocks-type, blocks-under, blocks-nil}
@@ -32,13 +32,9 @@ module _ (what card origin : ℕ) where
   unfolding isSchemaPart isRowOf
   schema-use e = rw (eq-eqb what 20 e)
 
-  pub schema-low : (what ≡ 20 → ⊥) → what < 26 → false ≡ isSchemaPart (row what card origin)
-  unfolding isSchemaPart isRowOf isRoot
-  schema-low e h = rw (ne-eqb what 20 e, lt-leb 26 what h)
-
-  pub schema-root : (what ≡ 20 → ⊥) → 26 ≤ what → leb what 28 ≡ isSchemaPart (row what card origin)
-  unfolding isSchemaPart isRowOf isRoot
-  schema-root e h = rw (ne-eqb what 20 e, le-leb 26 what h)
+  pub schema-root : (what ≡ 20 → ⊥) → isRoot what ≡ isSchemaPart (row what card origin)
+  unfolding isSchemaPart isRowOf
+  schema-root e = rw (ne-eqb what 20 e)
 
   pub schema-any : isSchemaPart (row what 0 0) ≡ isSchemaPart (row what card origin)
   unfolding isSchemaPart isRowOf
@@ -47,29 +43,29 @@ module _ (what card origin : ℕ) where
 -- ---- The next part.
 
 module _ (x : Row) (xs : List Row) where
-  kept-stop : isTypeRow x ≡ true → keep isSchemaPart (blocks (x ∷ xs) .0) ≡ []
-  unfolding keep
+  kept-stop : isTypeRow x ≡ true → filter isSchemaPart (blocks (x ∷ xs) .0) ≡ []
+  unfolding filter
   kept-stop s = rw (blocks-type x xs s)
 
-  kept-part : isTypeRow x ≡ false → isSchemaPart x ≡ true → keep isSchemaPart (blocks (x ∷ xs) .0) ≡ x ∷ keep isSchemaPart (blocks xs .0)
-  unfolding keep
+  kept-part : isTypeRow x ≡ false → isSchemaPart x ≡ true → filter isSchemaPart (blocks (x ∷ xs) .0) ≡ x ∷ filter isSchemaPart (blocks xs .0)
+  unfolding filter
   kept-part s t = rw (blocks-under x xs s, t)
 
-  kept-other : isTypeRow x ≡ false → isSchemaPart x ≡ false → keep isSchemaPart (blocks (x ∷ xs) .0) ≡ keep isSchemaPart (blocks xs .0)
-  unfolding keep
+  kept-other : isTypeRow x ≡ false → isSchemaPart x ≡ false → filter isSchemaPart (blocks (x ∷ xs) .0) ≡ filter isSchemaPart (blocks xs .0)
+  unfolding filter
   kept-other s t = rw (blocks-under x xs s, t)
 
-kept-end : keep isSchemaPart (blocks [] .0) ≡ []
-unfolding keep
+kept-end : filter isSchemaPart (blocks [] .0) ≡ []
+unfolding filter
 kept-end = rw blocks-nil
 
-kept-none : (i : ℕ) (xs : List Row) → partFrom isSchemaPart i xs ≡ Nothing → keep isSchemaPart (blocks xs .0) ≡ []
+kept-none : (i : ℕ) (xs : List Row) → partFrom isSchemaPart i xs ≡ Nothing → filter isSchemaPart (blocks xs .0) ≡ []
 unfolding partFrom
 kept-none i [] e = kept-end
 kept-none i (x ∷ xs) e = go (isTypeRow x) (isSchemaPart x) refl refl e (kept-none (i + 1) xs)
   where
     go : (a b : Bool) → isTypeRow x ≡ a → isSchemaPart x ≡ b → choose a Nothing (choose b (RowAt i) (partFrom isSchemaPart (i + 1) xs)) ≡ Nothing →
-        (partFrom isSchemaPart (i + 1) xs ≡ Nothing → keep isSchemaPart (blocks xs .0) ≡ []) → keep isSchemaPart (blocks (x ∷ xs) .0) ≡ []
+        (partFrom isSchemaPart (i + 1) xs ≡ Nothing → filter isSchemaPart (blocks xs .0) ≡ []) → filter isSchemaPart (blocks (x ∷ xs) .0) ≡ []
     go true b s t e ih = kept-stop x xs s
     go false true s t e ih = never-row e
     go false false s t e ih = kept-other x xs s t ∙ ih e
@@ -80,7 +76,7 @@ record Next (i : ℕ) (xs : List Row) (k : ℕ) : Type 0 where
   pub row : Row
   pub place : k ≡ i + at
   pub held : getElem? xs at ≡ some row
-  pub rest : keep isSchemaPart (blocks xs .0) ≡ row ∷ keep isSchemaPart (blocks (drop (suc at) xs) .0)
+  pub rest : filter isSchemaPart (blocks xs .0) ≡ row ∷ filter isSchemaPart (blocks (drop (suc at) xs) .0)
 
 kept-next : (i : ℕ) (xs : List Row) (k : ℕ) → partFrom isSchemaPart i xs ≡ RowAt k → Next i xs k
 unfolding partFrom
@@ -123,7 +119,7 @@ module _ (rows : List ℕ) (i : ℕ) where
         let d : drop (suc (next-part .at)) (drop i (lentRows rows)) ≡ drop (k + 1) (lentRows rows) =
         drop-drop (suc (next-part .at)) i (lentRows rows) ∙ ap (λ (m : ℕ). drop m (lentRows rows)) p in
         ap (map originOf) (next-part .rest)
-        ∙ (λ j. originOf (r j) ∷ map originOf (keep isSchemaPart (blocks (d j) .0)))
+        ∙ (λ j. originOf (r j) ∷ map originOf (filter isSchemaPart (blocks (d j) .0)))
 
 -- ---- A word among words.
 
@@ -172,54 +168,55 @@ module _ (seen : List ℕ) (origin : ℕ) where
     extension-added e = (sym (ap (λ (b : Bool). choose b (n + 1) n) e), sym (ap (λ (b : Bool). choose b (set list n origin) list) e))
 
   module _ (rest : List ℕ) where
-    left-out : isNew seen origin ≡ false → firsts eqb seen (keep isCard (origin ∷ rest)) ≡ firsts eqb seen (keep isCard rest)
-    unfolding keep firsts isNew
+    left-out : isNew seen origin ≡ false → firsts eqb seen (filter isCard (origin ∷ rest)) ≡ firsts eqb seen (filter isCard rest)
+    unfolding filter firsts isNew
     left-out e = go (isCard origin) (any (eqb origin) seen) refl refl e
       where
         go : (a b : Bool) → isCard origin ≡ a → any (eqb origin) seen ≡ b → (a && not b) ≡ false →
-            firsts eqb seen (choose a (origin ∷ keep isCard rest) (keep isCard rest)) ≡ firsts eqb seen (keep isCard rest)
+            firsts eqb seen (choose a (origin ∷ filter isCard rest) (filter isCard rest)) ≡ firsts eqb seen (filter isCard rest)
         go false b s t e = refl
         go true true s t e = rw t
         go true false s t e = absurd (let z : true ≡ false = e in let y : _≡_ {A = ℕ} 0 1 = cc in omega arith)
 
-    taken-in : isNew seen origin ≡ true → firsts eqb seen (keep isCard (origin ∷ rest)) ≡ origin ∷ firsts eqb (seen ++ (origin ∷ [])) (keep isCard rest)
-    unfolding keep firsts isNew
+    taken-in : isNew seen origin ≡ true → firsts eqb seen (filter isCard (origin ∷ rest)) ≡ origin ∷ firsts eqb (seen ++ (origin ∷ [])) (filter isCard rest)
+    unfolding filter firsts isNew
     taken-in e = go (isCard origin) (any (eqb origin) seen) refl refl e
       where
         go : (a b : Bool) → isCard origin ≡ a → any (eqb origin) seen ≡ b → (a && not b) ≡ true →
-            firsts eqb seen (choose a (origin ∷ keep isCard rest) (keep isCard rest)) ≡ origin ∷ firsts eqb (seen ++ (origin ∷ [])) (keep isCard rest)
+            firsts eqb seen (choose a (origin ∷ filter isCard rest) (filter isCard rest)) ≡ origin ∷ firsts eqb (seen ++ (origin ∷ [])) (filter isCard rest)
         go true false s t e = rw t
         go true true s t e = absurd (let z : true ≡ false = sym e in let y : _≡_ {A = ℕ} 0 1 = cc in omega arith)
         go false b s t e = absurd (let z : true ≡ false = sym e in let y : _≡_ {A = ℕ} 0 1 = cc in omega arith)
 
 module _ (list₀ list : List ℕ) (n origin : ℕ) (rest whole : List ℕ)
-    (l : Listing list₀ list n (firsts eqb (take n list) (keep isCard (origin ∷ rest))) whole) where
-  pushing : isNew (take n list) origin ≡ true → Listing list₀ list n (origin ∷ firsts eqb (take n list ++ (origin ∷ [])) (keep isCard rest)) whole
+    (l : Listing list₀ list n (firsts eqb (take n list) (filter isCard (origin ∷ rest))) whole) where
+  pushing : isNew (take n list) origin ≡ true → Listing list₀ list n (origin ∷ firsts eqb (take n list ++ (origin ∷ [])) (filter isCard rest)) whole
   pushing e = rw (taken-in (take n list) origin rest e) at l
 
-  pub extension-room : length whole ≤ length list₀ → isNew (take n list) origin ≡ true → n < length list
-  extension-room h e =
-      let a = listing-length list₀ list n (origin ∷ firsts eqb (take n list ++ (origin ∷ [])) (keep isCard rest)) whole (pushing e) in
+  pub extension-capacity : length whole ≤ length list₀ → isNew (take n list) origin ≡ true → n < length list
+  extension-capacity h e =
+      let a = listing-length list₀ list n (origin ∷ firsts eqb (take n list ++ (origin ∷ [])) (filter isCard rest)) whole (pushing e) in
       let b = l .kept in
       omega arith
 
   pub extension-turn : length whole ≤ length list₀ → (r : ℕ) (list' : List ℕ) →
       r ≡ choose (isNew (take n list) origin) (n + 1) n → list' ≡ choose (isNew (take n list) origin) (set list n origin) list →
-      Listing list₀ list' r (firsts eqb (take r list') (keep isCard rest)) whole
+      Listing list₀ list' r (firsts eqb (take r list') (filter isCard rest)) whole
   extension-turn h r list' p q = go (isNew (take n list) origin) refl p q
     where
       go : (b : Bool) → isNew (take n list) origin ≡ b → r ≡ choose b (n + 1) n → list' ≡ choose b (set list n origin) list →
-          Listing list₀ list' r (firsts eqb (take r list') (keep isCard rest)) whole
+          Listing list₀ list' r (firsts eqb (take r list') (filter isCard rest)) whole
       go false e p q = rw (p, q) (rw (left-out (take n list) origin rest e) at l)
       go true e p q =
-          let room = extension-room h e in
-          let more = firsts eqb (take n list ++ (origin ∷ [])) (keep isCard rest) in
-          rw (p, q) (rw (pushed-words list₀ list n origin more whole (pushing e) room) (listing-push list₀ list n origin more whole (pushing e) room))
+          let capacity = extension-capacity h e in
+          let more = firsts eqb (take n list ++ (origin ∷ [])) (filter isCard rest) in
+          rw (p, q) (rw (pushed-words list₀ list n origin more whole (pushing e) capacity) (listing-push list₀ list n origin more whole (pushing e) capacity))
 
-pub extension-start : (rows list : List ℕ) → Listing list list 0 (firsts eqb (take 0 list) (keep isCard (originList (drop 0 (lentRows rows))))) (extensionList (lentRows rows))
+pub extension-start : (rows list : List ℕ) →
+    Listing list list 0 (firsts eqb (take 0 list) (filter isCard (originList (drop 0 (lentRows rows))))) (extensionList (lentRows rows))
 unfolding extensionList
-extension-start rows list = listing-start list (firsts eqb [] (keep isCard (originList (lentRows rows))))
+extension-start rows list = listing-start list (firsts eqb [] (filter isCard (originList (lentRows rows))))
 
-pub firsts-none : (seen : List ℕ) (origins : List ℕ) → origins ≡ [] → firsts eqb seen (keep isCard origins) ≡ []
-unfolding firsts keep
+pub firsts-none : (seen : List ℕ) (origins : List ℕ) → origins ≡ [] → firsts eqb seen (filter isCard origins) ≡ []
+unfolding firsts filter
 firsts-none seen origins e = rw e

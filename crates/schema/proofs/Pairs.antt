@@ -11,7 +11,7 @@ use lib.ListN.{length, take, drop, getD, drop-of-length-le}
 use lib.Seq.{drop-append-le, length-take-le}
 use Rattle.definition.specs.Lists.{choose, any, flatMap}
 use Rattle.definition.specs.Cards.{isType}
-use Rattle.definition.specs.Headings.{Part}
+use Rattle.definition.specs.Headings.{NamedCard}
 use Rattle.definition.specs.Catalogue.{Row}
 use Rattle.definition.specs.LentRows.{lentRows, isTypeRow, isTypeRowNamed}
 use Rattle.definition.specs.Lookups.{isRowOf, isPartNamed, Implementing, implementing, allImplementing}
@@ -21,9 +21,11 @@ use Rattle.schema_rows.specs.declared.search.Found.{Found}
 use Rattle.schema_rows.specs.declared.search.Found.the-variants.{Row as RowAt, Nothing}
 use Rattle.schema_rows.proofs.Rows.{length-rows, row-next, row-end, taken-next, contradiction}
 use Rattle.schema.specs.Owners.{named, firstType, ownerOf, LastType, isListed}
+use Rattle.definition.proofs.Lists.{any-nil}
+use Rattle.schema_rows.proofs.Walk.{any-snoc}
 use Rattle.schema.specs.Gather.{gather, ownerRow, underOwner, asRow, pairWords, pairsLeft}
-use Rattle.schema.proofs.Gather.{any-nil, any-snoc, gather-type, gather-outside, gather-other, gather-again, gather-new, gather-nil, gather-all}
-use Rattle.schema.proofs.Firsts.{taken-length}
+use Rattle.schema.proofs.Gather.{gather-type, gather-outside, gather-other, gather-again, gather-new, gather-nil, gather-all}
+use Rattle.schema.proofs.SearchStops.{taken-length}
 
 -- ---- The start: no type row was seen.
 
@@ -31,7 +33,7 @@ pub last-start : (rows : List ℕ) → LastType rows 0 0
 unfolding any
 last-start rows = record { before = omega arith; outside = λ e. refl; between = refl }
 
-pub pairs-start : (cs : List Part) (rows : List ℕ) → pairWords (allImplementing cs (lentRows rows)) ≡ pairsLeft cs rows (ownerOf cs rows 0 0) 0
+pub pairs-start : (cs : List NamedCard) (rows : List ℕ) → pairWords (allImplementing cs (lentRows rows)) ≡ pairsLeft cs rows (ownerOf cs rows 0 0) 0
 unfolding pairsLeft
 pairs-start cs rows = ap pairWords (sym (gather-all cs (lentRows rows))) ∙ ap (λ (owner : Found). pairsLeft cs rows owner 0) (sym owner-start)
   where
@@ -42,7 +44,7 @@ pairs-start cs rows = ap pairWords (sym (gather-all cs (lentRows rows))) ∙ ap 
         go true = refl
         go false = refl
 
-pub pairs-end : (cs : List Part) (rows : List ℕ) (owner : Found) (i : ℕ) → length rows / 3 ≤ i → pairsLeft cs rows owner i ≡ []
+pub pairs-end : (cs : List NamedCard) (rows : List ℕ) (owner : Found) (i : ℕ) → length rows / 3 ≤ i → pairsLeft cs rows owner i ≡ []
 unfolding pairsLeft pairWords flatMap
 pairs-end cs rows owner i h =
     let rs = lentRows rows in
@@ -54,11 +56,13 @@ pairs-end cs rows owner i h =
 module _ (rows : List ℕ) (i : ℕ) (h : i < length rows / 3) where
   under-next : (t : ℕ) → t < i → drop (t + 1) (take (i + 1) (lentRows rows)) ≡ drop (t + 1) (take i (lentRows rows)) ++ (rowAt rows i ∷ [])
   under-next t l =
-      ap (drop (t + 1)) (taken-next rows i h) ∙ drop-append-le (t + 1) (take i (lentRows rows)) (rowAt rows i ∷ []) (let k = taken-length rows i h in omega arith)
+      ap (drop (t + 1)) (taken-next rows i h)
+      ∙ drop-append-le (t + 1) (take i (lentRows rows)) (rowAt rows i ∷ []) (let k = taken-length rows i h in omega arith)
 
   under-none : drop (i + 1) (take (i + 1) (lentRows rows)) ≡ []
   under-none =
-      drop-of-length-le (take (i + 1) (lentRows rows)) {i = i + 1} (let a = length-take-le (i + 1) (lentRows rows) (let l = length-rows rows in omega arith) in omega arith)
+      drop-of-length-le (take (i + 1) (lentRows rows)) {i = i + 1}
+      (let a = length-take-le (i + 1) (lentRows rows) (let l = length-rows rows in omega arith) in omega arith)
 
   pub type-last : isType (getD rows (3 * i) 0) ≡ true → LastType rows i (i + 1)
   type-last e = record {
@@ -93,7 +97,7 @@ module _ (rows : List ℕ) (i : ℕ) (h : i < length rows / 3) where
 
 -- ---- The turns.
 
-module _ (cs : List Part) (rows : List ℕ) (i : ℕ) (h : i < length rows / 3) where
+module _ (cs : List NamedCard) (rows : List ℕ) (i : ℕ) (h : i < length rows / 3) where
   here : (mid : List Row) (o : Option Row) → pairWords (gather cs (take i (lentRows rows)) mid o (drop i (lentRows rows))) ≡
       pairWords (gather cs (take i (lentRows rows)) mid o (rowAt rows i ∷ drop (i + 1) (lentRows rows)))
   here mid o = ap (λ (l : List Row). pairWords (gather cs (take i (lentRows rows)) mid o l)) (row-next rows i h)
@@ -129,7 +133,8 @@ module _ (cs : List Part) (rows : List ℕ) (i : ℕ) (h : i < length rows / 3) 
             pairWords (gather cs (take (i + 1) (lentRows rows)) (underOwner (lentRows rows) next (i + 1)) (ownerRow rows next) (drop (i + 1) (lentRows rows)))
         go true next f = rw f
         go false next f =
-            rw f (ap (λ (l : List Row). pairWords (gather cs (take (i + 1) (lentRows rows)) l (some (rowAt rows i)) (drop (i + 1) (lentRows rows)))) (sym (under-none rows i h)))
+            rw f (ap (λ (l : List Row). pairWords (gather cs (take (i + 1) (lentRows rows)) l (some (rowAt rows i)) (drop (i + 1) (lentRows rows))))
+            (sym (under-none rows i h)))
 
   -- A row under a type row, or before the first one.
   module _ (e : isType (getD rows (3 * i) 0) ≡ false) where
@@ -141,29 +146,34 @@ module _ (cs : List Part) (rows : List ℕ) (i : ℕ) (h : i < length rows / 3) 
         ∙ there [] none
 
     module _ (t : ℕ) (l : t < i) where
-      onwards : pairWords (gather cs (take i (lentRows rows) ++ (rowAt rows i ∷ [])) (drop (t + 1) (take i (lentRows rows)) ++ (rowAt rows i ∷ [])) (some (rowAt rows t)) (drop (i + 1) (lentRows rows))) ≡
+      onwards : pairWords (gather cs (take i (lentRows rows) ++ (rowAt rows i ∷ [])) (drop (t + 1) (take i (lentRows rows)) ++ (rowAt rows i ∷ []))
+          (some (rowAt rows t)) (drop (i + 1) (lentRows rows))) ≡
           pairsLeft cs rows (RowAt t) (i + 1)
       unfolding pairsLeft
       onwards =
           there (drop (t + 1) (take i (lentRows rows)) ++ (rowAt rows i ∷ [])) (some (rowAt rows t))
-          ∙ ap (λ (m : List Row). pairWords (gather cs (take (i + 1) (lentRows rows)) m (some (rowAt rows t)) (drop (i + 1) (lentRows rows)))) (sym (under-next rows i h t l))
+          ∙ ap (λ (m : List Row). pairWords (gather cs (take (i + 1) (lentRows rows)) m (some (rowAt rows t)) (drop (i + 1) (lentRows rows))))
+          (sym (under-next rows i h t l))
 
       arrived : pairsLeft cs rows (RowAt t) i ≡
-          pairWords (gather cs (take i (lentRows rows)) (drop (t + 1) (take i (lentRows rows))) (some (rowAt rows t)) (rowAt rows i ∷ drop (i + 1) (lentRows rows)))
+          pairWords (gather cs (take i (lentRows rows)) (drop (t + 1) (take i (lentRows rows))) (some (rowAt rows t))
+          (rowAt rows i ∷ drop (i + 1) (lentRows rows)))
       unfolding pairsLeft
       arrived = here (drop (t + 1) (take i (lentRows rows))) (some (rowAt rows t))
 
       other-at : isRowOf 21 (rowAt rows i) ≡ false → pairsLeft cs rows (RowAt t) i ≡ pairsLeft cs rows (RowAt t) (i + 1)
       other-at f =
           arrived
-          ∙ ap pairWords (gather-other cs (take i (lentRows rows)) (drop (t + 1) (take i (lentRows rows))) (rowAt rows i) (drop (i + 1) (lentRows rows)) (no-type rows i h e) (rowAt rows t) f)
+          ∙ ap pairWords (gather-other cs (take i (lentRows rows)) (drop (t + 1) (take i (lentRows rows))) (rowAt rows i) (drop (i + 1) (lentRows rows))
+          (no-type rows i h e) (rowAt rows t) f)
           ∙ onwards
 
       again-at : isRowOf 21 (rowAt rows i) ≡ true → any (isPartNamed cs 21 (named cs (rowAt rows i))) (drop (t + 1) (take i (lentRows rows))) ≡ true →
           pairsLeft cs rows (RowAt t) i ≡ pairsLeft cs rows (RowAt t) (i + 1)
       again-at f g =
           arrived
-          ∙ ap pairWords (gather-again cs (take i (lentRows rows)) (drop (t + 1) (take i (lentRows rows))) (rowAt rows i) (drop (i + 1) (lentRows rows)) (no-type rows i h e) (rowAt rows t) f g)
+          ∙ ap pairWords (gather-again cs (take i (lentRows rows)) (drop (t + 1) (take i (lentRows rows))) (rowAt rows i) (drop (i + 1) (lentRows rows))
+          (no-type rows i h e) (rowAt rows t) f g)
           ∙ onwards
 
       words-of : (is : List Implementing) → pairWords (implementing (rowAt rows t) (rowAt rows i) ∷ is) ≡
@@ -175,7 +185,8 @@ module _ (cs : List Part) (rows : List ℕ) (i : ℕ) (h : i < length rows / 3) 
           pairsLeft cs rows (RowAt t) i ≡ getD rows (3 * t) 0 ∷ (getD rows (3 * i + 1) 0 ∷ (getD rows (3 * t + 1) 0 ∷ pairsLeft cs rows (RowAt t) (i + 1)))
       new-at f g =
           arrived
-          ∙ ap pairWords (gather-new cs (take i (lentRows rows)) (drop (t + 1) (take i (lentRows rows))) (rowAt rows i) (drop (i + 1) (lentRows rows)) (no-type rows i h e) (rowAt rows t) f g)
+          ∙ ap pairWords (gather-new cs (take i (lentRows rows)) (drop (t + 1) (take i (lentRows rows))) (rowAt rows i) (drop (i + 1) (lentRows rows))
+          (no-type rows i h e) (rowAt rows t) f g)
           ∙ words-of _
           ∙ ap (λ (w : List ℕ). getD rows (3 * t) 0 ∷ (getD rows (3 * i + 1) 0 ∷ (getD rows (3 * t + 1) 0 ∷ w))) onwards
 
@@ -200,7 +211,8 @@ module _ (cs : List Part) (rows : List ℕ) (i : ℕ) (h : i < length rows / 3) 
 
       owner-either : (P : Found → Type 0) → P Nothing → (t < i → P (RowAt t)) → P (ownerOf cs rows t i)
       unfolding ownerOf firstType
-      owner-either P outside under = go (isType (getD rows (3 * t) 0)) (ltb t i) (any (isTypeRowNamed cs (named cs (rowAt rows t))) (take t (lentRows rows))) refl
+      owner-either P outside under =
+          go (isType (getD rows (3 * t) 0)) (ltb t i) (any (isTypeRowNamed cs (named cs (rowAt rows t))) (take t (lentRows rows))) refl
         where
           go : (a b c : Bool) → ltb t i ≡ b → P (choose (a && b) (choose c Nothing (RowAt t)) Nothing)
           go true true true u = outside
@@ -214,7 +226,8 @@ module _ (cs : List Part) (rows : List ℕ) (i : ℕ) (h : i < length rows / 3) 
           ∙ ap (λ (owner : Found). pairsLeft cs rows owner (i + 1)) owner-stays
 
       module _ (f : getD rows (3 * i) 0 ≡ 21) where
-        pub left-again : false ≡ isListed cs rows (ownerOf cs rows t i) i → pairsLeft cs rows (ownerOf cs rows t i) i ≡ pairsLeft cs rows (ownerOf cs rows t (i + 1)) (i + 1)
+        pub left-again : false ≡ isListed cs rows (ownerOf cs rows t i) i →
+            pairsLeft cs rows (ownerOf cs rows t i) i ≡ pairsLeft cs rows (ownerOf cs rows t (i + 1)) (i + 1)
         left-again g =
             owner-either (λ owner. false ≡ isListed cs rows owner i → pairsLeft cs rows owner i ≡ pairsLeft cs rows owner (i + 1)) (λ g. outside-at)
             (λ l g. again-at t l (is-21 f) (not-false _ (sym g))) g

@@ -1,24 +1,24 @@
 -- Root operations: which row is the root, and which card has its name.
-use mathlib.Core.Path.{_≡_, refl, sym, _∙_, ap}
-use mathlib.Core.List.{List, [], _∷_}
-use mathlib.Core.Bool.{Bool, true, false}
+use mathlib.Core.Path.{_≡_, sym, _∙_, ap}
+use mathlib.Core.List.{List, []}
+use mathlib.Core.Bool.{true, false}
 use mathlib.Core.Option.{Option, none, some}
 use Prim.Native.Nat.{ℕ, _+_, _*_, _/_, _<_}
-use native.Mathlib.Omega.{arith}
 use borrow.Author.Tests.{eq-eqb, ne-eqb, eqb-true}
 use lib.ListN.{length, getD}
 use Rattle.definition.specs.declared.OperationType.{OperationType}
 use Rattle.definition.specs.declared.OperationType.the-variants.{Query, Mutation, Subscription}
-use Rattle.definition.specs.Lists.{choose, found, firstWhere}
+use Rattle.definition.specs.Lists.{found, find}
 use Rattle.definition.specs.Names.{sameName, bytes}
 use Rattle.definition.specs.Answers.{absent, rootKind}
 use Rattle.definition.specs.Cards.{isRoot}
-use Rattle.definition.specs.Headings.{Part}
+use Rattle.definition.specs.Headings.{NamedCard}
 use Rattle.definition.specs.Catalogue.{Row, defaultName}
 use Rattle.definition.specs.Store.{accountIn, tooShort, sound}
 use Rattle.definition.specs.LentRows.{held, lentRows, isTypeRowNamed, firstTypeRow}
 use Rattle.definition.specs.Lookups.{span, isRowOf, rootCard, rootRow, rootSpan, isQueryRoot}
 use Rattle.definition.specs.Outcomes.{partOf}
+use Rattle.definition.proofs.Lists.{split}
 use Rattle.store_reader.specs.Stored.{storedParts, cardName}
 use Rattle.store_reader.proofs.Lists.{bytes-none}
 use Rattle.store_reader.proofs.Laws.{held-stored, span-bytes}
@@ -26,15 +26,6 @@ use Rattle.store_reader.proofs.Words.{name-stored}
 use Rattle.schema_rows.specs.Rows.{rowAt, foundFrom}
 use Rattle.schema_rows.specs.declared.search.Found.the-variants.{Row as RowAt, Nothing}
 use Rattle.schema_rows.proofs.Rows.{found-none, found-some, hit-inside, hit-row}
-
-first-passes : (p : Row → Bool) (xs : List Row) (r : Row) → firstWhere p xs ≡ some r → p r ≡ true
-unfolding firstWhere
-first-passes p [] r e = absurd (let z : _≡_ {A = ℕ} 0 1 = cc in omega arith)
-first-passes p (x ∷ xs) r e = go (p x) refl e (first-passes p xs r)
-  where
-    go : (b : Bool) → p x ≡ b → choose b (some x) (firstWhere p xs) ≡ some r → (firstWhere p xs ≡ some r → p r ≡ true) → p r ≡ true
-    go true s e ih = let q : x ≡ r = cc in rw (← q) s
-    go false s e ih = ih e
 
 -- ---- Roots.
 
@@ -47,34 +38,36 @@ root-is-root Subscription k e = rw e
 module _ (rows : List ℕ) (op : OperationType) (kind : ℕ) (k : kind ≡ rootKind op) where
   pub root-none : foundFrom (isRowOf kind) 0 (lentRows rows) ≡ Nothing → rootRow (lentRows rows) op ≡ none
   unfolding rootRow
-  root-none e = ap (λ (k : ℕ). firstWhere (isRowOf k) (lentRows rows)) (sym k) ∙ found-none (isRowOf kind) 0 (lentRows rows) e
+  root-none e = ap (λ (k : ℕ). find (isRowOf k) (lentRows rows)) (sym k) ∙ found-none (isRowOf kind) 0 (lentRows rows) e
 
   module _ (i : ℕ) (e : foundFrom (isRowOf kind) 0 (lentRows rows) ≡ RowAt i) where
     pub root-inside : i < length rows / 3
     root-inside = hit-inside rows _ i (found-some (isRowOf kind) 0 (lentRows rows) i e)
 
-    first-root : firstWhere (isRowOf kind) (lentRows rows) ≡ some (rowAt rows i)
+    first-root : find (isRowOf kind) (lentRows rows) ≡ some (rowAt rows i)
     first-root = hit-row rows _ i (found-some (isRowOf kind) 0 (lentRows rows) i e)
 
     pub root-some : rootRow (lentRows rows) op ≡ some (rowAt rows i)
     unfolding rootRow
-    root-some = ap (λ (k : ℕ). firstWhere (isRowOf k) (lentRows rows)) (sym k) ∙ first-root
+    root-some = ap (λ (k : ℕ). find (isRowOf k) (lentRows rows)) (sym k) ∙ first-root
 
     pub root-what : isRoot (getD rows (3 * i) 0) ≡ true
     unfolding isRowOf
-    root-what = root-is-root op _ (eqb-true _ _ (first-passes (isRowOf kind) (lentRows rows) (rowAt rows i) first-root) ∙ k)
+    root-what = root-is-root op _ (eqb-true _ _ (split (isRowOf kind) (lentRows rows) (rowAt rows i) first-root .passes) ∙ k)
 
-module _ (cs : List Part) (rows : List ℕ) (i : ℕ) where
+module _ (cs : List NamedCard) (rows : List ℕ) (i : ℕ) where
   pub card-own : (getD rows (3 * i + 1) 0 ≡ absent → ⊥) → getD rows (3 * i + 1) 0 ≡ rootCard cs (lentRows rows) (rowAt rows i)
   unfolding rootCard
   card-own e = rw (ne-eqb _ _ e)
 
   module _ (e : getD rows (3 * i + 1) 0 ≡ absent) where
-    card-default : rootCard cs (lentRows rows) (rowAt rows i) ≡ found (firstTypeRow cs (lentRows rows) (defaultName (getD rows (3 * i) 0))) (λ t. t .card) absent
+    card-default : rootCard cs (lentRows rows) (rowAt rows i)
+        ≡ found (firstTypeRow cs (lentRows rows) (defaultName (getD rows (3 * i) 0))) (λ t. t .card) absent
     unfolding rootCard
     card-default = rw (eq-eqb _ _ e)
 
-    pub card-none : foundFrom (isTypeRowNamed cs (defaultName (getD rows (3 * i) 0))) 0 (lentRows rows) ≡ Nothing → absent ≡ rootCard cs (lentRows rows) (rowAt rows i)
+    pub card-none : foundFrom (isTypeRowNamed cs (defaultName (getD rows (3 * i) 0))) 0 (lentRows rows) ≡ Nothing →
+        absent ≡ rootCard cs (lentRows rows) (rowAt rows i)
     unfolding firstTypeRow
     card-none f = sym (card-default ∙ ap (λ (o : Option Row). found o (λ t. t .card) absent) (found-none _ 0 (lentRows rows) f))
 
@@ -99,7 +92,7 @@ module _ (text words rows : List ℕ) (op : OperationType) (ok : sound text word
   unfolding rootSpan partOf
   root-named i e =
       rw e (
-      ap (λ (cs : List Part). cardName text words (rootCard cs (lentRows rows) (rowAt rows i))) (sym (held-stored text words ok))
+      ap (λ (cs : List NamedCard). cardName text words (rootCard cs (lentRows rows) (rowAt rows i))) (sym (held-stored text words ok))
       ∙ sym (span-bytes text words ok long (rootCard (held (accountIn text words .documents)) (lentRows rows) (rowAt rows i))))
 
 -- ---- The query root.
@@ -110,6 +103,7 @@ module _ (text words rows : List ℕ) (name : List ℕ) where
   query-none e = rw e
 
   pub query-named : (i : ℕ) → rootRow (lentRows rows) Query ≡ some (rowAt rows i) →
-      sameName name (cardName text words (rootCard (storedParts text words) (lentRows rows) (rowAt rows i))) ≡ isQueryRoot (storedParts text words) (lentRows rows) name
+      sameName name (cardName text words (rootCard (storedParts text words) (lentRows rows) (rowAt rows i)))
+      ≡ isQueryRoot (storedParts text words) (lentRows rows) name
   unfolding isQueryRoot
   query-named i e = rw e (ap (sameName name) (sym (name-stored text words (rootCard (storedParts text words) (lentRows rows) (rowAt rows i)))))

@@ -9,7 +9,7 @@ use lib.ListN.{length, getD}
 use Rattle.definition.specs.declared.SubtypeLookup.{SubtypeLookup}
 use Rattle.definition.specs.declared.SubtypeLookup.the-variants.{Subtype, NotSubtype}
 use Rattle.definition.specs.Lists.{choose, found}
-use Rattle.definition.specs.Headings.{Part}
+use Rattle.definition.specs.Headings.{NamedCard}
 use Rattle.definition.specs.Catalogue.{Row}
 use Rattle.definition.specs.Store.{accountIn, sound}
 use Rattle.definition.specs.LentRows.{held, lentRows, isTypeRowNamed}
@@ -19,10 +19,10 @@ use Rattle.store_reader.proofs.Laws.{held-stored}
 use Rattle.schema_rows.specs.Rows.{rowAt}
 use Rattle.schema_rows.specs.declared.search.Found.the-variants.{Row as RowAt, Nothing}
 use Rattle.schema_rows.specs.declared.search.Located.{Located}
-use Rattle.schema_rows.specs.SearchLaws.{locatedFrom, isRowFound}
+use Rattle.schema_rows.specs.Search.{locatedFrom, isRowFound}
 use Rattle.schema_rows.proofs.SearchLaws.{blockAfter, TypeAt, located-none, located-type, listed}
 
-module _ (cs : List Part) (rs : List Row) (general other : List ℕ) where
+module _ (cs : List NamedCard) (rs : List Row) (general other : List ℕ) where
   no-general : typeNamed cs rs general ≡ none → isSubtype cs rs general other ≡ false
   unfolding isSubtype
   no-general e = rw e
@@ -47,7 +47,7 @@ module _ (text words rows : List ℕ) (general other : List ℕ) (ok : sound tex
     (e : l ≡ locatedFrom (isTypeRowNamed (storedParts text words) general) (isPartNamed (storedParts text words) 23 other) 0 (lentRows rows)) where
   told : (b : Bool) → isSubtype (storedParts text words) (lentRows rows) general other ≡ b →
       subtype b ≡ subtype (isSubtype (held (accountIn text words .documents)) (lentRows rows) general other)
-  told b k = ap subtype (sym k ∙ ap (λ (cs : List Part). isSubtype cs (lentRows rows) general other) (sym (held-stored text words ok)))
+  told b k = ap subtype (sym k ∙ ap (λ (cs : List NamedCard). isSubtype cs (lentRows rows) general other) (sym (held-stored text words ok)))
 
   pub subtype-none : l .owner ≡ Nothing → NotSubtype ≡ subtype (isSubtype (held (accountIn text words .documents)) (lentRows rows) general other)
   subtype-none o = told false (no-general (storedParts text words) (lentRows rows) general other (located-none (storedParts text words) rows general _ l e o))
@@ -68,13 +68,16 @@ module _ (text words rows : List ℕ) (general other : List ℕ) (ok : sound tex
     unfolding general-block
     subtype-interface k m f =
         told (isRowFound (m .part))
-        (of-interface (storedParts text words) (lentRows rows) general other general-block (general-at .block) k ∙ sym (listed (storedParts text words) other 21 general rows m f))
+        (of-interface (storedParts text words) (lentRows rows) general other general-block (general-at .block) k
+        ∙ sym (listed (storedParts text words) other 21 general rows m f))
 
-    pub subtype-union : getD rows (3 * t) 0 ≡ 8 → subtype (isRowFound (l .part)) ≡ subtype (isSubtype (held (accountIn text words .documents)) (lentRows rows) general other)
+    pub subtype-union : getD rows (3 * t) 0 ≡ 8 →
+        subtype (isRowFound (l .part)) ≡ subtype (isSubtype (held (accountIn text words .documents)) (lentRows rows) general other)
     unfolding general-block
     subtype-union k =
         told (isRowFound (l .part))
-        (of-union (storedParts text words) (lentRows rows) general other general-block (general-at .block) k ∙ sym (listed (storedParts text words) general 23 other rows l e))
+        (of-union (storedParts text words) (lentRows rows) general other general-block (general-at .block) k
+        ∙ sym (listed (storedParts text words) general 23 other rows l e))
 
     pub subtype-neither : (getD rows (3 * t) 0 ≡ 7 → ⊥) → (getD rows (3 * t) 0 ≡ 8 → ⊥) →
         NotSubtype ≡ subtype (isSubtype (held (accountIn text words .documents)) (lentRows rows) general other)

@@ -2,14 +2,16 @@
 use mathlib.Core.List.{List, [], _∷_, _++_, map}
 use mathlib.Core.Bool.{Bool, _&&_, not}
 use mathlib.Core.Option.{Option, none, some}
-use Prim.Native.Nat.{ℕ, _+_}
+use Prim.Native.Nat.{ℕ, _+_, _*_}
 use lib.ListN.{take, drop}
 use Rattle.definition.specs.Lists.{choose, found, any, flatMap}
-use Rattle.definition.specs.Headings.{Part}
+use Rattle.definition.specs.Headings.{NamedCard}
 use Rattle.definition.specs.Catalogue.{Row, row}
+use Rattle.definition.specs.Refusals.{cardCapacity}
 use Rattle.definition.specs.LentRows.{lentRows, isTypeRow, isTypeRowNamed}
-use Rattle.definition.specs.Lookups.{isRowOf, isPartNamed, Implementing, implementing}
+use Rattle.definition.specs.Lookups.{isRowOf, isPartNamed, Implementing, implementing, allImplementing}
 use Rattle.definition.specs.Outcomes.{wordsOfRow}
+use Rattle.store_reader.specs.Stored.{storedParts}
 use Rattle.schema_rows.specs.Rows.{rowAt}
 use Rattle.schema.specs.Owners.{named}
 use Rattle.schema_rows.specs.declared.search.Found.{Found}
@@ -24,7 +26,7 @@ news alike pre (x ∷ xs) =
 
 -- A 21 counts under a type row that is the first of its name, and there where it is the first of its own name.
 -- `pre` are the rows before, `mid` those of them under the type row.
-unfoldable pub gather : List Part → List Row → List Row → Option Row → List Row → List Implementing
+unfoldable pub gather : List NamedCard → List Row → List Row → Option Row → List Row → List Implementing
 gather cs pre mid o [] = []
 gather cs pre mid o (r ∷ rs) =
     let first : Option Row = choose (any (isTypeRowNamed cs (named cs r)) pre) none (some r) in
@@ -50,7 +52,15 @@ asRow i = row (i .type .what) (i .interface .card) (i .type .card)
 unfoldable pub pairWords : List Implementing → List ℕ
 pairWords is = flatMap wordsOfRow (map asRow is)
 
+-- At most one interface a card.
+abbrev pub pairsCapacity : ℕ
+pairsCapacity = 3 * cardCapacity
+
+-- The words of the pairs, by those of a store and of lent rows.
+abbrev pub pairsIn : List ℕ → List ℕ → List ℕ → List ℕ
+pairsIn text words rows = pairWords (allImplementing (storedParts text words) (lentRows rows))
+
 -- What is left to be written at the row i.
-unfoldable pub pairsLeft : List Part → List ℕ → Found → ℕ → List ℕ
+unfoldable pub pairsLeft : List NamedCard → List ℕ → Found → ℕ → List ℕ
 pairsLeft cs rows owner i =
     pairWords (gather cs (take i (lentRows rows)) (underOwner (lentRows rows) owner i) (ownerRow rows owner) (drop i (lentRows rows)))

@@ -1,3 +1,5 @@
+-- InStore: what each lookup finds, by the words of a store and of lent rows.
+pub mod InStore
 pub mod MetaFields
 pub mod Answers
 pub mod Extensions

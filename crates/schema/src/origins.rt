@@ -1,40 +1,39 @@
 // schema/mod.rs: the origins of the schema definition of lent rows, and the extensions among them.
 use ast::kinds;
 use definition::ABSENT;
+use definition::layout::ROW_WORDS;
 use schema_rows::search::Found;
 ghost use mathlib.Core.Path.{_≡_};
 ghost use mathlib.Core.Bool.{true};
 ghost use Prim.Native.Nat.{_<_, _≤_, _+_};
 ghost use lib.Dec.{eqb};
 ghost use lib.ListN.{length, take, drop, set};
-ghost use Rattle.definition.specs.Lists.{choose, any, written};
+ghost use Rattle.definition.specs.Lists.{choose, any};
 ghost use Rattle.definition.specs.Catalogue.{row};
 ghost use Rattle.definition.specs.LentRows.{lentRows};
 ghost use Rattle.definition.specs.Lookups.{isSchemaPart, originList, extensionList};
-ghost use Rattle.schema_rows.specs.SearchLaws.{partFrom};
+ghost use Rattle.schema_rows.specs.Search.{partFrom};
+ghost use Rattle.schema.specs.InStore.{Fills};
 ghost use Rattle.schema.specs.Extensions.{isNew};
 
 // Directive uses and roots: the parts of the schema definition.
 fn is_schema_part(what: u32) -> bool
     ensures { λ r. ⌜ r ≡ isSchemaPart (row what 0 0) ⌝ }
 {
-    if what == 20 {
+    if what == kinds::DIRECTIVE {
         return true;
     }
-    if what < 26 {
-        return false;
-    }
-    what <= 28
+    kinds::is_root(what)
 }
 
 // The next part of the schema definition from a row on; both lists walk over the parts by it.
 fn next_part(rows: &[u32], start: usize) -> Found
     ensures { λ r. ⌜ r ≡ partFrom isSchemaPart start (drop start (lentRows (now (rows .entry)))) ⌝ }
 {
-    let count = rows.len() / 3;
+    let count = rows.len() / ROW_WORDS;
     let mut i = start;
     while i < count {
-        let what = rows[3 * i];
+        let what = rows[ROW_WORDS * i];
         if kinds::is_type(what) {
             return Found::Nothing;
         }
@@ -49,7 +48,7 @@ fn next_part(rows: &[u32], start: usize) -> Found
 // The origins of the schema definition's parts, in order. How many there are is handed back.
 pub fn iter_origins(rows: &[u32], list: &mut [u32]) -> usize
     requires { ⌜ length (originList (lentRows (now rows))) ≤ length (now list) ⌝ }
-    ensures { λ r. ⌜ (r ≡ length (originList (lentRows (now (rows .entry))))) × (now (list .exit) ≡ written (now (list .entry)) 0 (originList (lentRows (now (rows .entry))))) ⌝ }
+    ensures { λ r. ⌜ Fills (now (list .entry)) (originList (lentRows (now (rows .entry)))) (now (list .exit)) r ⌝ }
 {
     let mut n = 0;
     let mut i = 0;
@@ -57,7 +56,7 @@ pub fn iter_origins(rows: &[u32], list: &mut [u32]) -> usize
         let Found::Row(k) = next_part(rows, i) else {
             return n;
         };
-        list[n] = rows[3 * k + 2];
+        list[n] = rows[ROW_WORDS * k + 2];
         n += 1;
         i = k + 1;
     }
@@ -78,8 +77,10 @@ fn contains(list: &[u32], x: u32) -> bool
 
 // Adds an origin to the first n words, if it is an extension that is not among them.
 fn add_extension(list: &mut [u32], n: usize, origin: u32) -> usize
-    requires { ⌜ (n ≤ length (now list)) × (isNew (take n (now list)) origin ≡ true → n < length (now list)) ⌝ }
-    ensures { λ r. ⌜ (r ≡ choose (isNew (take n (now (list .entry))) origin) (n + 1) n) × (now (list .exit) ≡ choose (isNew (take n (now (list .entry))) origin) (set (now (list .entry)) n origin) (now (list .entry))) ⌝ }
+    requires { ⌜ (n ≤ length (now list))
+        × (isNew (take n (now list)) origin ≡ true → n < length (now list)) ⌝ }
+    ensures { λ r. ⌜ (r ≡ choose (isNew (take n (now (list .entry))) origin) (n + 1) n)
+        × (now (list .exit) ≡ choose (isNew (take n (now (list .entry))) origin) (set (now (list .entry)) n origin) (now (list .entry))) ⌝ }
 {
     if origin == ABSENT {
         return n;
@@ -94,7 +95,7 @@ fn add_extension(list: &mut [u32], n: usize, origin: u32) -> usize
 // The extensions among the origins, each once, in order of first occurrence.
 pub fn extensions(rows: &[u32], list: &mut [u32]) -> usize
     requires { ⌜ length (extensionList (lentRows (now rows))) ≤ length (now list) ⌝ }
-    ensures { λ r. ⌜ (r ≡ length (extensionList (lentRows (now (rows .entry))))) × (now (list .exit) ≡ written (now (list .entry)) 0 (extensionList (lentRows (now (rows .entry))))) ⌝ }
+    ensures { λ r. ⌜ Fills (now (list .entry)) (extensionList (lentRows (now (rows .entry)))) (now (list .exit)) r ⌝ }
 {
     let mut n = 0;
     let mut i = 0;
@@ -102,7 +103,7 @@ pub fn extensions(rows: &[u32], list: &mut [u32]) -> usize
         let Found::Row(k) = next_part(rows, i) else {
             return n;
         };
-        n = add_extension(list, n, rows[3 * k + 2]);
+        n = add_extension(list, n, rows[ROW_WORDS * k + 2]);
         i = k + 1;
     }
 }

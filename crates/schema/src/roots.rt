@@ -1,47 +1,51 @@
 // schema/mod.rs: the root operations of lent rows, and meta fields, of which the query root has two.
+use ast::kinds;
 use definition::ABSENT;
 use definition::FieldFound;
 use definition::FieldLookup;
 use definition::OperationType;
+use definition::layout::ROW_WORDS;
 use schema_rows::search::Found;
 ghost use mathlib.Core.Path.{_≡_};
 ghost use mathlib.Core.Bool.{true, false};
-ghost use Prim.Native.Nat.{_<_, _*_, _/_};
-ghost use lib.ListN.{length, getD};
-ghost use Rattle.definition.specs.Lists.{found};
+ghost use Prim.Native.Nat.{_<_, _/_};
+ghost use lib.ListN.{length};
 ghost use Rattle.definition.specs.Answers.{rootKind};
 ghost use Rattle.definition.specs.Cards.{isRoot};
-ghost use Rattle.definition.specs.Store.{accountIn, sound, tooShort};
-ghost use Rattle.definition.specs.LentRows.{lentRows, held};
-ghost use Rattle.definition.specs.Lookups.{rootCard, rootSpan, isQueryRoot, metaField};
-ghost use Rattle.definition.specs.Outcomes.{partOf};
-ghost use Rattle.store_reader.specs.Stored.{storedParts};
+ghost use Rattle.definition.specs.Store.{sound, tooShort};
 ghost use Rattle.schema_rows.specs.Rows.{rowAt};
+ghost use Rattle.schema.specs.InStore.{rootCardAt, rootName, isQueryRootIn, metaFieldIn};
 ghost use Rattle.schema.specs.MetaFields.{isTypename};
 
 fn root_kind(op: OperationType) -> u32
     ensures { λ r. ⌜ r ≡ rootKind op ⌝ }
 {
     match op {
-        OperationType::Query => 26,
-        OperationType::Mutation => 27,
-        OperationType::Subscription => 28,
+        OperationType::Query => kinds::QUERY,
+        OperationType::Mutation => kinds::MUTATION,
+        OperationType::Subscription => kinds::SUBSCRIPTION,
     }
 }
 
 // The card that has a root's name: the root's own, or for a default root its object row's.
 fn root_card(text: &[u8], words: &[u32], rows: &[u32], i: usize) -> u32
-    requires { ⌜ (i < length (now rows) / 3) × (isRoot (getD (now rows) (3 * i) 0) ≡ true) ⌝ }
-    ensures { λ r. ⌜ r ≡ rootCard (storedParts (now (text .entry)) (now (words .entry))) (lentRows (now (rows .entry))) (rowAt (now (rows .entry)) i) ⌝ }
+    requires { ⌜ (i < length (now rows) / 3)
+        × (isRoot (rowAt (now rows) i .what) ≡ true) ⌝ }
+    ensures { λ r. ⌜ r ≡ rootCardAt (now (text .entry)) (now (words .entry)) (now (rows .entry)) i ⌝ }
 {
-    let card = rows[3 * i + 1];
+    let card = rows[ROW_WORDS * i + 1];
     if card != ABSENT {
         return card;
     }
-    let Found::Row(t) = schema_rows::search::find_default_root(text, words, rows, rows[3 * i]) else {
+    let Found::Row(t) = schema_rows::search::find_default_root(
+        text,
+        words,
+        rows,
+        rows[ROW_WORDS * i],
+    ) else {
         return ABSENT;
     };
-    rows[3 * t + 1]
+    rows[ROW_WORDS * t + 1]
 }
 
 // The name is handed back as a part of the store's text.
@@ -51,8 +55,9 @@ pub fn root_operation<'a>(
     rows: &[u32],
     op: OperationType,
 ) -> &'a [u8]
-    requires { ⌜ (sound (now text) (now words) ≡ true) × (tooShort (now text) (now words) ≡ false) ⌝ }
-    ensures { λ r. ⌜ now r ≡ partOf (now (text .entry)) (rootSpan (accountIn (now (text .entry)) (now (words .entry)) .documents) (held (accountIn (now (text .entry)) (now (words .entry)) .documents)) (lentRows (now (rows .entry))) op) .bytes ⌝ }
+    requires { ⌜ (sound (now text) (now words) ≡ true)
+        × (tooShort (now text) (now words) ≡ false) ⌝ }
+    ensures { λ r. ⌜ now r ≡ rootName (now (text .entry)) (now (words .entry)) (now (rows .entry)) op ⌝ }
 {
     let Found::Row(i) = schema_rows::search::find_row(rows, root_kind(op)) else {
         return &text[0..0];
@@ -62,9 +67,9 @@ pub fn root_operation<'a>(
 }
 
 fn is_query_root(text: &[u8], words: &[u32], rows: &[u32], name: &[u8]) -> bool
-    ensures { λ r. ⌜ r ≡ isQueryRoot (storedParts (now (text .entry)) (now (words .entry))) (lentRows (now (rows .entry))) (now (name .entry)) ⌝ }
+    ensures { λ r. ⌜ r ≡ isQueryRootIn (now (text .entry)) (now (words .entry)) (now (rows .entry)) (now (name .entry)) ⌝ }
 {
-    let Found::Row(i) = schema_rows::search::find_row(rows, 26) else {
+    let Found::Row(i) = schema_rows::search::find_row(rows, kinds::QUERY) else {
         return false;
     };
     schema_rows::search::is_named(text, words, root_card(text, words, rows, i), name)
@@ -74,10 +79,10 @@ fn is_query_root(text: &[u8], words: &[u32], rows: &[u32], name: &[u8]) -> bool
 fn is_typename(what: u32, field: &[u8]) -> bool
     ensures { λ r. ⌜ r ≡ isTypename what (now (field .entry)) ⌝ }
 {
-    if what < 6 {
+    if what < kinds::OBJECT_TYPE_DEFINITION {
         return false;
     }
-    if 8 < what {
+    if kinds::UNION_TYPE_DEFINITION < what {
         return false;
     }
     name::same_name(field, b"__typename")
@@ -93,7 +98,9 @@ pub fn meta_field(
     type_name: &[u8],
     field: &[u8],
 ) -> FieldLookup
-    ensures { λ r. ⌜ r ≡ found (metaField (storedParts (now (text .entry)) (now (words .entry))) (lentRows (now (rows .entry))) what (now («type_name» .entry)) (now (field .entry))) (λ m. FieldLookup.Found m) (FieldLookup.NoSuchField card) ⌝ }
+    ensures { λ r. ⌜ r
+        ≡ metaFieldIn (now (text .entry)) (now (words .entry)) (now (rows .entry)) what card (now («type_name» .entry))
+        (now (field .entry)) ⌝ }
 {
     if is_typename(what, field) {
         return FieldLookup::Found(FieldFound::Typename);

@@ -62,9 +62,9 @@ pub listing-same : (list₀ list : List ℕ) (n : ℕ) (rest rest' whole : List 
 listing-same list₀ list n rest rest' whole l e = rw e at l
 
 -- There is room for what is left.
-pub listing-room : (list₀ list : List ℕ) (n : ℕ) (rest whole : List ℕ) → Listing list₀ list n rest whole → (x : ℕ) (more : List ℕ) → rest ≡ x ∷ more →
+pub listing-capacity : (list₀ list : List ℕ) (n : ℕ) (rest whole : List ℕ) → Listing list₀ list n rest whole → (x : ℕ) (more : List ℕ) → rest ≡ x ∷ more →
     length whole ≤ length list₀ → n < length list
-listing-room list₀ list n rest whole l x more e h =
+listing-capacity list₀ list n rest whole l x more e h =
     let a = listing-length list₀ list n rest whole l in
     let b = ap length e in
     let k = l .kept in

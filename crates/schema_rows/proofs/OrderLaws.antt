@@ -1,19 +1,18 @@
 -- The order of rows: the places of kinds, and a turn of the walk.
-use mathlib.Core.Path.{_≡_, refl, sym, _∙_, ap}
-use mathlib.Core.List.{[], _∷_}
+use mathlib.Core.Path.{_≡_, refl, sym, _∙_}
 use mathlib.Core.Bool.{Bool, true, false, _&&_, not}
-use Prim.Native.Nat.{ℕ, _+_, _≤_, _<_}
+use Prim.Native.Nat.{ℕ, _≤_, _<_}
 use native.Mathlib.Omega.{arith}
-use borrow.Author.Tests.{eq-eqb, ne-eqb, lt-ltb, le-ltb, le-leb, lt-leb, leb-true, eqb-true, eqb-false}
+use borrow.Author.Tests.{eq-eqb, ne-eqb, lt-ltb, le-ltb, le-leb, lt-leb, leb-true}
 use lib.Dec.{eqb, leb, ltb}
 use lib.ListN.{length}
 use Rattle.definition.specs.Lists.{any}
-use Rattle.definition.specs.Cards.{isRoot, isType, partOrder, placeIn}
+use Rattle.definition.specs.Cards.{isRoot, isType, definitionOf, partOrder, placeIn}
 use Rattle.definition.specs.LentRows.{rowOrder}
-use Rattle.store_reader.proofs.Lists.{and-true}
-use Rattle.schema_rows.specs.Order.{isStanding, inPlace, fits, kindAfter, placeAfter}
+use Rattle.definition.proofs.Tests.{and-true}
+use Rattle.schema_rows.specs.Order.{isStanding, fits, kindAfter, placeAfter}
 
--- ---- Places, one kind of order after another.
+-- ---- Places.
 
 module _ (w : ℕ) where
   -- Under the row 4.
@@ -41,81 +40,15 @@ module _ (w : ℕ) where
   unfolding placeIn rowOrder any
   schema-none a b c d e = rw (ne-eqb w 20 a, ne-eqb w 26 b, ne-eqb w 27 c, ne-eqb w 28 d, ne-eqb w 3 e)
 
--- The orders under type rows.
-module _ (k : ℕ) where
-  order-scalar : k ≡ 5 → rowOrder k ≡ ((20 ∷ []) ∷ [])
-  unfolding rowOrder partOrder
-  order-scalar e = rw e
+-- Under a type row the order is that of the type's parts.
+pub order-under : (k : ℕ) → (k ≡ 4 → ⊥) → (4 ≤ k) × (k ≤ 10) → partOrder (definitionOf k) ≡ rowOrder k
+unfolding rowOrder definitionOf
+order-under k z h = rw (lt-leb 11 k (omega arith), le-leb 4 k (h .0), ne-eqb k 4 z)
 
-  order-fields : 6 ≤ k → k < 8 → rowOrder k ≡ ((21 ∷ []) ∷ (20 ∷ []) ∷ (22 ∷ []) ∷ [])
-  unfolding rowOrder partOrder
-  order-fields h l = go (eqb k 6) refl
-    where
-      go : (b : Bool) → eqb k 6 ≡ b → rowOrder k ≡ ((21 ∷ []) ∷ (20 ∷ []) ∷ (22 ∷ []) ∷ [])
-      go true e = let z : k ≡ 6 = eqb-true k 6 e in rw z
-      go false e = let z : k ≡ 7 = (let n = eqb-false k 6 e in omega arith) in rw z
-
-  order-other : 8 ≤ k → k ≤ 10 → rowOrder k ≡ ((20 ∷ []) ∷ ((k + 15) ∷ []) ∷ [])
-  unfolding rowOrder partOrder
-  order-other h l = go (eqb k 8) (eqb k 9) refl refl
-    where
-      go : (a b : Bool) → eqb k 8 ≡ a → eqb k 9 ≡ b → rowOrder k ≡ ((20 ∷ []) ∷ ((k + 15) ∷ []) ∷ [])
-      go true b e f = let z : k ≡ 8 = eqb-true k 8 e in rw z
-      go false true e f = let z : k ≡ 9 = eqb-true k 9 f in rw z
-      go false false e f = let z : k ≡ 10 = (let m = eqb-false k 8 e in let n = eqb-false k 9 f in omega arith) in rw z
-
-  module _ (w : ℕ) where
-    pub scalar-use : k ≡ 5 → w ≡ 20 → 0 ≡ placeIn (rowOrder k) w
-    unfolding placeIn any
-    scalar-use e f = rw (order-scalar e, eq-eqb w 20 f)
-
-    pub scalar-none : k ≡ 5 → (w ≡ 20 → ⊥) → 1 ≡ placeIn (rowOrder k) w
-    unfolding placeIn any
-    scalar-none e f = rw (order-scalar e, ne-eqb w 20 f)
-
-    module _ (h : 6 ≤ k) (l : k < 8) where
-      pub fields-21 : w ≡ 21 → 0 ≡ placeIn (rowOrder k) w
-      unfolding placeIn any
-      fields-21 e = rw (order-fields h l, eq-eqb w 21 e)
-
-      pub fields-20 : (w ≡ 21 → ⊥) → w ≡ 20 → 1 ≡ placeIn (rowOrder k) w
-      unfolding placeIn any
-      fields-20 d e = rw (order-fields h l, ne-eqb w 21 d, eq-eqb w 20 e)
-
-      pub fields-22 : (w ≡ 21 → ⊥) → (w ≡ 20 → ⊥) → w ≡ 22 → 2 ≡ placeIn (rowOrder k) w
-      unfolding placeIn any
-      fields-22 c d e = rw (order-fields h l, ne-eqb w 21 c, ne-eqb w 20 d, eq-eqb w 22 e)
-
-      pub fields-none : (w ≡ 21 → ⊥) → (w ≡ 20 → ⊥) → (w ≡ 22 → ⊥) → 3 ≡ placeIn (rowOrder k) w
-      unfolding placeIn any
-      fields-none c d e = rw (order-fields h l, ne-eqb w 21 c, ne-eqb w 20 d, ne-eqb w 22 e)
-
-    module _ (h : 8 ≤ k) (l : k ≤ 10) where
-      pub other-use : w ≡ 20 → 0 ≡ placeIn (rowOrder k) w
-      unfolding placeIn any
-      other-use e = rw (order-other h l, eq-eqb w 20 e)
-
-      pub other-part : (w ≡ 20 → ⊥) → w ≡ k + 15 → 1 ≡ placeIn (rowOrder k) w
-      unfolding placeIn any
-      other-part d e = rw (order-other h l, ne-eqb w 20 d, eq-eqb w (k + 15) e)
-
-      pub other-none : (w ≡ 20 → ⊥) → (w ≡ k + 15 → ⊥) → 2 ≡ placeIn (rowOrder k) w
-      unfolding placeIn any
-      other-none d e = rw (order-other h l, ne-eqb w 20 d, ne-eqb w (k + 15) e)
-
-  -- How many places there are.
-  pub places-schema : k ≡ 4 → 5 ≡ length (rowOrder k)
-  unfolding rowOrder
-  places-schema e = rw (eq-eqb k 4 e)
-
-  pub places-scalar : k ≡ 5 → 1 ≡ length (rowOrder k)
-  places-scalar e = sym (ap length (order-scalar e))
-
-  pub places-fields : 6 ≤ k → k < 8 → 3 ≡ length (rowOrder k)
-  places-fields h l = sym (ap length (order-fields h l))
-
-  pub places-other : 8 ≤ k → k ≤ 10 → 2 ≡ length (rowOrder k)
-  places-other h l = sym (ap length (order-other h l))
+-- How many places there are under the row 4.
+pub places-schema : (k : ℕ) → k ≡ 4 → 5 ≡ length (rowOrder k)
+unfolding rowOrder
+places-schema k e = rw (eq-eqb k 4 e)
 
 -- ---- Whether a row fits.
 
@@ -142,7 +75,7 @@ module _ (k p w : ℕ) where
 
     module _ (t : isType w ≡ false) (q n : ℕ) (e : q ≡ placeIn (rowOrder k) w) (f : n ≡ length (rowOrder k)) where
       asks : fits k p w ≡ (ltb q n && leb p q && not (isRoot w && eqb p q))
-      unfolding fits inPlace
+      unfolding fits
       asks = rw (ne-eqb k 0 z, t, e, f)
 
       pub fits-outside : n ≤ q → false ≡ fits k p w

@@ -5,18 +5,18 @@ use mathlib.Core.Bool.{Bool, true, false, _&&_, _||_}
 use mathlib.Core.Option.{none}
 use Prim.Native.Nat.{ℕ, _+_, _*_, _/_, _≤_, _<_}
 use native.Mathlib.Omega.{arith}
-use borrow.Author.Tests.{eq-eqb, ne-eqb, lt-ltb, le-ltb, ltb-true, ltb-false, le-leb, lt-leb, leb-true}
+use borrow.Author.Tests.{eq-eqb, ne-eqb, lt-ltb, le-ltb, ltb-true, ltb-false, leb-true}
 use lib.Dec.{eqb, leb, ltb}
 use lib.ListN.{length, getD, set}
-use Rattle.definition.specs.Lists.{choose, firstWhere}
+use Rattle.definition.specs.Lists.{choose, find}
 use Rattle.definition.specs.Answers.{absent}
 use Rattle.definition.specs.Cards.{isRoot, isType, isExtension}
-use Rattle.definition.specs.Headings.{Part}
+use Rattle.definition.specs.Headings.{NamedCard}
 use Rattle.definition.specs.Catalogue.{Row, row, defaultName}
 use Rattle.definition.specs.Store.{cardsUsed}
 use Rattle.definition.specs.LentRows.{lentRows, isTypeRow, isTypeRowNamed, firstTypeRow, isDefaultRoot, wantedKind, cardPasses, originPasses, defaultRootPasses}
 use Rattle.store_reader.specs.Stored.{storedParts, cardKind}
-use Rattle.store_reader.proofs.Lists.{and-true}
+use Rattle.definition.proofs.Tests.{and-true}
 use Rattle.store_reader.proofs.Words.{found-stored, kind-past}
 use Rattle.schema_rows.specs.Rows.{foundFrom}
 use Rattle.schema_rows.specs.Passing.{cardFits, originFits, rowPasses, isFree, marked}
@@ -102,9 +102,12 @@ module _ (what card origin : ℕ) where
 
       pub origin-is : originFits words origin ≡ originPasses (storedParts text words) (row what card origin)
       unfolding originFits originPasses
-      origin-is = ap (λ (b : Bool). eqb origin absent || b) (go (ltb origin (cardsUsed words)) refl ∙ sym (found-stored text words origin (λ c. isExtension (c .kind)) false))
+      origin-is =
+          ap (λ (b : Bool). eqb origin absent || b)
+          (go (ltb origin (cardsUsed words)) refl ∙ sym (found-stored text words origin (λ c. isExtension (c .kind)) false))
         where
-          go : (b : Bool) → ltb origin (cardsUsed words) ≡ b → isExtension (cardKind words origin) ≡ choose (ltb origin (cardsUsed words)) (isExtension (cardKind words origin)) false
+          go : (b : Bool) → ltb origin (cardsUsed words) ≡ b →
+              isExtension (cardKind words origin) ≡ choose (ltb origin (cardsUsed words)) (isExtension (cardKind words origin)) false
           go true t = rw t
           go false t = rw t (ap isExtension (kind-past words origin (ltb-false origin (cardsUsed words) t)) ∙ none)
             where
@@ -118,18 +121,13 @@ module _ (words : List ℕ) (origin : ℕ) where
   unfolding originFits
   origin-none e = rw (eq-eqb origin absent e)
 
-  module _ (e : origin ≡ absent → ⊥) (kind : ℕ) (k : kind ≡ cardKind words origin) where
-    pub origin-low : kind < 11 → false ≡ originFits words origin
-    unfolding originFits isExtension
-    origin-low h = rw (ne-eqb origin absent e, ← k, lt-leb 11 kind h)
-
-    pub origin-asked : 11 ≤ kind → leb kind 17 ≡ originFits words origin
-    unfolding originFits isExtension
-    origin-asked h = rw (ne-eqb origin absent e, ← k, le-leb 11 kind h)
+  pub origin-asked : (origin ≡ absent → ⊥) → (kind : ℕ) → kind ≡ cardKind words origin → isExtension kind ≡ originFits words origin
+  unfolding originFits
+  origin-asked e kind k = rw (ne-eqb origin absent e, k)
 
 -- ---- A default root's object.
 
-module _ (cs : List Part) (rows : List ℕ) (r : Row) where
+module _ (cs : List NamedCard) (rows : List ℕ) (r : Row) where
   pub root-plain : isDefaultRoot r ≡ false → true ≡ defaultRootPasses cs (lentRows rows) r
   unfolding defaultRootPasses
   root-plain e = rw e
@@ -145,11 +143,11 @@ module _ (cs : List Part) (rows : List ℕ) (r : Row) where
 
       pub root-object : eqb (getD rows (3 * t) 0) 6 ≡ defaultRootPasses cs (lentRows rows) r
       unfolding defaultRootPasses firstTypeRow
-      root-object = rw (e, hit-row rows (firstWhere (isTypeRowNamed cs (defaultName (r .what))) (lentRows rows)) t (found-some _ 0 (lentRows rows) t f))
+      root-object = rw (e, hit-row rows (find (isTypeRowNamed cs (defaultName (r .what))) (lentRows rows)) t (found-some _ 0 (lentRows rows) t f))
 
 -- ---- All three.
 
-module _ (cs : List Part) (rs : List Row) (r : Row) where
+module _ (cs : List NamedCard) (rs : List Row) (r : Row) where
   pub row-card : cardPasses cs r ≡ false → false ≡ rowPasses cs rs r
   unfolding rowPasses
   row-card e = rw e

@@ -7,7 +7,7 @@ use Prim.Native.Nat.{ℕ, suc, _+_, _*_, _/_, _≤_, _<_, zero}
 use native.Mathlib.Omega.{arith}
 use lib.ListN.{length, drop, getD, getElem?, drop-of-length-le, take}
 use lib.Seq.{getD-drop}
-use Rattle.definition.specs.Lists.{choose, firstWhere}
+use Rattle.definition.specs.Lists.{choose, find}
 use lib.Dec.{leb}
 use borrow.Author.Tests.{eq-eqb, ne-eqb, leb-true}
 use Rattle.definition.specs.Names.{sameName, bytes}
@@ -15,7 +15,8 @@ use Rattle.definition.specs.Cards.{isType, isRoot}
 use Rattle.definition.specs.Catalogue.{Row, row, defaultName}
 use Rattle.definition.specs.LentRows.{lentRow, lentRows, isTypeRow, isRowNamed, isTypeRowNamed}
 use Rattle.store_reader.specs.Stored.{storedParts, cardName}
-use Rattle.store_reader.proofs.Lists.{length-chunks, chunk-at, drop-get, get-inside, and-true}
+use Rattle.definition.proofs.Tests.{and-true}
+use Rattle.store_reader.proofs.Lists.{length-chunks, chunk-at, drop-get, get-inside}
 use Rattle.store_reader.proofs.Words.{name-stored}
 use Rattle.schema_rows.specs.Rows.{rowAt, foundFrom}
 use Rattle.schema_rows.specs.declared.search.Found.the-variants.{Row as RowAt, Nothing}
@@ -97,25 +98,25 @@ pub contradiction : {A : Type 0} (b : Bool) → false ≡ b → b ≡ true → A
 contradiction b e f = let z : false ≡ true = e ∙ f in absurd (let y : _≡_ {A = ℕ} 0 1 = cc in omega arith)
 
 module _ (p : Row → Bool) where
-  pub found-none : (i : ℕ) (xs : List Row) → foundFrom p i xs ≡ Nothing → firstWhere p xs ≡ none
-  unfolding foundFrom firstWhere
+  pub found-none : (i : ℕ) (xs : List Row) → foundFrom p i xs ≡ Nothing → find p xs ≡ none
+  unfolding foundFrom find
   found-none i [] e = refl
   found-none i (x ∷ xs) e = go (p x) e (found-none (i + 1) xs)
     where
-      go : (b : Bool) → choose b (RowAt i) (foundFrom p (i + 1) xs) ≡ Nothing → (foundFrom p (i + 1) xs ≡ Nothing → firstWhere p xs ≡ none) →
-          choose b (some x) (firstWhere p xs) ≡ none
+      go : (b : Bool) → choose b (RowAt i) (foundFrom p (i + 1) xs) ≡ Nothing → (foundFrom p (i + 1) xs ≡ Nothing → find p xs ≡ none) →
+          choose b (some x) (find p xs) ≡ none
       go true e ih = never-row e
       go false e ih = ih e
 
-  pub found-some : (i : ℕ) (xs : List Row) (t : ℕ) → foundFrom p i xs ≡ RowAt t → Hit i xs (firstWhere p xs) t
-  unfolding foundFrom firstWhere
+  pub found-some : (i : ℕ) (xs : List Row) (t : ℕ) → foundFrom p i xs ≡ RowAt t → Hit i xs (find p xs) t
+  unfolding foundFrom find
   found-some i [] t e = never e
   found-some i (x ∷ xs) t e = go (p x) e (found-some (i + 1) xs t)
     where
-      go : (b : Bool) → choose b (RowAt i) (foundFrom p (i + 1) xs) ≡ RowAt t → (foundFrom p (i + 1) xs ≡ RowAt t → Hit (i + 1) xs (firstWhere p xs) t) →
-          Hit i (x ∷ xs) (choose b (some x) (firstWhere p xs)) t
+      go : (b : Bool) → choose b (RowAt i) (foundFrom p (i + 1) xs) ≡ RowAt t → (foundFrom p (i + 1) xs ≡ RowAt t → Hit (i + 1) xs (find p xs) t) →
+          Hit i (x ∷ xs) (choose b (some x) (find p xs)) t
       go true e ih = hit-here i x xs (some x) t e refl
-      go false e ih = hit-later i x xs (firstWhere p xs) t (ih e)
+      go false e ih = hit-later i x xs (find p xs) t (ih e)
 
 -- Of lent rows: the row is the one of its number.
 module _ (rows : List ℕ) (sought : Option Row) (t : ℕ) (h : Hit 0 (lentRows rows) sought t) where

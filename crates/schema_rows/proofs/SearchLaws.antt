@@ -7,12 +7,12 @@ use Prim.Native.Nat.{ℕ, suc, _+_, _*_, _/_, _≤_, _<_}
 use native.Mathlib.Omega.{arith}
 use borrow.Author.Tests.{eq-eqb, ne-eqb}
 use lib.ListN.{length, drop, getD, getElem?}
-use Rattle.definition.specs.Lists.{choose, found, any, firstWhere}
+use Rattle.definition.specs.Lists.{choose, found, any, find}
 use Rattle.definition.specs.Names.{sameName}
 use Rattle.definition.specs.Cards.{isType}
 use Rattle.definition.specs.Catalogue.{Row, row}
 use Rattle.definition.specs.LentRows.{lentRows, isTypeRow, isRowNamed, isTypeRowNamed}
-use Rattle.definition.specs.Headings.{Part}
+use Rattle.definition.specs.Headings.{NamedCard}
 use Rattle.definition.specs.Lookups.{Block, blocks, isBlockNamed, typeNamed, isRowOf, isPartNamed, lists}
 use Rattle.store_reader.specs.Stored.{storedParts, cardName}
 use Rattle.schema_rows.specs.Rows.{rowAt}
@@ -20,7 +20,7 @@ use Rattle.schema_rows.specs.declared.search.Found.{Found}
 use Rattle.schema_rows.specs.declared.search.Found.the-variants.{Row as RowAt, Nothing}
 use Rattle.store_reader.proofs.Lists.{and-true, and-left-false, get-inside, get-drop}
 use Rattle.schema_rows.proofs.Rows.{length-rows, row-get, row-next, row-end, row-named, Hit, hit-here, hit-later, never, never-row}
-use Rattle.schema_rows.specs.SearchLaws.{partFrom, locatedFrom, isRowFound}
+use Rattle.schema_rows.specs.Search.{partFrom, locatedFrom, isRowFound}
 use Rattle.schema_rows.specs.declared.search.Located.{Located}
 
 -- ---- A part of a kind and a name, by a row's words.
@@ -104,41 +104,41 @@ unfolding blocks
 blocks-nil = refl
 
 module _ (hit : Row → Bool) where
-  first-none : firstWhere hit (blocks [] .0) ≡ none
-  unfolding firstWhere
+  first-none : find hit (blocks [] .0) ≡ none
+  unfolding find
   first-none = rw blocks-nil
 
-  first-stop : (x : Row) (xs : List Row) → isTypeRow x ≡ true → firstWhere hit (blocks (x ∷ xs) .0) ≡ none
-  unfolding firstWhere
+  first-stop : (x : Row) (xs : List Row) → isTypeRow x ≡ true → find hit (blocks (x ∷ xs) .0) ≡ none
+  unfolding find
   first-stop x xs e = rw (blocks-type x xs e)
 
-  first-under : (x : Row) (xs : List Row) → isTypeRow x ≡ false → firstWhere hit (blocks (x ∷ xs) .0) ≡ choose (hit x) (some x) (firstWhere hit (blocks xs .0))
-  unfolding firstWhere
+  first-under : (x : Row) (xs : List Row) → isTypeRow x ≡ false → find hit (blocks (x ∷ xs) .0) ≡ choose (hit x) (some x) (find hit (blocks xs .0))
+  unfolding find
   first-under x xs e = rw (blocks-under x xs e)
 
-  pub part-none : (i : ℕ) (xs : List Row) → partFrom hit i xs ≡ Nothing → firstWhere hit (blocks xs .0) ≡ none
+  pub part-none : (i : ℕ) (xs : List Row) → partFrom hit i xs ≡ Nothing → find hit (blocks xs .0) ≡ none
   unfolding partFrom
   part-none i [] e = first-none
   part-none i (x ∷ xs) e = go (isTypeRow x) (hit x) refl refl e (part-none (i + 1) xs)
     where
       go : (a b : Bool) → isTypeRow x ≡ a → hit x ≡ b → choose a Nothing (choose b (RowAt i) (partFrom hit (i + 1) xs)) ≡ Nothing →
-          (partFrom hit (i + 1) xs ≡ Nothing → firstWhere hit (blocks xs .0) ≡ none) → firstWhere hit (blocks (x ∷ xs) .0) ≡ none
+          (partFrom hit (i + 1) xs ≡ Nothing → find hit (blocks xs .0) ≡ none) → find hit (blocks (x ∷ xs) .0) ≡ none
       go true b s t e ih = first-stop x xs s
       go false true s t e ih = never-row e
       go false false s t e ih = first-under x xs s ∙ rw t (ih e)
 
-  pub part-some : (i : ℕ) (xs : List Row) (t : ℕ) → partFrom hit i xs ≡ RowAt t → Hit i xs (firstWhere hit (blocks xs .0)) t
+  pub part-some : (i : ℕ) (xs : List Row) (t : ℕ) → partFrom hit i xs ≡ RowAt t → Hit i xs (find hit (blocks xs .0)) t
   unfolding partFrom
   part-some i [] t e = never e
   part-some i (x ∷ xs) t e = go (isTypeRow x) (hit x) refl refl e (part-some (i + 1) xs t)
     where
       go : (a b : Bool) → isTypeRow x ≡ a → hit x ≡ b → choose a Nothing (choose b (RowAt i) (partFrom hit (i + 1) xs)) ≡ RowAt t →
-          (partFrom hit (i + 1) xs ≡ RowAt t → Hit (i + 1) xs (firstWhere hit (blocks xs .0)) t) → Hit i (x ∷ xs) (firstWhere hit (blocks (x ∷ xs) .0)) t
+          (partFrom hit (i + 1) xs ≡ RowAt t → Hit (i + 1) xs (find hit (blocks xs .0)) t) → Hit i (x ∷ xs) (find hit (blocks (x ∷ xs) .0)) t
       go true b s u e ih = never e
-      go false true s u e ih = hit-here i x xs (firstWhere hit (blocks (x ∷ xs) .0)) t e (first-under x xs s ∙ rw u)
+      go false true s u e ih = hit-here i x xs (find hit (blocks (x ∷ xs) .0)) t e (first-under x xs s ∙ rw u)
       go false false s u e ih =
-          let same : firstWhere hit (blocks xs .0) ≡ firstWhere hit (blocks (x ∷ xs) .0) = sym (first-under x xs s ∙ rw u) in
-          rw same at (hit-later i x xs (firstWhere hit (blocks xs .0)) t (ih e))
+          let same : find hit (blocks xs .0) ≡ find hit (blocks (x ∷ xs) .0) = sym (first-under x xs s ∙ rw u) in
+          rw same at (hit-later i x xs (find hit (blocks xs .0)) t (ih e))
 
 -- A type row with the rows under it, by the place of its row.
 abbrev pub blockAfter : Row → List Row → ℕ → Block
@@ -152,59 +152,64 @@ pub record Owner (i : ℕ) (xs : List Row) (sought : Option Block) (hit : Row �
   pub block : sought ≡ some (blockAfter row xs at)
   pub under : part ≡ partFrom hit (t + 1) (drop (suc at) xs)
 
-module _ (cs : List Part) (n : List ℕ) where
-  block-none : firstWhere (isBlockNamed cs n) (blocks [] .1) ≡ none
-  unfolding firstWhere
+module _ (cs : List NamedCard) (n : List ℕ) where
+  block-none : find (isBlockNamed cs n) (blocks [] .1) ≡ none
+  unfolding find
   block-none = rw blocks-nil
 
-  block-meant : (x : Row) (xs : List Row) → isTypeRowNamed cs n x ≡ true → firstWhere (isBlockNamed cs n) (blocks (x ∷ xs) .1) ≡ some (blockAfter x (x ∷ xs) 0)
-  unfolding firstWhere isTypeRowNamed isBlockNamed
+  block-meant : (x : Row) (xs : List Row) → isTypeRowNamed cs n x ≡ true → find (isBlockNamed cs n) (blocks (x ∷ xs) .1) ≡ some (blockAfter x (x ∷ xs) 0)
+  unfolding find isTypeRowNamed isBlockNamed
   block-meant x xs e = let k = and-true (isTypeRow x) (isRowNamed cs n x) e in rw (blocks-type x xs (k .0), k .1)
 
-  block-other : (x : Row) (xs : List Row) → isTypeRowNamed cs n x ≡ false → firstWhere (isBlockNamed cs n) (blocks (x ∷ xs) .1) ≡ firstWhere (isBlockNamed cs n) (blocks xs .1)
-  unfolding firstWhere isTypeRowNamed isBlockNamed
+  block-other : (x : Row) (xs : List Row) → isTypeRowNamed cs n x ≡ false →
+      find (isBlockNamed cs n) (blocks (x ∷ xs) .1) ≡ find (isBlockNamed cs n) (blocks xs .1)
+  unfolding find isTypeRowNamed isBlockNamed
   block-other x xs e = go (isTypeRow x) refl
     where
-      go : (b : Bool) → isTypeRow x ≡ b → firstWhere (isBlockNamed cs n) (blocks (x ∷ xs) .1) ≡ firstWhere (isBlockNamed cs n) (blocks xs .1)
+      go : (b : Bool) → isTypeRow x ≡ b → find (isBlockNamed cs n) (blocks (x ∷ xs) .1) ≡ find (isBlockNamed cs n) (blocks xs .1)
       go true t = rw (blocks-type x xs t, and-left-false (isTypeRow x) (isRowNamed cs n x) t e)
       go false t = rw (blocks-under x xs t)
 
-module _ (cs : List Part) (n : List ℕ) (hit : Row → Bool) where
-  pub owner-none : (i : ℕ) (xs : List Row) → locatedFrom (isTypeRowNamed cs n) hit i xs .owner ≡ Nothing → firstWhere (isBlockNamed cs n) (blocks xs .1) ≡ none
+module _ (cs : List NamedCard) (n : List ℕ) (hit : Row → Bool) where
+  pub owner-none : (i : ℕ) (xs : List Row) → locatedFrom (isTypeRowNamed cs n) hit i xs .owner ≡ Nothing → find (isBlockNamed cs n) (blocks xs .1) ≡ none
   unfolding locatedFrom
   owner-none i [] e = block-none cs n
   owner-none i (x ∷ xs) e = go (isTypeRowNamed cs n x) refl e (owner-none (i + 1) xs)
     where
-      go : (b : Bool) → isTypeRowNamed cs n x ≡ b → choose b (located (RowAt i) (partFrom hit (i + 1) xs)) (locatedFrom (isTypeRowNamed cs n) hit (i + 1) xs) .owner ≡ Nothing →
-          (locatedFrom (isTypeRowNamed cs n) hit (i + 1) xs .owner ≡ Nothing → firstWhere (isBlockNamed cs n) (blocks xs .1) ≡ none) →
-          firstWhere (isBlockNamed cs n) (blocks (x ∷ xs) .1) ≡ none
+      go : (b : Bool) → isTypeRowNamed cs n x ≡ b →
+          choose b (located (RowAt i) (partFrom hit (i + 1) xs)) (locatedFrom (isTypeRowNamed cs n) hit (i + 1) xs) .owner ≡ Nothing →
+          (locatedFrom (isTypeRowNamed cs n) hit (i + 1) xs .owner ≡ Nothing → find (isBlockNamed cs n) (blocks xs .1) ≡ none) →
+          find (isBlockNamed cs n) (blocks (x ∷ xs) .1) ≡ none
       go true s e ih = never-row e
       go false s e ih = block-other cs n x xs s ∙ ih e
 
-  owner-later : (i : ℕ) (x : Row) (xs : List Row) (sought : Option Block) (part : Found) (t : ℕ) → Owner (i + 1) xs sought hit part t → Owner i (x ∷ xs) sought hit part t
+  owner-later : (i : ℕ) (x : Row) (xs : List Row) (sought : Option Block) (part : Found) (t : ℕ) → Owner (i + 1) xs sought hit part t →
+      Owner i (x ∷ xs) sought hit part t
   owner-later i x xs sought part t h =
       record { at = suc (h .at); row = h .row; place = omega arith; held = h .held; block = h .block; under = h .under }
 
   pub owner-some : (i : ℕ) (xs : List Row) (t : ℕ) → locatedFrom (isTypeRowNamed cs n) hit i xs .owner ≡ RowAt t →
-      Owner i xs (firstWhere (isBlockNamed cs n) (blocks xs .1)) hit (locatedFrom (isTypeRowNamed cs n) hit i xs .part) t
+      Owner i xs (find (isBlockNamed cs n) (blocks xs .1)) hit (locatedFrom (isTypeRowNamed cs n) hit i xs .part) t
   unfolding locatedFrom
   owner-some i [] t e = never e
   owner-some i (x ∷ xs) t e = go (isTypeRowNamed cs n x) refl e (owner-some (i + 1) xs t)
     where
-      go : (b : Bool) → isTypeRowNamed cs n x ≡ b → choose b (located (RowAt i) (partFrom hit (i + 1) xs)) (locatedFrom (isTypeRowNamed cs n) hit (i + 1) xs) .owner ≡ RowAt t →
+      go : (b : Bool) → isTypeRowNamed cs n x ≡ b →
+          choose b (located (RowAt i) (partFrom hit (i + 1) xs)) (locatedFrom (isTypeRowNamed cs n) hit (i + 1) xs) .owner ≡ RowAt t →
           (locatedFrom (isTypeRowNamed cs n) hit (i + 1) xs .owner ≡ RowAt t →
-          Owner (i + 1) xs (firstWhere (isBlockNamed cs n) (blocks xs .1)) hit (locatedFrom (isTypeRowNamed cs n) hit (i + 1) xs .part) t) →
-          Owner i (x ∷ xs) (firstWhere (isBlockNamed cs n) (blocks (x ∷ xs) .1)) hit
+          Owner (i + 1) xs (find (isBlockNamed cs n) (blocks xs .1)) hit (locatedFrom (isTypeRowNamed cs n) hit (i + 1) xs .part) t) →
+          Owner i (x ∷ xs) (find (isBlockNamed cs n) (blocks (x ∷ xs) .1)) hit
           (choose b (located (RowAt i) (partFrom hit (i + 1) xs)) (locatedFrom (isTypeRowNamed cs n) hit (i + 1) xs) .part) t
       go true s e ih =
           let q : i ≡ t = cc in
           record { at = 0; row = x; place = omega arith; held = refl; block = block-meant cs n x xs s; under = ap (λ (m : ℕ). partFrom hit (m + 1) xs) q }
       go false s e ih =
-          rw (block-other cs n x xs s) (owner-later i x xs (firstWhere (isBlockNamed cs n) (blocks xs .1)) (locatedFrom (isTypeRowNamed cs n) hit (i + 1) xs .part) t (ih e))
+          rw (block-other cs n x xs s) (owner-later i x xs (find (isBlockNamed cs n) (blocks xs .1)) (locatedFrom (isTypeRowNamed cs n) hit (i + 1) xs .part) t
+          (ih e))
 
 -- ---- Of lent rows.
 
-module _ (cs : List Part) (rows : List ℕ) (n : List ℕ) where
+module _ (cs : List NamedCard) (rows : List ℕ) (n : List ℕ) where
   pub record TypeAt (t : ℕ) : Type 0 where
     pub inside : t < length rows / 3
     pub block : typeNamed cs (lentRows rows) n ≡ some (blockAfter (rowAt rows t) (lentRows rows) t)
@@ -215,7 +220,8 @@ module _ (cs : List Part) (rows : List ℕ) (n : List ℕ) where
     located-none o = owner-none cs n hit 0 (lentRows rows) (sym (ap (λ (l : Located). l .owner) e) ∙ o)
 
     module _ (t : ℕ) (o : l .owner ≡ RowAt t) where
-      owner-at : Owner 0 (lentRows rows) (firstWhere (isBlockNamed cs n) (blocks (lentRows rows) .1)) hit (locatedFrom (isTypeRowNamed cs n) hit 0 (lentRows rows) .part) t
+      owner-at : Owner 0 (lentRows rows) (find (isBlockNamed cs n) (blocks (lentRows rows) .1)) hit
+          (locatedFrom (isTypeRowNamed cs n) hit 0 (lentRows rows) .part) t
       owner-at = owner-some cs n hit 0 (lentRows rows) t (sym (ap (λ (l : Located). l .owner) e) ∙ o)
 
       owner-place : owner-at .at ≡ t
@@ -243,10 +249,10 @@ module _ (cs : List Part) (rows : List ℕ) (n : List ℕ) where
       part-is : l .part ≡ partFrom hit (t + 1) (drop (suc t) (lentRows rows))
       part-is = ap (λ (l : Located). l .part) e ∙ owner-at .under ∙ ap (λ (k : ℕ). partFrom hit (t + 1) (drop (suc k) (lentRows rows))) owner-place
 
-      pub located-no-part : l .part ≡ Nothing → firstWhere hit (blocks (drop (suc t) (lentRows rows)) .0) ≡ none
+      pub located-no-part : l .part ≡ Nothing → find hit (blocks (drop (suc t) (lentRows rows)) .0) ≡ none
       located-no-part p = part-none hit (t + 1) (drop (suc t) (lentRows rows)) (sym part-is ∙ p)
 
-      pub located-part : (i : ℕ) → l .part ≡ RowAt i → Hit 0 (lentRows rows) (firstWhere hit (blocks (drop (suc t) (lentRows rows)) .0)) i
+      pub located-part : (i : ℕ) → l .part ≡ RowAt i → Hit 0 (lentRows rows) (find hit (blocks (drop (suc t) (lentRows rows)) .0)) i
       located-part i p =
           let h = part-some hit (t + 1) (drop (suc t) (lentRows rows)) i (sym part-is ∙ p) in
           record { at = suc t + h .at; row = h .row; place = omega arith; held = sym (get-drop (lentRows rows) (suc t) (h .at)) ∙ h .held; first = h .first }
@@ -277,23 +283,26 @@ module _ (hit : Row → Bool) where
       go false true s t ih = sym (any-under x xs s ∙ rw t)
       go false false s t ih = ih ∙ sym (any-under x xs s ∙ rw t)
 
-module _ (cs : List Part) (n : List ℕ) (k : ℕ) (m : List ℕ) where
+module _ (cs : List NamedCard) (n : List ℕ) (k : ℕ) (m : List ℕ) where
   lists-is : (b : Block) → any (isPartNamed cs k m) (b .parts) ≡ lists cs k m b
   unfolding lists
   lists-is b = refl
 
   listed-from : (i : ℕ) (xs : List Row) → isRowFound (locatedFrom (isTypeRowNamed cs n) (isPartNamed cs k m) i xs .part) ≡
-      found (firstWhere (isBlockNamed cs n) (blocks xs .1)) (lists cs k m) false
+      found (find (isBlockNamed cs n) (blocks xs .1)) (lists cs k m) false
   unfolding locatedFrom
   listed-from i [] = sym (ap (λ (o : Option Block). found o (lists cs k m) false) (block-none cs n))
   listed-from i (x ∷ xs) = go (isTypeRowNamed cs n x) refl (listed-from (i + 1) xs)
     where
       go : (b : Bool) → isTypeRowNamed cs n x ≡ b →
-          isRowFound (locatedFrom (isTypeRowNamed cs n) (isPartNamed cs k m) (i + 1) xs .part) ≡ found (firstWhere (isBlockNamed cs n) (blocks xs .1)) (lists cs k m) false →
-          isRowFound (choose b (located (RowAt i) (partFrom (isPartNamed cs k m) (i + 1) xs)) (locatedFrom (isTypeRowNamed cs n) (isPartNamed cs k m) (i + 1) xs) .part) ≡
-          found (firstWhere (isBlockNamed cs n) (blocks (x ∷ xs) .1)) (lists cs k m) false
+          isRowFound (locatedFrom (isTypeRowNamed cs n) (isPartNamed cs k m) (i + 1) xs .part)
+          ≡ found (find (isBlockNamed cs n) (blocks xs .1)) (lists cs k m) false →
+          isRowFound (choose b (located (RowAt i) (partFrom (isPartNamed cs k m) (i + 1) xs))
+          (locatedFrom (isTypeRowNamed cs n) (isPartNamed cs k m) (i + 1) xs) .part) ≡
+          found (find (isBlockNamed cs n) (blocks (x ∷ xs) .1)) (lists cs k m) false
       go true s ih =
-          part-found (isPartNamed cs k m) (i + 1) xs ∙ lists-is (blockAfter x (x ∷ xs) 0) ∙ sym (ap (λ (o : Option Block). found o (lists cs k m) false) (block-meant cs n x xs s))
+          part-found (isPartNamed cs k m) (i + 1) xs ∙ lists-is (blockAfter x (x ∷ xs) 0)
+          ∙ sym (ap (λ (o : Option Block). found o (lists cs k m) false) (block-meant cs n x xs s))
       go false s ih = ih ∙ sym (ap (λ (o : Option Block). found o (lists cs k m) false) (block-other cs n x xs s))
 
   pub listed : (rows : List ℕ) (l : Located) → l ≡ locatedFrom (isTypeRowNamed cs n) (isPartNamed cs k m) 0 (lentRows rows) →

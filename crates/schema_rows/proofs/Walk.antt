@@ -9,18 +9,19 @@ use borrow.Author.Tests.{eq-eqb, ne-eqb, eqb-true, eqb-false, le-leb, not-true, 
 use lib.Dec.{eqb}
 use lib.ListN.{length, take, drop, getD, set, replicate, length-replicate, getD-replicate, length-set}
 use lib.Seq.{getD-set-same, getD-set-other}
-use Rattle.definition.specs.Lists.{choose, found, any, all, isEmpty, firstWhere, repeats}
+use Rattle.definition.specs.Lists.{choose, found, any, all, isEmpty, find, repeats}
 use Rattle.definition.specs.Answers.{absent}
 use Rattle.definition.specs.Cards.{isType, placeIn}
-use Rattle.definition.specs.Headings.{Part}
+use Rattle.definition.specs.Headings.{NamedCard}
 use Rattle.definition.specs.Catalogue.{Row}
-use Rattle.definition.specs.Refusals.{cardRoom}
+use Rattle.definition.specs.Refusals.{cardCapacity}
 use Rattle.definition.specs.Store.{accountIn, sound}
-use Rattle.definition.specs.LentRows.{lentRows, isTypeRow, rowOrder, inOrder, orderPasses, sameCard, cardsOnce, cardPasses, cardsPass, originPasses, originsPass, defaultRootPasses, defaultRootsPass, rowClauses, passes, rowsRefusal}
+use Rattle.definition.specs.LentRows.{lentRows, isTypeRow, rowOrder, inPlace, inOrder, orderPasses, sameCard, cardsOnce, cardPasses, cardsPass}
+use Rattle.definition.specs.LentRows.{originPasses, originsPass, defaultRootPasses, defaultRootsPass, rowClauses, passes, rowsRefusal}
 use Rattle.store_reader.specs.Stored.{storedParts}
 use Rattle.store_reader.proofs.Laws.{held-stored, cards-fit}
 use Rattle.schema_rows.specs.Rows.{rowAt}
-use Rattle.schema_rows.specs.Order.{isStanding, inPlace, fits, kindAfter, placeAfter}
+use Rattle.schema_rows.specs.Order.{isStanding, fits, kindAfter, placeAfter}
 use Rattle.schema_rows.specs.Passing.{rowPasses, isFree, marked}
 use Rattle.schema_rows.specs.Walk.{orderedFrom, onceFrom, restPasses, hasCard, Marked}
 use Rattle.schema_rows.proofs.Rows.{row-next, row-end, taken-next}
@@ -30,7 +31,7 @@ use Rattle.schema_rows.proofs.Passing.{type-most, card-is, card-stored,
 
 module _ (k p : ℕ) (r : Row) (rs : List Row) where
   pub order-bad : fits k p (r .what) ≡ false → orderedFrom k p (r ∷ rs) ≡ false
-  unfolding fits orderedFrom orderPasses inOrder inPlace isTypeRow
+  unfolding fits orderedFrom orderPasses inOrder isTypeRow
   order-bad e = go (eqb k 0) (isType (r .what)) refl refl e
     where
       go : (a b : Bool) → eqb k 0 ≡ a → isType (r .what) ≡ b → choose a (eqb (r .what) 4) (choose b true (inPlace k p (r .what))) ≡ false →
@@ -40,7 +41,7 @@ module _ (k p : ℕ) (r : Row) (rs : List Row) where
       go false false s t e = rw (s, t, e)
 
   pub order-next : isStanding k ≡ true → fits k p (r .what) ≡ true → orderedFrom k p (r ∷ rs) ≡ orderedFrom (kindAfter k (r .what)) (placeAfter k (r .what)) rs
-  unfolding fits orderedFrom orderPasses inOrder inPlace isTypeRow kindAfter placeAfter
+  unfolding fits orderedFrom orderPasses inOrder isTypeRow kindAfter placeAfter
   order-next st e = go (eqb k 0) (isType (r .what)) refl refl e
     where
       go : (a b : Bool) → eqb k 0 ≡ a → isType (r .what) ≡ b → choose a (eqb (r .what) 4) (choose b true (inPlace k p (r .what))) ≡ true →
@@ -67,13 +68,13 @@ standing-next k p w st e = go (eqb k 0) (isType w) refl e
 -- ---- Cards once.
 
 module _ (r : Row) (seen rs : List Row) where
-  first-any : (xs : List Row) → any (sameCard r) xs ≡ false → firstWhere (sameCard r) xs ≡ none
-  unfolding any firstWhere
+  first-any : (xs : List Row) → any (sameCard r) xs ≡ false → find (sameCard r) xs ≡ none
+  unfolding any find
   first-any [] e = refl
   first-any (x ∷ xs) e = go (sameCard r x) e (first-any xs)
     where
-      go : (b : Bool) → choose b true (any (sameCard r) xs) ≡ false → (any (sameCard r) xs ≡ false → firstWhere (sameCard r) xs ≡ none) →
-          choose b (some x) (firstWhere (sameCard r) xs) ≡ none
+      go : (b : Bool) → choose b true (any (sameCard r) xs) ≡ false → (any (sameCard r) xs ≡ false → find (sameCard r) xs ≡ none) →
+          choose b (some x) (find (sameCard r) xs) ≡ none
       go true e ih = let z : true ≡ false = e in absurd (let y : _≡_ {A = ℕ} 0 1 = cc in omega arith)
       go false e ih = ih e
 
@@ -81,14 +82,16 @@ module _ (r : Row) (seen rs : List Row) where
   unfolding onceFrom repeats
   once-next e = rw (first-any seen e)
 
-  found-any : (xs : List Row) → any (sameCard r) xs ≡ true → isEmpty (found (firstWhere (sameCard r) xs) (λ y. (r, y) ∷ repeats sameCard seen rs) (repeats sameCard (seen ++ (r ∷ [])) rs)) ≡ false
-  unfolding any firstWhere
+  found-any : (xs : List Row) → any (sameCard r) xs ≡ true →
+      isEmpty (found (find (sameCard r) xs) (λ y. (r, y) ∷ repeats sameCard seen rs) (repeats sameCard (seen ++ (r ∷ [])) rs)) ≡ false
+  unfolding any find
   found-any [] e = let z : true ≡ false = sym e in absurd (let y : _≡_ {A = ℕ} 0 1 = cc in omega arith)
   found-any (x ∷ xs) e = go (sameCard r x) e (found-any xs)
     where
       go : (b : Bool) → choose b true (any (sameCard r) xs) ≡ true →
-          (any (sameCard r) xs ≡ true → isEmpty (found (firstWhere (sameCard r) xs) (λ y. (r, y) ∷ repeats sameCard seen rs) (repeats sameCard (seen ++ (r ∷ [])) rs)) ≡ false) →
-          isEmpty (found (choose b (some x) (firstWhere (sameCard r) xs)) (λ y. (r, y) ∷ repeats sameCard seen rs) (repeats sameCard (seen ++ (r ∷ [])) rs)) ≡ false
+          (any (sameCard r) xs ≡ true → isEmpty (found (find (sameCard r) xs) (λ y. (r, y) ∷ repeats sameCard seen rs) (repeats sameCard (seen ++ (r ∷ [])) rs))
+          ≡ false) →
+          isEmpty (found (choose b (some x) (find (sameCard r) xs)) (λ y. (r, y) ∷ repeats sameCard seen rs) (repeats sameCard (seen ++ (r ∷ [])) rs)) ≡ false
       go true e ih = refl
       go false e ih = ih e
 
@@ -123,7 +126,7 @@ module _ (r : Row) where
           same true = refl
           same false = refl
 
-pub any-snoc : (p : Row → Bool) (xs : List Row) (x : Row) → any p (xs ++ (x ∷ [])) ≡ choose (p x) true (any p xs)
+pub any-snoc : {A : Type 0} (p : A → Bool) (xs : List A) (x : A) → any p (xs ++ (x ∷ [])) ≡ choose (p x) true (any p xs)
 unfolding any
 any-snoc p [] x = refl
 any-snoc p (y ∷ xs) x = go (p y) (p x) (any-snoc p xs x)
@@ -133,7 +136,7 @@ any-snoc p (y ∷ xs) x = go (p y) (p x) (any-snoc p xs x)
     go true false ih = refl
     go false b ih = ih
 
-module _ (marks : List ℕ) (seen : List Row) (m : Marked marks seen) (r : Row) (inside : (r .card ≡ absent → ⊥) → r .card < cardRoom) where
+module _ (marks : List ℕ) (seen : List Row) (m : Marked marks seen) (r : Row) (inside : (r .card ≡ absent → ⊥) → r .card < cardCapacity) where
   pub free-any : isFree marks (r .card) ≡ not (any (sameCard r) seen)
   unfolding isFree
   free-any = go (eqb (r .card) absent) refl
@@ -155,12 +158,14 @@ module _ (marks : List ℕ) (seen : List Row) (m : Marked marks seen) (r : Row) 
   mark-of : Bool → ℕ
   mark-of b = choose b 1 0
 
-  after : (c : ℕ) (b : Bool) → eqb c (r .card) ≡ b → _≡_ {A = ℕ} (choose (choose b true (any (hasCard c) seen)) 1 0) (choose (any (hasCard c) (seen ++ (r ∷ []))) 1 0)
+  after : (c : ℕ) (b : Bool) → eqb c (r .card) ≡ b →
+      _≡_ {A = ℕ} (choose (choose b true (any (hasCard c) seen)) 1 0) (choose (any (hasCard c) (seen ++ (r ∷ []))) 1 0)
   unfolding mark-of
   after c b t =
       ap (λ (b : Bool). mark-of (choose b true (any (hasCard c) seen))) (sym (has-is c b t)) ∙ ap mark-of (sym (any-snoc (hasCard c) seen r))
 
-  marked-at : (c : ℕ) → c < cardRoom → (r .card ≡ absent → ⊥) → (b : Bool) → eqb c (r .card) ≡ b → getD (set marks (r .card) 1) c 0 ≡ choose (any (hasCard c) (seen ++ (r ∷ []))) 1 0
+  marked-at : (c : ℕ) → c < cardCapacity → (r .card ≡ absent → ⊥) → (b : Bool) → eqb c (r .card) ≡ b →
+      getD (set marks (r .card) 1) c 0 ≡ choose (any (hasCard c) (seen ++ (r ∷ []))) 1 0
   marked-at c h n true t =
       let q : c ≡ r .card = eqb-true c (r .card) t in
       let l : r .card < length marks = (let s = m .size in omega arith) in
@@ -181,11 +186,11 @@ module _ (marks : List ℕ) (seen : List Row) (m : Marked marks seen) (r : Row) 
         told = λ c h. marked-at c h (eqb-false (r .card) absent e) (eqb c (r .card)) refl;
       }
 
-pub marked-start : (marks : List ℕ) → marks ≡ replicate 2300 0 → Marked marks []
+pub marked-start : (marks : List ℕ) → marks ≡ replicate cardCapacity 0 → Marked marks []
 unfolding any
 marked-start marks e = record {
-  size = ap length e ∙ length-replicate {A = ℕ} 2300 0;
-  told = λ c h. ap (λ (l : List ℕ). getD l c 0) e ∙ getD-replicate {A = ℕ} 2300 c 0 0 h;
+  size = ap length e ∙ length-replicate {A = ℕ} cardCapacity 0;
+  told = λ c h. ap (λ (l : List ℕ). getD l c 0) e ∙ getD-replicate {A = ℕ} cardCapacity c 0 0 h;
 }
 
 pub marked-same : (marks marks' : List ℕ) (seen : List Row) → marks' ≡ marks → Marked marks seen → Marked marks' seen
@@ -193,7 +198,7 @@ marked-same marks marks' seen e m = rw e m
 
 -- ---- A turn.
 
-module _ (cs : List Part) (rs : List Row) (k p : ℕ) (seen : List Row) (r : Row) (xs : List Row) where
+module _ (cs : List NamedCard) (rs : List Row) (k p : ℕ) (seen : List Row) (r : Row) (xs : List Row) where
   never-order : orderedFrom k p (r ∷ xs) ≡ false → restPasses cs rs k p seen (r ∷ xs) ≡ false
   unfolding restPasses
   never-order e = rw e
@@ -223,7 +228,7 @@ module _ (cs : List Part) (rs : List Row) (k p : ℕ) (seen : List Row) (r : Row
   unfolding restPasses all
   turn-next st e f g = rw (order-next k p r xs st e, once-next r seen xs g, f)
 
-pub turn-end : (cs : List Part) (rs : List Row) (k p : ℕ) (seen : List Row) → restPasses cs rs k p seen [] ≡ not (eqb k 0)
+pub turn-end : (cs : List NamedCard) (rs : List Row) (k p : ℕ) (seen : List Row) → restPasses cs rs k p seen [] ≡ not (eqb k 0)
 unfolding restPasses orderedFrom orderPasses inOrder onceFrom repeats all
 turn-end cs rs k p seen = go (eqb k 0)
   where
@@ -233,7 +238,7 @@ turn-end cs rs k p seen = go (eqb k 0)
 
 -- ---- The whole.
 
-module _ (cs : List Part) (rs : List Row) where
+module _ (cs : List NamedCard) (rs : List Row) where
   all-rows : (xs : List Row) → all (rowPasses cs rs) xs ≡
       choose (all (cardPasses cs) xs) (choose (all (originPasses cs) xs) (choose (all (defaultRootPasses cs rs) xs) true false) false) false
   unfolding all
@@ -285,7 +290,7 @@ module _ (text words rows : List ℕ) (ok : sound text words ≡ true) where
   unfolding rowsRefusal
   whole e =
       rw (eq-eqb (length rows % 3) 0 e) (
-      ap (λ (cs : List Part). eqb (choose (all (passes cs (lentRows rows)) rowClauses) 0 26) 0) (held-stored text words ok)
+      ap (λ (cs : List NamedCard). eqb (choose (all (passes cs (lentRows rows)) rowClauses) 0 26) 0) (held-stored text words ok)
       ∙ told (all (passes (storedParts text words) (lentRows rows)) rowClauses)
       ∙ all-clauses (storedParts text words) (lentRows rows))
     where
@@ -300,7 +305,8 @@ module _ (text words rows : List ℕ) (ok : sound text words ≡ true) where
 -- ---- The same at a row of a number.
 
 module _ (text words rows : List ℕ) (k p i : ℕ) (h : i < length rows / 3) where
-  pub walk-order : fits k p (getD rows (3 * i) 0) ≡ false → restPasses (storedParts text words) (lentRows rows) k p (take i (lentRows rows)) (drop i (lentRows rows)) ≡ false
+  pub walk-order : fits k p (getD rows (3 * i) 0) ≡ false →
+      restPasses (storedParts text words) (lentRows rows) k p (take i (lentRows rows)) (drop i (lentRows rows)) ≡ false
   walk-order e = ap (restPasses (storedParts text words) (lentRows rows) k p (take i (lentRows rows))) (row-next rows i h)
       ∙ turn-order (storedParts text words) (lentRows rows) k p (take i (lentRows rows)) (rowAt rows i) (drop (i + 1) (lentRows rows)) e
 
@@ -310,7 +316,7 @@ module _ (text words rows : List ℕ) (k p i : ℕ) (h : i < length rows / 3) wh
       ∙ turn-row (storedParts text words) (lentRows rows) k p (take i (lentRows rows)) (rowAt rows i) (drop (i + 1) (lentRows rows)) e
 
   pub card-inside : sound text words ≡ true → rowPasses (storedParts text words) (lentRows rows) (rowAt rows i) ≡ true →
-      (getD rows (3 * i + 1) 0 ≡ absent → ⊥) → getD rows (3 * i + 1) 0 < cardRoom
+      (getD rows (3 * i + 1) 0 ≡ absent → ⊥) → getD rows (3 * i + 1) 0 < cardCapacity
   card-inside ok e n =
       let c = row-passed (storedParts text words) (lentRows rows) (rowAt rows i) e in
       let s = card-stored (getD rows (3 * i) 0) (getD rows (3 * i + 1) 0) (getD rows (3 * i + 2) 0) words (card-is _ _ _ words text ∙ c) n in
@@ -319,8 +325,8 @@ module _ (text words rows : List ℕ) (k p i : ℕ) (h : i < length rows / 3) wh
 
   module _ (marks : List ℕ) (m : Marked marks (take i (lentRows rows))) (ok : sound text words ≡ true)
       (e : rowPasses (storedParts text words) (lentRows rows) (rowAt rows i) ≡ true) where
-    pub mark-room : (getD rows (3 * i + 1) 0 ≡ absent → ⊥) → getD rows (3 * i + 1) 0 < length marks
-    mark-room n = let l = card-inside ok e n in let s = m .size in omega arith
+    pub mark-capacity : (getD rows (3 * i + 1) 0 ≡ absent → ⊥) → getD rows (3 * i + 1) 0 < length marks
+    mark-capacity n = let l = card-inside ok e n in let s = m .size in omega arith
 
     pub walk-card : isFree marks (getD rows (3 * i + 1) 0) ≡ false →
         restPasses (storedParts text words) (lentRows rows) k p (take i (lentRows rows)) (drop i (lentRows rows)) ≡ false
@@ -343,6 +349,7 @@ module _ (text words rows : List ℕ) (k p i : ℕ) (h : i < length rows / 3) wh
           ∙ turn-next (storedParts text words) (lentRows rows) k p (take i (lentRows rows)) (rowAt rows i) (drop (i + 1) (lentRows rows)) st g e
           (not-true _ (sym (free-any marks (take i (lentRows rows)) m (rowAt rows i) (card-inside ok e)) ∙ f)))
 
-pub walk-end : (cs : List Part) (rows : List ℕ) (k p i : ℕ) → length rows / 3 ≤ i → restPasses cs (lentRows rows) k p (take i (lentRows rows)) (drop i (lentRows rows)) ≡ not (eqb k 0)
+pub walk-end : (cs : List NamedCard) (rows : List ℕ) (k p i : ℕ) → length rows / 3 ≤ i →
+    restPasses cs (lentRows rows) k p (take i (lentRows rows)) (drop i (lentRows rows)) ≡ not (eqb k 0)
 walk-end cs rows k p i h =
     ap (restPasses cs (lentRows rows) k p (take i (lentRows rows))) (row-end rows i h) ∙ turn-end cs (lentRows rows) k p (take i (lentRows rows))

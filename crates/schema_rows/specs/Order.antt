@@ -1,21 +1,15 @@
 -- The order of rows: where a row stands, and which may follow it.
-use mathlib.Core.Bool.{Bool, true, _&&_, _||_, not}
+use mathlib.Core.Bool.{Bool, true, _&&_, _||_}
 use Prim.Native.Nat.{ℕ}
-use lib.Dec.{eqb, leb, ltb}
-use lib.ListN.{length}
+use lib.Dec.{eqb, leb}
 use Rattle.definition.specs.Lists.{choose}
-use Rattle.definition.specs.Cards.{isRoot, isType, placeIn}
-use Rattle.definition.specs.LentRows.{rowOrder}
+use Rattle.definition.specs.Cards.{isType}
+use Rattle.definition.specs.LentRows.{rowPlace, inPlace}
 
 -- A row stands under a row of a kind, 4 to 10, after a place of that kind's order; before the row 4 the kind is 0.
 
 unfoldable pub isStanding : ℕ → Bool
 isStanding k = eqb k 0 || (leb 4 k && leb k 10)
-
-unfoldable pub inPlace : ℕ → ℕ → ℕ → Bool
-inPlace k p w =
-    let q = placeIn (rowOrder k) w in
-    ltb q (length (rowOrder k)) && leb p q && not (isRoot w && eqb p q)
 
 unfoldable pub fits : ℕ → ℕ → ℕ → Bool
 fits k p w = choose (eqb k 0) (eqb w 4) (choose (isType w) true (inPlace k p w))
@@ -25,4 +19,4 @@ unfoldable pub kindAfter : ℕ → ℕ → ℕ
 kindAfter k w = choose (eqb k 0) w (choose (isType w) w k)
 
 unfoldable pub placeAfter : ℕ → ℕ → ℕ
-placeAfter k w = choose (eqb k 0) 0 (choose (isType w) 0 (placeIn (rowOrder k) w))
+placeAfter k w = choose (eqb k 0) 0 (choose (isType w) 0 (rowPlace k w))

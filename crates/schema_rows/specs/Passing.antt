@@ -7,7 +7,7 @@ use lib.ListN.{getD, set}
 use Rattle.definition.specs.Lists.{choose}
 use Rattle.definition.specs.Answers.{absent}
 use Rattle.definition.specs.Cards.{isExtension}
-use Rattle.definition.specs.Headings.{Part}
+use Rattle.definition.specs.Headings.{NamedCard}
 use Rattle.definition.specs.Catalogue.{Row}
 use Rattle.definition.specs.Store.{cardsUsed}
 use Rattle.definition.specs.LentRows.{isDefaultRoot, wantedKind, cardPasses, originPasses, defaultRootPasses}
@@ -25,7 +25,7 @@ cardFits words r =
 unfoldable pub originFits : List ℕ → ℕ → Bool
 originFits words origin = eqb origin absent || isExtension (cardKind words origin)
 
-unfoldable pub rowPasses : List Part → List Row → Row → Bool
+unfoldable pub rowPasses : List NamedCard → List Row → Row → Bool
 rowPasses cs rs r = choose (cardPasses cs r) (choose (originPasses cs r) (defaultRootPasses cs rs r) false) false
 
 -- ---- Marks: one for each stored card, 1 where a row had it.

@@ -6,6 +6,8 @@ use Prim.Native.Nat.{ℕ, _+_, _*_}
 use lib.ListN.{getD, getElem?}
 use Rattle.definition.specs.Lists.{choose}
 use Rattle.definition.specs.Catalogue.{Row, row}
+use Rattle.definition.specs.LentRows.{lentRows, isTypeRowNamed}
+use Rattle.store_reader.specs.Stored.{storedParts}
 use Rattle.schema_rows.specs.declared.search.Found.{Found}
 use Rattle.schema_rows.specs.declared.search.Found.the-variants.{Row as RowAt, Nothing}
 
@@ -16,6 +18,10 @@ rowAt rows i = row (getD rows (3 * i) 0) (getD rows (3 * i + 1) 0) (getD rows (3
 unfoldable pub foundFrom : (Row → Bool) → ℕ → List Row → Found
 foundFrom p i [] = Nothing
 foundFrom p i (r ∷ rs) = let next = foundFrom p (i + 1) rs in choose (p r) (RowAt i) next
+
+-- The first type row of a name, which is the one that counts, by the words of a store and of lent rows.
+abbrev pub typeFound : List ℕ → List ℕ → List ℕ → List ℕ → Found
+typeFound text words rows name = foundFrom (isTypeRowNamed (storedParts text words) name) 0 (lentRows rows)
 
 -- The row that was found.
 abbrev pub rowFound : List Row → Found → Option Row

@@ -1,7 +1,8 @@
 // Refusal 26, the tests of a lent row by itself, and the marks that tell a card which stands in two rows.
+use crate::search::Found;
 use ast::kinds;
 use definition::ABSENT;
-use crate::search::Found;
+use definition::layout::ROW_WORDS;
 ghost use mathlib.Core.Path.{_≡_};
 ghost use mathlib.Core.Bool.{true};
 ghost use Prim.Native.Nat.{_<_};
@@ -35,20 +36,16 @@ pub fn wanted_kind(what: u32, origin: u32) -> u32
     if origin == ABSENT {
         return what;
     }
-    what + 7
+    kinds::extension_of(what)
 }
 
 pub fn origin_passes(words: &[u32], origin: u32) -> bool
     ensures { λ r. ⌜ r ≡ originFits (now (words .entry)) origin ⌝ }
 {
-    if origin == ABSENT {
-        return true;
+    if origin != ABSENT {
+        return kinds::is_extension(store_reader::card_kind(words, origin as usize));
     }
-    let kind = store_reader::card_kind(words, origin as usize);
-    if kind < 11 {
-        return false;
-    }
-    kind <= 17
+    true
 }
 
 // The first type row of a default root's name is an object.
@@ -60,7 +57,9 @@ pub fn default_root_passes(
     card: u32,
     origin: u32,
 ) -> bool
-    ensures { λ r. ⌜ r ≡ defaultRootPasses (storedParts (now (text .entry)) (now (words .entry))) (lentRows (now (rows .entry))) (row what card origin) ⌝ }
+    ensures { λ r. ⌜ r
+        ≡ defaultRootPasses (storedParts (now (text .entry)) (now (words .entry))) (lentRows (now (rows .entry)))
+        (row what card origin) ⌝ }
 {
     if !is_default_root(what, card, origin) {
         return true;
@@ -68,13 +67,14 @@ pub fn default_root_passes(
     let Found::Row(t) = crate::search::find_default_root(text, words, rows, what) else {
         return false;
     };
-    rows[3 * t] == 6
+    rows[ROW_WORDS * t] == kinds::OBJECT_TYPE_DEFINITION
 }
 
 // Marks a card, if no row before had it; `-` is never marked.
 pub fn mark(marks: &mut [u8], card: u32) -> bool
     requires { ⌜ ((card ≡ absent → ⊥) → card < length (now marks)) ⌝ }
-    ensures { λ r. ⌜ (r ≡ isFree (now (marks .entry)) card) × (isFree (now (marks .entry)) card ≡ true → now (marks .exit) ≡ marked (now (marks .entry)) card) ⌝ }
+    ensures { λ r. ⌜ (r ≡ isFree (now (marks .entry)) card)
+        × (isFree (now (marks .entry)) card ≡ true → now (marks .exit) ≡ marked (now (marks .entry)) card) ⌝ }
 {
     if card == ABSENT {
         return true;

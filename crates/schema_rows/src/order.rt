@@ -9,82 +9,50 @@ ghost use Rattle.definition.specs.LentRows.{rowOrder};
 ghost use Rattle.schema_rows.specs.Order.{isStanding, fits, kindAfter, placeAfter};
 
 // Where the next row stands: under the row 4 or a type row, at or after a place of that kind's order. Before the row 4 the kind is 0.
-pub struct Standing {
+pub struct RowPlace {
     pub kind: u32,
     pub place: u32,
 }
 
-// The place of a kind in the order under the row 4; 5 where it has none.
+// How many places there are under the row 4: directive uses, the three roots one after another, directive definitions.
+const SCHEMA_PLACES: u32 = 5;
+
+// The place of a kind in the order under the row 4; as many as there are where it has none.
 fn schema_place(what: u32) -> u32
     ensures { λ r. ⌜ r ≡ placeIn (rowOrder 4) what ⌝ }
 {
     match what {
-        20 => 0,
-        26 => 1,
-        27 => 2,
-        28 => 3,
-        3 => 4,
-        _ => 5,
+        kinds::DIRECTIVE => 0,
+        kinds::QUERY => 1,
+        kinds::MUTATION => 2,
+        kinds::SUBSCRIPTION => 3,
+        kinds::DIRECTIVE_DEFINITION => 4,
+        _ => SCHEMA_PLACES,
     }
 }
 
-// The place of a kind in the order under a type's row: 21, 20, 22 of objects and interfaces, else 20 and one kind of part, but for scalars.
-fn type_place(kind: u32, what: u32) -> u32
-    requires { ⌜ (5 ≤ kind) × (kind ≤ 10) ⌝ }
+// The place of a kind in the order under a row. Under a type the rows have the order of the type's parts.
+fn place_under(kind: u32, what: u32) -> u32
+    requires { ⌜ (4 ≤ kind)
+        × (kind ≤ 10) ⌝ }
     ensures { λ r. ⌜ r ≡ placeIn (rowOrder kind) what ⌝ }
 {
-    if kind == 5 {
-        if what == 20 {
-            return 0;
-        }
-        return 1;
-    }
-    if kind < 8 {
-        if what == 21 {
-            return 0;
-        }
-        if what == 20 {
-            return 1;
-        }
-        if what == 22 {
-            return 2;
-        }
-        return 3;
-    }
-    if what == 20 {
-        return 0;
-    }
-    if what == kind + 15 {
-        return 1;
-    }
-    2
-}
-
-// The place of a kind in the order under a row, and how many places there are.
-fn row_place(kind: u32, what: u32) -> u32
-    requires { ⌜ (4 ≤ kind) × (kind ≤ 10) ⌝ }
-    ensures { λ r. ⌜ r ≡ placeIn (rowOrder kind) what ⌝ }
-{
-    if kind == 4 {
+    if kind == kinds::SCHEMA_DEFINITION {
         return schema_place(what);
     }
-    type_place(kind, what)
+    kinds::place_of(kind, what)
 }
 
-fn row_places(kind: u32) -> u32
-    requires { ⌜ (4 ≤ kind) × (kind ≤ 10) ⌝ }
+// How many places there are under a row.
+fn places_under(kind: u32) -> u32
+    requires { ⌜ (4 ≤ kind)
+        × (kind ≤ 10) ⌝ }
     ensures { λ r. ⌜ r ≡ length (rowOrder kind) ⌝ }
 {
-    if kind == 4 {
-        return 5;
+    if kind == kinds::SCHEMA_DEFINITION {
+        return SCHEMA_PLACES;
     }
-    if kind == 5 {
-        return 1;
-    }
-    if kind < 8 {
-        return 3;
-    }
-    2
+    kinds::places_under(kind)
 }
 
 // Whether a row may follow: first a row 4, then types anywhere and other kinds in order, each root once.
@@ -93,13 +61,13 @@ pub fn row_fits(kind: u32, place: u32, what: u32) -> bool
     ensures { λ r. ⌜ r ≡ fits kind place what ⌝ }
 {
     if kind == 0 {
-        return what == 4;
+        return what == kinds::SCHEMA_DEFINITION;
     }
     if kinds::is_type(what) {
         return true;
     }
-    let next = row_place(kind, what);
-    if row_places(kind) <= next {
+    let next = place_under(kind, what);
+    if places_under(kind) <= next {
         return false;
     }
     if next < place {
@@ -112,24 +80,25 @@ pub fn row_fits(kind: u32, place: u32, what: u32) -> bool
 }
 
 // Where the row after one that fits stands.
-pub fn stand_after(kind: u32, what: u32) -> Standing
+pub fn place_after(kind: u32, what: u32) -> RowPlace
     requires { ⌜ isStanding kind ≡ true ⌝ }
-    ensures { λ r. ⌜ (r .kind ≡ kindAfter kind what) × (r .place ≡ placeAfter kind what) ⌝ }
+    ensures { λ r. ⌜ (r .kind ≡ kindAfter kind what)
+        × (r .place ≡ placeAfter kind what) ⌝ }
 {
     if kind == 0 {
-        return Standing {
+        return RowPlace {
             kind: what,
             place: 0,
         };
     }
     if kinds::is_type(what) {
-        return Standing {
+        return RowPlace {
             kind: what,
             place: 0,
         };
     }
-    Standing {
+    RowPlace {
         kind,
-        place: row_place(kind, what),
+        place: place_under(kind, what),
     }
 }

@@ -1,5 +1,6 @@
 // Searches over lent rows: how a row is read, the first type of a name, and under it the first part of a name.
 use ast::kinds;
+use definition::layout::ROW_WORDS;
 ghost use mathlib.Core.Path.{_≡_};
 ghost use mathlib.Core.Bool.{true};
 ghost use Rattle.definition.specs.Names.{sameName};
@@ -8,8 +9,8 @@ ghost use Rattle.definition.specs.Catalogue.{row, defaultName};
 ghost use Rattle.definition.specs.LentRows.{lentRows, isTypeRowNamed};
 ghost use Rattle.definition.specs.Lookups.{isRowOf, isPartNamed};
 ghost use Rattle.store_reader.specs.Stored.{storedParts, cardName};
-ghost use Rattle.schema_rows.specs.Rows.{foundFrom};
-ghost use Rattle.schema_rows.specs.SearchLaws.{locatedFrom};
+ghost use Rattle.schema_rows.specs.Rows.{foundFrom, typeFound};
+ghost use Rattle.schema_rows.specs.Search.{partLocated};
 
 // What a search over rows finds: the number of a row.
 pub enum Found {
@@ -42,12 +43,18 @@ pub fn is_type_named(text: &[u8], words: &[u32], what: u32, card: u32, name: &[u
 
 // The first type row of a name, which is the one that counts.
 pub fn find_type(text: &[u8], words: &[u32], rows: &[u32], name: &[u8]) -> Found
-    ensures { λ r. ⌜ r ≡ foundFrom (isTypeRowNamed (storedParts (now (text .entry)) (now (words .entry))) (now (name .entry))) 0 (lentRows (now (rows .entry))) ⌝ }
+    ensures { λ r. ⌜ r ≡ typeFound (now (text .entry)) (now (words .entry)) (now (rows .entry)) (now (name .entry)) ⌝ }
 {
-    let count = rows.len() / 3;
+    let count = rows.len() / ROW_WORDS;
     let mut i = 0;
     while i < count {
-        if is_type_named(text, words, rows[3 * i], rows[3 * i + 1], name) {
+        if is_type_named(
+            text,
+            words,
+            rows[ROW_WORDS * i],
+            rows[ROW_WORDS * i + 1],
+            name,
+        ) {
             return Found::Row(i);
         }
         i += 1;
@@ -58,12 +65,12 @@ pub fn find_type(text: &[u8], words: &[u32], rows: &[u32], name: &[u8]) -> Found
 // The first type row of the name that a default root of the kind has (specification, 3.3.1).
 pub fn find_default_root(text: &[u8], words: &[u32], rows: &[u32], what: u32) -> Found
     requires { ⌜ isRoot what ≡ true ⌝ }
-    ensures { λ r. ⌜ r ≡ foundFrom (isTypeRowNamed (storedParts (now (text .entry)) (now (words .entry))) (defaultName what)) 0 (lentRows (now (rows .entry))) ⌝ }
+    ensures { λ r. ⌜ r ≡ typeFound (now (text .entry)) (now (words .entry)) (now (rows .entry)) (defaultName what) ⌝ }
 {
-    if what == 26 {
+    if what == kinds::QUERY {
         return find_type(text, words, rows, b"Query");
     }
-    if what == 27 {
+    if what == kinds::MUTATION {
         return find_type(text, words, rows, b"Mutation");
     }
     find_type(text, words, rows, b"Subscription")
@@ -78,7 +85,8 @@ pub fn is_part_named(
     kind: u32,
     name: &[u8],
 ) -> bool
-    ensures { λ r. ⌜ r ≡ isPartNamed (storedParts (now (text .entry)) (now (words .entry))) kind (now (name .entry)) (row what card 0) ⌝ }
+    ensures { λ r. ⌜ r
+        ≡ isPartNamed (storedParts (now (text .entry)) (now (words .entry))) kind (now (name .entry)) (row what card 0) ⌝ }
 {
     if what != kind {
         return false;
@@ -95,21 +103,36 @@ pub fn find_part(
     kind: u32,
     part_name: &[u8],
 ) -> Located
-    ensures { λ r. ⌜ r ≡ locatedFrom (isTypeRowNamed (storedParts (now (text .entry)) (now (words .entry))) (now («owner_name» .entry))) (isPartNamed (storedParts (now (text .entry)) (now (words .entry))) kind (now («part_name» .entry))) 0 (lentRows (now (rows .entry))) ⌝ }
+    ensures { λ r. ⌜ r
+        ≡ partLocated (now (text .entry)) (now (words .entry)) (now (rows .entry)) (now («owner_name» .entry)) kind
+        (now («part_name» .entry)) ⌝ }
 {
-    let count = rows.len() / 3;
+    let count = rows.len() / ROW_WORDS;
     let mut owner = Found::Nothing;
     let mut part = Found::Nothing;
     let mut i = 0;
     'search: while i < count {
-        if is_type_named(text, words, rows[3 * i], rows[3 * i + 1], owner_name) {
+        if is_type_named(
+            text,
+            words,
+            rows[ROW_WORDS * i],
+            rows[ROW_WORDS * i + 1],
+            owner_name,
+        ) {
             owner = Found::Row(i);
             let mut j = i + 1;
             while j < count {
-                if kinds::is_type(rows[3 * j]) {
+                if kinds::is_type(rows[ROW_WORDS * j]) {
                     break 'search;
                 }
-                if is_part_named(text, words, rows[3 * j], rows[3 * j + 1], kind, part_name) {
+                if is_part_named(
+                    text,
+                    words,
+                    rows[ROW_WORDS * j],
+                    rows[ROW_WORDS * j + 1],
+                    kind,
+                    part_name,
+                ) {
                     part = Found::Row(j);
                     break 'search;
                 }
@@ -126,10 +149,10 @@ pub fn find_part(
 pub fn find_row(rows: &[u32], kind: u32) -> Found
     ensures { λ r. ⌜ r ≡ foundFrom (isRowOf kind) 0 (lentRows (now (rows .entry))) ⌝ }
 {
-    let count = rows.len() / 3;
+    let count = rows.len() / ROW_WORDS;
     let mut i = 0;
     while i < count {
-        if rows[3 * i] == kind {
+        if rows[ROW_WORDS * i] == kind {
             return Found::Row(i);
         }
         i += 1;

@@ -8,27 +8,29 @@ use native.Mathlib.Omega.{arith}
 use lib.ListN.{length}
 use borrow.Author.Tests.{eqb-true, not-false}
 use Rattle.definition.specs.declared.Answer.{Answer}
-use Rattle.definition.specs.Lists.{All, choose}
+use Rattle.definition.specs.Lists.{All}
 use Rattle.definition.specs.Answers.{answer}
-use Rattle.definition.specs.Cards.{Card, cardsOf, isPart, faultFrom, cardFault, brokenCards, documentFault}
+use Rattle.definition.specs.Cards.{Card, cardWords, cardsOf, isPart, faultFrom, cardFault, brokenCards, documentFault}
 use Rattle.definition.specs.Headings.{Document}
-use Rattle.definition.specs.Refusals.{textHeld, cardsHeld, document, zeroFault, roomRefusal, openingRefusal, filingRefusal}
-use Rattle.definition.specs.Store.{accountIn}
+use Rattle.definition.specs.Refusals.{textCapacity, textHeld, cardsHeld, document, zeroFault, capacityRefusal, openingRefusal, filingRefusal}
+use Rattle.definition.specs.Store.{wordsCapacity, accountIn}
 use Rattle.store_check.proofs.Sound.{documents-held, text-held, cards-held}
+use Rattle.definition.proofs.Tests.{chosen-some}
 use Rattle.definition.proofs.CleanCards.{clean-part, clean-heading}
 use Rattle.store.proofs.Clean.{item-in-text, name-in-text}
 use Rattle.store_check.proofs.Checked.{SoundStore}
 use Rattle.store.specs.Moving.{Within}
-use Rattle.store.specs.Filing.{Fits, Opens}
-use Rattle.store.specs.FilingCheckRoom.{roomFor, lentRefusal}
-use Rattle.store.proofs.Enough.{room-left, unrefused}
+use Rattle.store.specs.Filing.{FilingFits, OpeningFits}
+use Rattle.store.specs.FilingCheckCapacity.{capacityFor, lentRefusal}
+use Rattle.store.proofs.Enough.{capacity-left, unrefused}
 use Rattle.store.proofs.Filed.{count-cards}
 
 -- ---- A document that passes 1 to 5.
 
 fine-within : (bytes : List ℕ) (size n i : ℕ) (h s : Option Card) (cs : List Card) → size ≤ n → faultFrom bytes 0 size i h s cs ≡ none → All (Within n) cs
 fine-within bytes size n i h s [] l e = tt
-fine-within bytes size n i h s (c ∷ cs) l e = go (isPart (c .kind)) refl (fine-within bytes size n (i + 1) h (some c) cs l) (fine-within bytes size n (i + 1) (some c) none cs l)
+fine-within bytes size n i h s (c ∷ cs) l e =
+    go (isPart (c .kind)) refl (fine-within bytes size n (i + 1) h (some c) cs l) (fine-within bytes size n (i + 1) (some c) none cs l)
   where
     go : (b : Bool) → isPart (c .kind) ≡ b →
         (faultFrom bytes 0 size (i + 1) h (some c) cs ≡ none → All (Within n) cs) →
@@ -41,16 +43,12 @@ fine-within bytes size n i h s (c ∷ cs) l e = go (isPart (c .kind)) refl (fine
         let q = clean-heading bytes 0 size i h s c cs p e in
         ((omega (arith, item-in-text bytes size none h c (q .0)), omega (arith, name-in-text bytes size none h c (q .0))), new (q .1))
 
-broken-first : (b : Bool) (r : Option Answer) → choose b (some (answer 1 0)) r ≡ none → (b ≡ false) × (r ≡ none)
-broken-first true r e = absurd (let z : _≡_ {A = ℕ} 0 1 = cc in omega arith)
-broken-first false r e = (refl, e)
-
 module _ (lent cards : List ℕ) (e : documentFault lent cards ≡ none) where
   parts : (brokenCards cards ≡ false) × (cardFault lent 0 (length lent) (cardsOf cards) ≡ none)
   unfolding documentFault
-  parts = broken-first (brokenCards cards) _ e
+  parts = chosen-some (brokenCards cards) _ (answer 1 0) e
 
-  whole-cards : length cards % 5 ≡ 0
+  whole-cards : length cards % cardWords ≡ 0
   unfolding brokenCards
   whole-cards = eqb-true _ _ (not-false _ (parts .0))
 
@@ -60,9 +58,10 @@ module _ (lent cards : List ℕ) (e : documentFault lent cards ≡ none) where
 
 -- ---- 24 and 25.
 
-room-for : (ds : List Document) (lent cards : List ℕ) → roomRefusal ds (document false lent cards) ≡ roomFor (textHeld ds) (cardsHeld ds) (length lent) (length cards / 5)
-unfolding roomRefusal roomFor document
-room-for ds lent cards = rw (count-cards cards)
+capacity-for : (ds : List Document) (lent cards : List ℕ) →
+    capacityRefusal ds (document false lent cards) ≡ capacityFor (textHeld ds) (cardsHeld ds) (length lent) (length cards / cardWords)
+unfolding capacityRefusal capacityFor document
+capacity-for ds lent cards = rw (count-cards cards)
 
 -- ---- Opening.
 
@@ -76,20 +75,22 @@ module _ (lent cards : List ℕ) where
     unfolding openingRefusal
     opening-barred a e = rw (f, e)
 
-    pub opening-room : (o : Option Answer) → zeroFault (document false lent cards) ≡ none → o ≡ roomFor 0 0 (length lent) (length cards / 5) → openingRefusal lent cards ≡ o
+    pub opening-capacity : (o : Option Answer) → zeroFault (document false lent cards) ≡ none →
+        o ≡ capacityFor 0 0 (length lent) (length cards / cardWords) → openingRefusal lent cards ≡ o
     unfolding openingRefusal textHeld cardsHeld
-    opening-room o z e = rw (f, z) (room-for [] lent cards ∙ sym e)
+    opening-capacity o z e = rw (f, z) (capacity-for [] lent cards ∙ sym e)
 
-    pub opens : (text words : List ℕ) → 65536 ≤ length text → 11761 ≤ length words → none ≡ roomFor 0 0 (length lent) (length cards / 5) → Opens text words lent cards
+    pub opens : (text words : List ℕ) → textCapacity ≤ length text → wordsCapacity ≤ length words →
+        none ≡ capacityFor 0 0 (length lent) (length cards / cardWords) → OpeningFits text words lent cards
     opens text words t w e =
-        let q = room-left 0 0 (length lent) (length cards / 5) (sym e) in
+        let q = capacity-left 0 0 (length lent) (length cards / cardWords) (sym e) in
         record {
           textLong = t;
           wordsLong = w;
           textFits = omega arith;
           cardsFit = omega arith;
           whole = whole-cards lent cards f;
-          within = within-text lent cards f 65536 (omega arith);
+          within = within-text lent cards f textCapacity (omega arith);
         }
 
 -- ---- Filing.
@@ -98,9 +99,15 @@ module _ (text words lent cards : List ℕ) (s : SoundStore text words) where
   pub same-refusal : filingRefusal (accountIn text words) lent cards ≡ lentRefusal words lent cards
   unfolding filingRefusal lentRefusal
   same-refusal =
-      rw (room-for (accountIn text words .documents) lent cards, documents-held text words, text-held text words (s .textLong) (s .sound), cards-held text words (s .sound))
+      rw (
+        capacity-for (accountIn text words .documents) lent cards,
+        documents-held text words,
+        text-held text words (s .textLong)
+            (s .sound),
+        cards-held text words (s .sound),
+      )
 
-  pub fits : lentRefusal words lent cards ≡ none → Fits text words lent cards
+  pub fits : lentRefusal words lent cards ≡ none → FilingFits text words lent cards
   fits e =
       let q = unrefused words lent cards e in
       record {
@@ -110,5 +117,5 @@ module _ (text words lent cards : List ℕ) (s : SoundStore text words) where
         textFits = q .textFits;
         cardsFit = q .cardsFit;
         whole = whole-cards lent cards (q .sound);
-        within = within-text lent cards (q .sound) 65536 (omega (arith, q .textFits));
+        within = within-text lent cards (q .sound) textCapacity (omega (arith, q .textFits));
       }

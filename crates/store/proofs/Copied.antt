@@ -16,7 +16,8 @@ pub copied-none : (dst src : List ℕ) → dst ≡ paste dst 0 src 0
 copied-none dst src = paste-zero dst 0 src
 
 pub copied-next : (dst src : List ℕ) (i : ℕ) → i < length dst → i < length src → set (paste dst 0 src i) i (getD src i 0) ≡ paste dst 0 src (i + 1)
-copied-next dst src i h k = rw (add-one i) (ap (λ (n : ℕ). set (paste dst 0 src i) n (getD src i 0)) (sym (zero-add i)) ∙ paste-suc dst 0 src i 0 (omega arith) k)
+copied-next dst src i h k =
+    rw (add-one i) (ap (λ (n : ℕ). set (paste dst 0 src i) n (getD src i 0)) (sym (zero-add i)) ∙ paste-suc dst 0 src i 0 (omega arith) k)
 
 pub copied-all : (dst src : List ℕ) (i : ℕ) → i ≡ length src → paste dst 0 src i ≡ written dst 0 src
 unfolding written

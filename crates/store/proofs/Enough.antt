@@ -1,44 +1,39 @@
 -- One law for each answer of the two checks, and what is known where none refuses.
-use mathlib.Core.Path.{_≡_, refl}
+use mathlib.Core.Path.{_≡_}
 use mathlib.Core.List.{List}
-use mathlib.Core.Bool.{Bool, true, false}
 use mathlib.Core.Option.{Option, none, some}
 use Prim.Native.Nat.{ℕ, _+_, _/_, _<_, _≤_}
-use native.Mathlib.Omega.{arith}
 use lib.Dec.{ltb, leb}
 use lib.ListN.{length}
 use borrow.Author.Tests.{ltb-false, leb-false, lt-ltb, le-ltb, le-leb, lt-leb}
-use Rattle.definition.specs.Lists.{choose, orElse}
 use Rattle.definition.specs.declared.Answer.{Answer}
 use Rattle.definition.specs.Answers.{answer}
-use Rattle.definition.specs.Cards.{documentFault}
-use Rattle.definition.specs.Refusals.{refuse}
+use Rattle.definition.specs.Cards.{cardWords, documentFault}
+use Rattle.definition.specs.Refusals.{textCapacity, documentCapacity, cardCapacity, refuse}
 use Rattle.definition.specs.Store.{documentCount, textUsed, cardsUsed}
-use Rattle.store.specs.FilingCheckRoom.{roomFor, lentRefusal}
+use Rattle.definition.proofs.Tests.{orElse-none, refuse-none}
+use Rattle.store.specs.FilingCheckCapacity.{capacityFor, lentRefusal}
 
 -- ---- 24 and 25.
 
 module _ (t c l k : ℕ) where
-  pub text-full : 65536 < t + l → some (answer 24 0) ≡ roomFor t c l k
-  unfolding roomFor refuse
-  text-full h = rw (lt-ltb 65536 (t + l) h)
+  pub text-full : textCapacity < t + l → some (answer 24 0) ≡ capacityFor t c l k
+  unfolding capacityFor refuse
+  text-full h = rw (lt-ltb textCapacity (t + l) h)
 
-  pub cards-full : t + l ≤ 65536 → 2300 < c + k → some (answer 25 0) ≡ roomFor t c l k
-  unfolding roomFor refuse
-  cards-full h q = rw (le-ltb 65536 (t + l) h, lt-ltb 2300 (c + k) q)
+  pub cards-full : t + l ≤ textCapacity → cardCapacity < c + k → some (answer 25 0) ≡ capacityFor t c l k
+  unfolding capacityFor refuse
+  cards-full h q = rw (le-ltb textCapacity (t + l) h, lt-ltb cardCapacity (c + k) q)
 
-  pub enough : t + l ≤ 65536 → c + k ≤ 2300 → none ≡ roomFor t c l k
-  unfolding roomFor refuse
-  enough h q = rw (le-ltb 65536 (t + l) h, le-ltb 2300 (c + k) q)
+  pub enough : t + l ≤ textCapacity → c + k ≤ cardCapacity → none ≡ capacityFor t c l k
+  unfolding capacityFor refuse
+  enough h q = rw (le-ltb textCapacity (t + l) h, le-ltb cardCapacity (c + k) q)
 
-  two-none : (a b : Bool) → orElse (choose a (some (answer 24 0)) none) (choose b (some (answer 25 0)) none) ≡ none → (a ≡ false) × (b ≡ false)
-  two-none true b e = absurd (let z : _≡_ {A = ℕ} 0 1 = cc in omega arith)
-  two-none false true e = absurd (let z : _≡_ {A = ℕ} 0 1 = cc in omega arith)
-  two-none false false e = (refl, refl)
-
-  pub room-left : roomFor t c l k ≡ none → (t + l ≤ 65536) × (c + k ≤ 2300)
-  unfolding roomFor refuse
-  room-left e = let q = two-none (ltb 65536 (t + l)) (ltb 2300 (c + k)) e in (ltb-false _ _ (q .0), ltb-false _ _ (q .1))
+  pub capacity-left : capacityFor t c l k ≡ none → (t + l ≤ textCapacity) × (c + k ≤ cardCapacity)
+  unfolding capacityFor
+  capacity-left e =
+      let q = orElse-none (refuse 24 (ltb textCapacity (t + l))) _ e in
+      (ltb-false _ _ (refuse-none 24 _ (q .0)), ltb-false _ _ (refuse-none 25 _ (q .1)))
 
 -- ---- A lent document.
 
@@ -48,29 +43,26 @@ module _ (words lent cards : List ℕ) where
   lent-faulty a e = rw (← e)
 
   module _ (f : none ≡ documentFault lent cards) where
-    pub lent-full : 64 ≤ documentCount words → some (answer 23 0) ≡ lentRefusal words lent cards
+    pub lent-full : documentCapacity ≤ documentCount words → some (answer 23 0) ≡ lentRefusal words lent cards
     unfolding lentRefusal refuse
-    lent-full h = rw (← f, le-leb 64 (documentCount words) h)
+    lent-full h = rw (← f, le-leb documentCapacity (documentCount words) h)
 
-    pub lent-room : (o : Option Answer) → documentCount words < 64 → o ≡ roomFor (textUsed words) (cardsUsed words) (length lent) (length cards / 5) → o ≡ lentRefusal words lent cards
+    pub lent-capacity : (o : Option Answer) → documentCount words < documentCapacity →
+        o ≡ capacityFor (textUsed words) (cardsUsed words) (length lent) (length cards / cardWords) → o ≡ lentRefusal words lent cards
     unfolding lentRefusal refuse
-    lent-room o h e = rw (← f, lt-leb 64 (documentCount words) h) e
+    lent-capacity o h e = rw (← f, lt-leb documentCapacity (documentCount words) h) e
 
 -- What is known of a document that none refuses.
 pub record Unrefused (words lent cards : List ℕ) : Type 0 where
   pub sound : documentFault lent cards ≡ none
-  pub few : documentCount words < 64
-  pub textFits : textUsed words + length lent ≤ 65536
-  pub cardsFit : cardsUsed words + length cards / 5 ≤ 2300
-
-three-none : (a : Option Answer) (b : Bool) (c : Option Answer) → orElse a (orElse (choose b (some (answer 23 0)) none) c) ≡ none → (a ≡ none) × (b ≡ false) × (c ≡ none)
-three-none (some a) b c e = absurd (let z : _≡_ {A = ℕ} 0 1 = cc in omega arith)
-three-none none true c e = absurd (let z : _≡_ {A = ℕ} 0 1 = cc in omega arith)
-three-none none false c e = (refl, refl, e)
+  pub few : documentCount words < documentCapacity
+  pub textFits : textUsed words + length lent ≤ textCapacity
+  pub cardsFit : cardsUsed words + length cards / cardWords ≤ cardCapacity
 
 pub unrefused : (words lent cards : List ℕ) → lentRefusal words lent cards ≡ none → Unrefused words lent cards
-unfolding lentRefusal refuse
+unfolding lentRefusal
 unrefused words lent cards e =
-    let q = three-none (documentFault lent cards) (leb 64 (documentCount words)) (roomFor (textUsed words) (cardsUsed words) (length lent) (length cards / 5)) e in
-    let r = room-left (textUsed words) (cardsUsed words) (length lent) (length cards / 5) (q .2) in
-    record { sound = q .0; few = leb-false _ _ (q .1); textFits = r .0; cardsFit = r .1 }
+    let q = orElse-none (documentFault lent cards) _ e in
+    let r = orElse-none (refuse 23 (leb documentCapacity (documentCount words))) _ (q .1) in
+    let s = capacity-left (textUsed words) (cardsUsed words) (length lent) (length cards / cardWords) (r .1) in
+    record { sound = q .0; few = leb-false _ _ (refuse-none 23 _ (r .0)); textFits = s .0; cardsFit = s .1 }

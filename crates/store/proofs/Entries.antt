@@ -9,8 +9,8 @@ use lib.ListN.{length}
 use borrow.Author.Tests.{lt-ltb, le-ltb}
 use Rattle.definition.specs.declared.Answer.{Answer}
 use Rattle.definition.specs.Answers.{answer}
-use Rattle.definition.specs.Refusals.{document, openingRefusal, filingRefusal}
-use Rattle.definition.specs.Store.{accountIn, tooShort, storeRefusal, openedText, openedWords, filedText, filedWords}
+use Rattle.definition.specs.Refusals.{textCapacity, document, openingRefusal, filingRefusal}
+use Rattle.definition.specs.Store.{wordsCapacity, accountIn, tooShort, storeRefusal, openedText, openedWords, filedText, filedWords}
 use Rattle.definition.specs.Outcomes.{StoreOutcome, unchanged, accepted, open-store, add-ast, turned}
 
 abbrev pub left : Answer → List ℕ → List ℕ → StoreOutcome
@@ -19,28 +19,30 @@ left a text words = record { answer = a; text = text; words = words }
 -- ---- Opening.
 
 module _ (text words lent cards : List ℕ) where
-  pub open-short-text : length text < 65536 → left (answer 21 0) text words ≡ open-store text words lent cards
+  pub open-short-text : length text < textCapacity → left (answer 21 0) text words ≡ open-store text words lent cards
   unfolding open-store unchanged tooShort
-  open-short-text h = rw (lt-ltb (length text) 65536 h)
+  open-short-text h = rw (lt-ltb (length text) textCapacity h)
 
-  module _ (t : 65536 ≤ length text) where
-    pub open-short-words : length words < 11761 → left (answer 21 0) text words ≡ open-store text words lent cards
+  module _ (t : textCapacity ≤ length text) where
+    pub open-short-words : length words < wordsCapacity → left (answer 21 0) text words ≡ open-store text words lent cards
     unfolding open-store unchanged tooShort
-    open-short-words h = rw (le-ltb (length text) 65536 t, lt-ltb (length words) 11761 h)
+    open-short-words h = rw (le-ltb (length text) textCapacity t, lt-ltb (length words) wordsCapacity h)
 
-    module _ (w : 11761 ≤ length words) where
+    module _ (w : wordsCapacity ≤ length words) where
       pub open-refused : (a : Answer) → openingRefusal lent cards ≡ some a → left a text words ≡ open-store text words lent cards
       unfolding open-store unchanged tooShort
-      open-refused a e = rw (le-ltb (length text) 65536 t, le-ltb (length words) 11761 w, e)
+      open-refused a e = rw (le-ltb (length text) textCapacity t, le-ltb (length words) wordsCapacity w, e)
 
-      pub open-done : (a : Answer) (text' words' : List ℕ) → a ≡ answer 0 0 → openingRefusal lent cards ≡ none → text' ≡ openedText text (document false lent cards) → words' ≡ openedWords words (document false lent cards) →
+      pub open-done : (a : Answer) (text' words' : List ℕ) → a ≡ answer 0 0 → openingRefusal lent cards ≡ none →
+          text' ≡ openedText text (document false lent cards) → words' ≡ openedWords words (document false lent cards) →
           left a text' words' ≡ open-store text words lent cards
       unfolding open-store accepted tooShort
-      open-done a text' words' z e p q = rw (le-ltb (length text) 65536 t, le-ltb (length words) 11761 w, e, z, p, q)
+      open-done a text' words' z e p q = rw (le-ltb (length text) textCapacity t, le-ltb (length words) wordsCapacity w, e, z, p, q)
 
   -- ---- Filing.
 
-  pub add-unsound : (n : ℕ) → eqb (storeRefusal text words) 0 ≡ false → n ≡ storeRefusal text words → left (answer n 0) text words ≡ add-ast text words lent cards
+  pub add-unsound : (n : ℕ) → eqb (storeRefusal text words) 0 ≡ false → n ≡ storeRefusal text words →
+      left (answer n 0) text words ≡ add-ast text words lent cards
   unfolding add-ast unchanged
   add-unsound n u e = rw (u, e)
 
@@ -49,7 +51,8 @@ module _ (text words lent cards : List ℕ) where
     unfolding add-ast unchanged
     add-refused a e = rw (s, e)
 
-    pub add-done : (a : Answer) (text' words' : List ℕ) → a ≡ answer 0 0 → filingRefusal (accountIn text words) lent cards ≡ none → text' ≡ filedText text words (document false lent cards) → words' ≡ filedWords words (document false lent cards) →
+    pub add-done : (a : Answer) (text' words' : List ℕ) → a ≡ answer 0 0 → filingRefusal (accountIn text words) lent cards ≡ none →
+        text' ≡ filedText text words (document false lent cards) → words' ≡ filedWords words (document false lent cards) →
         left a text' words' ≡ add-ast text words lent cards
     unfolding add-ast accepted
     add-done a text' words' z e p q = rw (s, e, z, p, q)

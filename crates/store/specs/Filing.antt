@@ -5,25 +5,25 @@ use Prim.Native.Nat.{ℕ, _+_, _<_, _≤_, _/_, _%_}
 use lib.ListN.{length}
 use Rattle.definition.specs.Lists.{All}
 use Rattle.definition.specs.Cards.{cardWords, cardsOf}
-use Rattle.definition.specs.Refusals.{textRoom, documentRoom, cardRoom}
-use Rattle.definition.specs.Store.{wordsRoom, documentCount, textUsed, cardsUsed}
+use Rattle.definition.specs.Refusals.{textCapacity, documentCapacity, cardCapacity}
+use Rattle.definition.specs.Store.{wordsCapacity, documentCount, textUsed, cardsUsed}
 use Rattle.store.specs.Moving.{Within}
 
 -- A store of the stated size has room for the lent text and cards, which are whole cards with offsets within the text's room.
-pub record Fits (text words lent cards : List ℕ) : Type 0 where
-  pub textLong : textRoom ≤ length text
-  pub wordsLong : wordsRoom ≤ length words
-  pub few : documentCount words < documentRoom
-  pub textFits : textUsed words + length lent ≤ textRoom
-  pub cardsFit : cardsUsed words + length cards / cardWords ≤ cardRoom
+pub record FilingFits (text words lent cards : List ℕ) : Type 0 where
+  pub textLong : textCapacity ≤ length text
+  pub wordsLong : wordsCapacity ≤ length words
+  pub few : documentCount words < documentCapacity
+  pub textFits : textUsed words + length lent ≤ textCapacity
+  pub cardsFit : cardsUsed words + length cards / cardWords ≤ cardCapacity
   pub whole : length cards % cardWords ≡ 0
-  pub within : All (Within textRoom) (cardsOf cards)
+  pub within : All (Within textCapacity) (cardsOf cards)
 
 -- The same of a store that is to hold the lent document alone.
-pub record Opens (text words lent cards : List ℕ) : Type 0 where
-  pub textLong : textRoom ≤ length text
-  pub wordsLong : wordsRoom ≤ length words
-  pub textFits : length lent ≤ textRoom
-  pub cardsFit : length cards / cardWords ≤ cardRoom
+pub record OpeningFits (text words lent cards : List ℕ) : Type 0 where
+  pub textLong : textCapacity ≤ length text
+  pub wordsLong : wordsCapacity ≤ length words
+  pub textFits : length lent ≤ textCapacity
+  pub cardsFit : length cards / cardWords ≤ cardCapacity
   pub whole : length cards % cardWords ≡ 0
-  pub within : All (Within textRoom) (cardsOf cards)
+  pub within : All (Within textCapacity) (cardsOf cards)

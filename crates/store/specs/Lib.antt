@@ -1,3 +1,3 @@
-pub mod FilingCheckRoom
+pub mod FilingCheckCapacity
 pub mod Moving
 pub mod Filing

@@ -1,12 +1,19 @@
 // Copying a text, and cards with their spans moved, into the unused part of a store.
-use ast::CARD_WORDS;
+use ast::CARD_ITEM_AT;
+use ast::CARD_ITEM_LEN;
+use ast::CARD_KIND;
+use ast::CARD_NAME_AT;
+use ast::CARD_NAME_LEN;
+use definition::layout::CARD_WORDS;
 ghost use mathlib.Core.Path.{_≡_};
 ghost use Prim.Native.Nat.{_+_, _≤_, _<_, _^_, _%_};
-ghost use lib.ListN.{length, getD, set};
+ghost use lib.ListN.{length, getD};
 ghost use Rattle.definition.specs.Lists.{All, written};
 ghost use Rattle.definition.specs.Cards.{cardWords, cardsOf};
+ghost use Rattle.definition.specs.Refusals.{textCapacity};
 ghost use Rattle.definition.specs.Store.{movedWords};
-ghost use Rattle.store.specs.Moving.{Within, movedName};
+ghost use Rattle.ast.specs.Cards.{itemAtWord, nameAtWord};
+ghost use Rattle.store.specs.Moving.{Within, movedName, itemCopied, nameCopied};
 
 // Copies a text to the front of the part that it is lent.
 pub fn copy_text(unused: &mut [u8], text: &[u8])
@@ -36,28 +43,35 @@ fn moved_name(base: u32, at: u32, len: u32) -> u32
 
 // Copies the kind and the item of the card at i, the item moved by base.
 fn copy_item(unused: &mut [u32], cards: &[u32], i: usize, base: u32)
-    requires { ⌜ (i + 5 ≤ length (now cards)) × (i + 5 ≤ length (now unused)) × (getD (now cards) (i + 1) 0 + base < 2 ^ 32) ⌝ }
-    ensures { λ _. ⌜ now (unused .exit) ≡ set (set (set (now (unused .entry)) i (getD (now (cards .entry)) i 0)) (i + 1) (getD (now (cards .entry)) (i + 1) 0 + base)) (i + 2) (getD (now (cards .entry)) (i + 2) 0) ⌝ }
+    requires { ⌜ (i + cardWords ≤ length (now cards))
+        × (i + cardWords ≤ length (now unused))
+        × (getD (now cards) (i + itemAtWord) 0 + base < 2 ^ 32) ⌝ }
+    ensures { λ _. ⌜ now (unused .exit) ≡ itemCopied (now (unused .entry)) (now (cards .entry)) i base ⌝ }
 {
-    unused[i] = cards[i];
-    unused[i + 1] = cards[i + 1] + base;
-    unused[i + 2] = cards[i + 2];
+    unused[i + CARD_KIND] = cards[i + CARD_KIND];
+    unused[i + CARD_ITEM_AT] = cards[i + CARD_ITEM_AT] + base;
+    unused[i + CARD_ITEM_LEN] = cards[i + CARD_ITEM_LEN];
 }
 
 // Copies its name, moved by base.
 fn copy_name(unused: &mut [u32], cards: &[u32], i: usize, base: u32)
-    requires { ⌜ (i + 5 ≤ length (now cards)) × (i + 5 ≤ length (now unused)) × (getD (now cards) (i + 3) 0 + base < 2 ^ 32) ⌝ }
-    ensures { λ _. ⌜ now (unused .exit) ≡ set (set (now (unused .entry)) (i + 3) (movedName base (getD (now (cards .entry)) (i + 3) 0) (getD (now (cards .entry)) (i + 4) 0))) (i + 4) (getD (now (cards .entry)) (i + 4) 0) ⌝ }
+    requires { ⌜ (i + cardWords ≤ length (now cards))
+        × (i + cardWords ≤ length (now unused))
+        × (getD (now cards) (i + nameAtWord) 0 + base < 2 ^ 32) ⌝ }
+    ensures { λ _. ⌜ now (unused .exit) ≡ nameCopied (now (unused .entry)) (now (cards .entry)) i base ⌝ }
 {
-    let at = cards[i + 3];
-    let len = cards[i + 4];
-    unused[i + 3] = moved_name(base, at, len);
-    unused[i + 4] = len;
+    let at = cards[i + CARD_NAME_AT];
+    let len = cards[i + CARD_NAME_LEN];
+    unused[i + CARD_NAME_AT] = moved_name(base, at, len);
+    unused[i + CARD_NAME_LEN] = len;
 }
 
 // Copies cards to the front of the part that it is lent, their spans moved by base.
 fn copy_cards(unused: &mut [u32], cards: &[u32], base: u32)
-    requires { ⌜ (length (now cards) ≤ length (now unused)) × (length (now cards) % cardWords ≡ 0) × (base ≤ 65536) × All (Within 65536) (cardsOf (now cards)) ⌝ }
+    requires { ⌜ (length (now cards) ≤ length (now unused))
+        × (length (now cards) % cardWords ≡ 0)
+        × (base ≤ textCapacity)
+        × All (Within textCapacity) (cardsOf (now cards)) ⌝ }
     ensures { λ _. ⌜ now (unused .exit) ≡ written (now (unused .entry)) 0 (movedWords base (cardsOf (now (cards .entry)))) ⌝ }
 {
     let mut i = 0;
@@ -78,7 +92,10 @@ pub fn append_text(text: &mut [u8], used: usize, lent: &[u8])
 
 // Writes cards into the unused part of the store's words, which begins at used, their spans moved by base.
 pub fn append_cards(words: &mut [u32], used: usize, cards: &[u32], base: u32)
-    requires { ⌜ (used + length (now cards) ≤ length (now words)) × (length (now cards) % cardWords ≡ 0) × (base ≤ 65536) × All (Within 65536) (cardsOf (now cards)) ⌝ }
+    requires { ⌜ (used + length (now cards) ≤ length (now words))
+        × (length (now cards) % cardWords ≡ 0)
+        × (base ≤ textCapacity)
+        × All (Within textCapacity) (cardsOf (now cards)) ⌝ }
     ensures { λ _. ⌜ now (words .exit) ≡ written (now (words .entry)) used (movedWords base (cardsOf (now (cards .entry)))) ⌝ }
 {
     copy_cards(&mut words[used..], cards, base);

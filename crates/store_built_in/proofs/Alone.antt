@@ -1,6 +1,6 @@
 -- A document 0 without barred kinds gives, alone, its first error at the card that `failsFrom` tells.
 use mathlib.Core.Path.{_≡_, refl, sym, ap, _∙_}
-use mathlib.Core.Bool.{Bool, true, false, _&&_, _||_, not}
+use mathlib.Core.Bool.{Bool, true, false, _&&_, _||_, not, and-false, or-true, or-false}
 use mathlib.Core.List.{List, [], _∷_, _++_, append-nil}
 use mathlib.Core.Option.{Option, none, some}
 use Prim.Native.Nat.{ℕ, _+_, _-_, _≤_}
@@ -8,13 +8,18 @@ use native.Mathlib.Omega.{arith}
 use borrow.Author.Tests.{eqb-true, le-leb, leb-true}
 use lib.Dec.{eqb, leb}
 use Rattle.definition.specs.Answers.{answer, absent}
-use Rattle.definition.specs.Lists.{choose, found, keep, any, isEmpty, first, firstWhere, All, flatMap, firsts, repeats}
+use Rattle.definition.specs.Lists.{choose, found, filter, any, isEmpty, first, find, All, flatMap, firsts, repeats}
 use Rattle.definition.specs.Cards.{Card, cardsOf, isPart, isType, isExtension}
-use Rattle.definition.specs.Headings.{Part, Heading, nameOf, partFrom, headingFrom, group, headings, headingsFrom, isKind, isTypeDefinition, isTypeExtension, isNamed, definesType, isOf, definition, extensionsOf, isOrphan, orphans, directives, standing, directiveNamed, schemaDefinition, schemaExtensions, partsOf, alike}
+use Rattle.definition.specs.Headings.{NamedCard, Heading, nameOf, namedCard, headingFrom, group, headings, headingsFrom, isKind}
+use Rattle.definition.specs.Headings.{isTypeDefinition, isTypeExtension, isNamed, definesType, isOf, definition, extensionsOf, isOrphan}
+use Rattle.definition.specs.Headings.{orphans, directives, standing, directiveNamed, schemaDefinition, schemaExtensions, partsOf, alike}
 use Rattle.definition.specs.Catalogue.{defaultRoots}
-use Rattle.definition.specs.Errors.{Error, error, headingError, clash, clashes, directiveErrors, redefinitionErrors, typeErrors, lateExtensionErrors, typeExtensionErrors, errorsAt, reading, noSchemaErrors, drawing}
-use Rattle.definition.specs.Merge.{draw}
+use Rattle.definition.specs.Errors.{Error, error, headingError, collision, collisions, directiveErrors, redefinitionErrors, typeErrors}
+use Rattle.definition.specs.Errors.{lateExtensionErrors, typeExtensionErrors, errorsAt, readingErrors, noSchemaErrors, drawingErrors}
+use Rattle.definition.specs.Merge.{merge}
 use Rattle.definition.specs.Refusals.{isBarred, barredFrom, document, errorAlone, zeroFault}
+use Rattle.definition.proofs.Tests.{and-true}
+use Rattle.definition.proofs.All.{all-append, all-filter, all-every}
 use Rattle.store_built_in.specs.Fails.{typeNamed, alikeCards, headingFails, cardFails}
 use Rattle.store_built_in.proofs.Fails.{fails-heading, fails-other, fails-part}
 use Rattle.store_built_in.specs.Alone.{seenAfter, failsFrom, sixAt}
@@ -35,24 +40,24 @@ module _ {A : Type 0} where
       go true h = refl
       go false h = h
 
-  first-none : (p : A → Bool) (xs : List A) → any p xs ≡ false → firstWhere p xs ≡ none
-  unfolding any firstWhere
+  first-none : (p : A → Bool) (xs : List A) → any p xs ≡ false → find p xs ≡ none
+  unfolding any find
   first-none p [] h = refl
   first-none p (x ∷ xs) h = go (p x) refl (first-none p xs) h
     where
-      go : (b : Bool) → p x ≡ b → (any p xs ≡ false → firstWhere p xs ≡ none) → choose b true (any p xs) ≡ false → choose (p x) (some x) (firstWhere p xs) ≡ none
+      go : (b : Bool) → p x ≡ b → (any p xs ≡ false → find p xs ≡ none) → choose b true (any p xs) ≡ false → choose (p x) (some x) (find p xs) ≡ none
       go true e r k = absurd (let z : _≡_ {A = ℕ} 0 1 = cc in omega arith)
       go false e r k = rw e (r k)
 
   -- What is found passes the test and has what all elements have.
   pub record Met (p : A → Bool) (P : A → Type 0) (xs : List A) : Type 0 where
     pub one : A
-    pub it : firstWhere p xs ≡ some one
+    pub it : find p xs ≡ some one
     pub passes : p one ≡ true
     pub has : P one
 
   first-some : (p : A → Bool) (P : A → Type 0) (xs : List A) → All P xs → any p xs ≡ true → Met p P xs
-  unfolding any firstWhere
+  unfolding any find
   first-some p P [] a h = absurd (let z : _≡_ {A = ℕ} 0 1 = cc in omega arith)
   first-some p P (x ∷ xs) a h = go (p x) refl (first-some p P xs (a .1)) h
     where
@@ -60,30 +65,13 @@ module _ {A : Type 0} where
       go true e r k = record { one = x; it = rw e; passes = e; has = a .0 }
       go false e r k = let m = r k in record { one = m .one; it = rw e (m .it); passes = m .passes; has = m .has }
 
-  keep-none : (p : A → Bool) (P : A → Type 0) → ((x : A) → P x → p x ≡ false) → (xs : List A) → All P xs → keep p xs ≡ []
-  unfolding keep
-  keep-none p P f [] a = refl
-  keep-none p P f (x ∷ xs) a = rw (f x (a .0)) (keep-none p P f xs (a .1))
+  filter-none : (p : A → Bool) (P : A → Type 0) → ((x : A) → P x → p x ≡ false) → (xs : List A) → All P xs → filter p xs ≡ []
+  unfolding filter
+  filter-none p P f [] a = refl
+  filter-none p P f (x ∷ xs) a = rw (f x (a .0)) (filter-none p P f xs (a .1))
 
-  keep-all : (p : A → Bool) (P : A → Type 0) (xs : List A) → All P xs → All P (keep p xs)
-  unfolding keep
-  keep-all p P [] a = tt
-  keep-all p P (x ∷ xs) a = go (p x) (keep-all p P xs (a .1))
-    where
-      go : (b : Bool) → All P (keep p xs) → All P (choose b (x ∷ keep p xs) (keep p xs))
-      go true r = (a .0, r)
-      go false r = r
-
-  all-snoc : (P : A → Type 0) (xs : List A) (y : A) → All P xs → P y → All P (xs ++ (y ∷ []))
-  all-snoc P [] y a h = (h, tt)
-  all-snoc P (x ∷ xs) y a h = (a .0, all-snoc P xs y (a .1) h)
-
-  all-of : (xs : List A) → All (λ (x : A). Unit {0}) xs
-  all-of [] = tt
-  all-of (x ∷ xs) = (tt, all-of xs)
-
-  none-first : (p : A → Bool) (P : A → Type 0) → ((x : A) → P x → p x ≡ false) → (xs : List A) → All P xs → firstWhere p xs ≡ none
-  unfolding firstWhere
+  none-first : (p : A → Bool) (P : A → Type 0) → ((x : A) → P x → p x ≡ false) → (xs : List A) → All P xs → find p xs ≡ none
+  unfolding find
   none-first p P f [] a = refl
   none-first p P f (x ∷ xs) a = rw (f x (a .0)) (none-first p P f xs (a .1))
 
@@ -91,18 +79,6 @@ module _ {A : Type 0} where
 
 contra : {P : Type 0} (b : Bool) → b ≡ true → b ≡ false → P
 contra b e f = absurd (let q : true ≡ false = sym e ∙ f in let z : _≡_ {A = ℕ} 0 1 = cc in omega arith)
-
-or-false : (a : Bool) → (a || false) ≡ a
-or-false true = refl
-or-false false = refl
-
-and-right : (a : Bool) → (a && false) ≡ false
-and-right true = refl
-and-right false = refl
-
-or-true : (a : Bool) → (a || true) ≡ true
-or-true true = refl
-or-true false = refl
 
 extension-barred : (k : ℕ) → 11 ≤ k → k ≤ 17 → isBarred k ≡ true
 unfolding isBarred isExtension
@@ -126,12 +102,7 @@ unbarred-extension k h = go (leb 12 k) refl (leb k 17) refl
 -- The extension of a type's kind is barred.
 type-low : (k : ℕ) → isType k ≡ true → (5 ≤ k) × (k ≤ 10)
 unfolding isType
-type-low k h = go (leb 5 k) refl (leb k 10) refl h
-  where
-    go : (a : Bool) → leb 5 k ≡ a → (b : Bool) → leb k 10 ≡ b → (a && b) ≡ true → (5 ≤ k) × (k ≤ 10)
-    go true ea true eb t = (leb-true 5 k ea, leb-true k 10 eb)
-    go true ea false eb t = absurd (let z : _≡_ {A = ℕ} 0 1 = cc in omega arith)
-    go false ea b eb t = absurd (let z : _≡_ {A = ℕ} 0 1 = cc in omega arith)
+type-low k h = let q = and-true (leb 5 k) (leb k 10) h in (leb-true 5 k (q .0), leb-true k 10 (q .1))
 
 type-extension-barred : (k : ℕ) → isType k ≡ true → isBarred (k + 7) ≡ true
 type-extension-barred k h = let b = type-low k h in extension-barred (k + 7) (omega arith) (omega arith)
@@ -144,11 +115,11 @@ Plain h = (isBarred (h .kind) ≡ false) × (h .builtIn ≡ true)
 no-extensions : (k : ℕ) (n : List ℕ) (hs : List Heading) → All Plain hs → isType k ≡ true → extensionsOf (k + 7) n hs ≡ []
 unfolding extensionsOf isOf isKind
 no-extensions k n hs a t =
-    keep-none (isOf (k + 7) n) Plain (λ x p. simp (unbarred-not (x .kind) (k + 7) (p .0) (type-extension-barred k t))) hs a
+    filter-none (isOf (k + 7) n) Plain (λ x p. simp (unbarred-not (x .kind) (k + 7) (p .0) (type-extension-barred k t))) hs a
 
 no-orphans : (hs : List Heading) → All Plain hs → orphans hs ≡ []
 unfolding orphans isOrphan isTypeExtension
-no-orphans hs a = keep-none (isOrphan hs) Plain (λ x p. simp (unbarred-extension (x .kind) (p .0))) hs a
+no-orphans hs a = filter-none (isOrphan hs) Plain (λ x p. simp (unbarred-extension (x .kind) (p .0))) hs a
 
 no-schema : (hs : List Heading) → All Plain hs → schemaDefinition hs ≡ none
 unfolding schemaDefinition isKind isBarred
@@ -156,14 +127,14 @@ no-schema hs a = none-first (isKind 4) Plain (λ x p. unbarred-not (x .kind) 4 (
 
 no-schema-extensions : (hs : List Heading) → All Plain hs → schemaExtensions hs ≡ []
 unfolding schemaExtensions isKind isBarred isExtension
-no-schema-extensions hs a = keep-none (isKind 11) Plain (λ x p. unbarred-not (x .kind) 11 (p .0) refl) hs a
+no-schema-extensions hs a = filter-none (isKind 11) Plain (λ x p. unbarred-not (x .kind) 11 (p .0) refl) hs a
 
-choose-same : {A : Type 0} (b : Bool) (x : A) → choose b x x ≡ x
+pub choose-same : {A : Type 0} (b : Bool) (x : A) → choose b x x ≡ x
 choose-same true x = refl
 choose-same false x = refl
 
-no-drawing : (hs : List Heading) → All Plain hs → drawing false hs ≡ []
-unfolding drawing noSchemaErrors partsOf flatMap firsts clashes repeats
+no-drawing : (hs : List Heading) → All Plain hs → drawingErrors false hs ≡ []
+unfolding drawingErrors noSchemaErrors partsOf flatMap firsts collisions repeats
 no-drawing hs a = simp (no-orphans hs a, no-schema hs a, no-schema-extensions hs a) (choose-same (isEmpty (defaultRoots false hs)) [])
 
 -- ---- What one heading gives.
@@ -191,10 +162,6 @@ directive-silent : (o : Option Heading) (f : Heading → List Error) → BuiltIn
 directive-silent none f b = refl
 directive-silent (some d) f b = rw b
 
-and-left : (a b : Bool) → (a && b) ≡ true → a ≡ true
-and-left true b h = refl
-and-left false b h = h
-
 -- A heading that gives an error itself, after the headings `before`.
 unfoldable ownFails : List Heading → Heading → Bool
 ownFails before h = leb (h .kind) 2 || (not (eqb (h .kind) 3) && any (definesType (h .name)) before)
@@ -204,8 +171,8 @@ module _ (before : List Heading) (h : Heading) (plain : All Plain before) (unbar
   unfolding directiveErrors directiveNamed directives
   directive-errors =
       directive-silent (directiveNamed (h .name) before) (λ d. headingError 3 (d .number) h)
-      (standing-built none (keep (isNamed (h .name)) (directives before)) tt
-      (keep-all (isNamed (h .name)) Plain (directives before) (keep-all (isKind 3) Plain before plain)))
+      (standing-built none (filter (isNamed (h .name)) (directives before)) tt
+      (all-filter Plain (isNamed (h .name)) (directives before) (all-filter Plain (isKind 3) before plain)))
 
   no-four : eqb (h .kind) 4 ≡ false
   unfolding isBarred
@@ -248,7 +215,7 @@ module _ (before : List Heading) (h : Heading) (plain : All Plain before) (unbar
   unfolding typeErrors definition
   type-again s = let m = first-some (definesType (h .name)) Plain before plain s in rw (m .it) (redefined (m .one) (m .has .1))
 
-  type-new : any (definesType (h .name)) before ≡ false → isType (h .kind) ≡ true → typeErrors before h ≡ clashes (h .kind) [] (h .parts)
+  type-new : any (definesType (h .name)) before ≡ false → isType (h .kind) ≡ true → typeErrors before h ≡ collisions (h .kind) [] (h .parts)
   unfolding typeErrors definition partsOf flatMap
   type-new s t = rw (first-none (definesType (h .name)) before s, no-extensions (h .kind) (h .name) before plain t, append-nil)
 
@@ -256,7 +223,7 @@ module _ (before : List Heading) (h : Heading) (plain : All Plain before) (unbar
   unfolding typeExtensionErrors definition definesType isTypeDefinition
   other-again s =
       let m = first-some (definesType (h .name)) Plain before plain s in
-      rw (m .it) (late (m .one) (and-left (isType (m .one .kind)) (isNamed (h .name) (m .one)) (m .passes)))
+      rw (m .it) (late (m .one) (and-true (isType (m .one .kind)) (isNamed (h .name) (m .one)) (m .passes) .0))
 
   other-new : any (definesType (h .name)) before ≡ false → typeExtensionErrors before h ≡ []
   unfolding typeExtensionErrors definition
@@ -266,7 +233,8 @@ module _ (before : List Heading) (h : Heading) (plain : All Plain before) (unbar
   unfolding ownFails firstCard headingError error
   own-error f = go (leb (h .kind) 2) refl (eqb (h .kind) 3) refl (any (definesType (h .name)) before) refl (isType (h .kind)) refl f
     where
-      go : (a : Bool) → leb (h .kind) 2 ≡ a → (b : Bool) → eqb (h .kind) 3 ≡ b → (s : Bool) → any (definesType (h .name)) before ≡ s → (t : Bool) → isType (h .kind) ≡ t
+      go : (a : Bool) → leb (h .kind) 2 ≡ a → (b : Bool) → eqb (h .kind) 3 ≡ b → (s : Bool) → any (definesType (h .name)) before ≡ s → (t : Bool) →
+          isType (h .kind) ≡ t
           → (a || (not b && s)) ≡ true → firstCard (errorsAt before h) ≡ some (h .number)
       go true ea b eb s es t et q = rw (by-executable ea)
       go false ea true eb s es t et q = absurd (let z : _≡_ {A = ℕ} 0 1 = cc in omega arith)
@@ -274,12 +242,12 @@ module _ (before : List Heading) (h : Heading) (plain : All Plain before) (unbar
       go false ea false eb true es true et q = rw (by-type ea eb et) (type-again es)
       go false ea false eb true es false et q = rw (by-extension ea eb et) (other-again es)
 
-  no-own-type : ownFails before h ≡ false → isType (h .kind) ≡ true → errorsAt before h ≡ clashes (h .kind) [] (h .parts)
+  no-own-type : ownFails before h ≡ false → isType (h .kind) ≡ true → errorsAt before h ≡ collisions (h .kind) [] (h .parts)
   unfolding ownFails
   no-own-type f t = go (leb (h .kind) 2) refl (eqb (h .kind) 3) refl (any (definesType (h .name)) before) refl f
     where
       go : (a : Bool) → leb (h .kind) 2 ≡ a → (b : Bool) → eqb (h .kind) 3 ≡ b → (s : Bool) → any (definesType (h .name)) before ≡ s
-          → (a || (not b && s)) ≡ false → errorsAt before h ≡ clashes (h .kind) [] (h .parts)
+          → (a || (not b && s)) ≡ false → errorsAt before h ≡ collisions (h .kind) [] (h .parts)
       go true ea b eb s es q = absurd (let z : _≡_ {A = ℕ} 0 1 = cc in omega arith)
       go false ea true eb s es q = let l = type-low (h .kind) t in absurd (omega (arith, eqb-true (h .kind) 3 eb))
       go false ea false eb true es q = absurd (let z : _≡_ {A = ℕ} 0 1 = cc in omega arith)
@@ -298,13 +266,13 @@ module _ (before : List Heading) (h : Heading) (plain : All Plain before) (unbar
 
 -- ---- What one part gives.
 
-module _ (k : ℕ) (seen : List Part) (p : Part) (ps : List Part) where
-  part-again : any (alike p) seen ≡ true → firstCard (clashes k seen (p ∷ ps)) ≡ some (p .number)
-  unfolding clashes repeats clash error firstCard
-  part-again e = let m = first-some (alike p) (λ q. Unit {0}) seen (all-of seen) e in rw (m .it)
+module _ (k : ℕ) (seen : List NamedCard) (p : NamedCard) (ps : List NamedCard) where
+  part-again : any (alike p) seen ≡ true → firstCard (collisions k seen (p ∷ ps)) ≡ some (p .number)
+  unfolding collisions repeats collision error firstCard
+  part-again e = let m = first-some (alike p) (λ q. Unit {0}) seen (all-every (λ q. Unit {0}) (λ q. tt) seen) e in rw (m .it)
 
-  part-new : any (alike p) seen ≡ false → clashes k seen (p ∷ ps) ≡ clashes k (seen ++ (p ∷ [])) ps
-  unfolding clashes repeats
+  part-new : any (alike p) seen ≡ false → collisions k seen (p ∷ ps) ≡ collisions k (seen ++ (p ∷ [])) ps
+  unfolding collisions repeats
   part-new e = rw (first-none (alike p) seen e)
 
 -- ---- All cards, one after the other.
@@ -313,11 +281,11 @@ abbrev Unbarred : Card → Type 0
 Unbarred c = isBarred (c .kind) ≡ false
 
 -- The errors of parts that follow under a heading of kind k; none where they stand under no type.
-unfoldable partErrors : ℕ → Option (List Part) → List Part → List Error
-partErrors k o ps = found o (λ seen. clashes k seen ps) []
+unfoldable partErrors : ℕ → Option (List NamedCard) → List NamedCard → List Error
+partErrors k o ps = found o (λ seen. collisions k seen ps) []
 
-no-parts : (k : ℕ) (o : Option (List Part)) → partErrors k o [] ≡ []
-unfolding partErrors clashes repeats
+no-parts : (k : ℕ) (o : Option (List NamedCard)) → partErrors k o [] ≡ []
+unfolding partErrors collisions repeats
 no-parts k none = refl
 no-parts k (some seen) = refl
 
@@ -327,7 +295,7 @@ part-no-type k h = go (leb 20 k) refl (leb k 10) refl h
   where
     go : (a : Bool) → leb 20 k ≡ a → (b : Bool) → leb k 10 ≡ b → (a && leb k 28) ≡ true → (leb 5 k && b) ≡ false
     go true ea true eb t = absurd (omega (arith, leb-true 20 k ea, leb-true k 10 eb))
-    go true ea false eb t = and-right (leb 5 k)
+    go true ea false eb t = and-false (leb 5 k)
     go false ea b eb t = absurd (let z : _≡_ {A = ℕ} 0 1 = cc in omega arith)
 
 module _ (text : List ℕ) where
@@ -335,42 +303,46 @@ module _ (text : List ℕ) where
   abbrev SameTypes : List Heading → List Card → Type 0
   SameTypes hs cs = (n : List ℕ) → any (definesType n) hs ≡ any (typeNamed text n) cs
 
-  abbrev SameParts : Option (List Part) → Option (List Card) → Type 0
+  abbrev SameParts : Option (List NamedCard) → Option (List Card) → Type 0
   SameParts none none = Unit {0}
   SameParts none (some cs) = ⊥
   SameParts (some ps) none = ⊥
-  SameParts (some ps) (some cs) = (c : Card) (n : ℕ) → any (alike (partFrom text n c)) ps ≡ any (alikeCards text c) cs
+  SameParts (some ps) (some cs) = (c : Card) (n : ℕ) → any (alike (namedCard text n c)) ps ≡ any (alikeCards text c) cs
 
   types-part : (hs : List Heading) (cs : List Card) (c : Card) → SameTypes hs cs → isPart (c .kind) ≡ true → SameTypes hs (cs ++ (c ∷ []))
   unfolding typeNamed
   types-part hs cs c s e = λ n. s n ∙ sym (any-snoc (typeNamed text n) cs c ∙ rw (part-no-type (c .kind) e) (or-false (any (typeNamed text n) cs)))
 
-  types-heading : (hs : List Heading) (cs : List Card) (c : Card) (n : ℕ) (ps : List Part) → SameTypes hs cs → SameTypes (hs ++ (headingFrom text true false n c ps ∷ [])) (cs ++ (c ∷ []))
+  types-heading : (hs : List Heading) (cs : List Card) (c : Card) (n : ℕ) (ps : List NamedCard) → SameTypes hs cs →
+      SameTypes (hs ++ (headingFrom text true false n c ps ∷ [])) (cs ++ (c ∷ []))
   unfolding typeNamed definesType isTypeDefinition isNamed headingFrom
   types-heading hs cs c n ps s = λ m. any-snoc (definesType m) hs (headingFrom text true false n c ps) ∙ rw (s m) (sym (any-snoc (typeNamed text m) cs c))
 
-  parts-part : (ps : List Part) (cs : List Card) (c : Card) (n : ℕ) → SameParts (some ps) (some cs) → SameParts (some (ps ++ (partFrom text n c ∷ []))) (some (cs ++ (c ∷ [])))
-  unfolding alikeCards alike partFrom
-  parts-part ps cs c n s = λ d m. any-snoc (alike (partFrom text m d)) ps (partFrom text n c) ∙ rw (s d m) (sym (any-snoc (alikeCards text d) cs c))
+  parts-part : (ps : List NamedCard) (cs : List Card) (c : Card) (n : ℕ) → SameParts (some ps) (some cs) →
+      SameParts (some (ps ++ (namedCard text n c ∷ []))) (some (cs ++ (c ∷ [])))
+  unfolding alikeCards alike namedCard
+  parts-part ps cs c n s = λ d m. any-snoc (alike (namedCard text m d)) ps (namedCard text n c) ∙ rw (s d m) (sym (any-snoc (alikeCards text d) cs c))
 
   parts-none : SameParts (some []) (some [])
   unfolding any
   parts-none = λ d m. refl
 
-  plain-more : (hs : List Heading) (c : Card) (n : ℕ) (ps : List Part) → All Plain hs → Unbarred c → All Plain (hs ++ (headingFrom text true false n c ps ∷ []))
+  plain-more : (hs : List Heading) (c : Card) (n : ℕ) (ps : List NamedCard) → All Plain hs → Unbarred c →
+      All Plain (hs ++ (headingFrom text true false n c ps ∷ []))
   unfolding headingFrom
-  plain-more hs c n ps a u = all-snoc Plain hs (headingFrom text true false n c ps) a (u, refl)
+  plain-more hs c n ps a u = all-append Plain hs (headingFrom text true false n c ps ∷ []) a ((u, refl), tt)
 
-  own-same : (hs : List Heading) (cs : List Card) (c : Card) (n : ℕ) (ps : List Part) → SameTypes hs cs → ownFails hs (headingFrom text true false n c ps) ≡ headingFails text cs c
+  own-same : (hs : List Heading) (cs : List Card) (c : Card) (n : ℕ) (ps : List NamedCard) → SameTypes hs cs →
+      ownFails hs (headingFrom text true false n c ps) ≡ headingFails text cs c
   unfolding ownFails headingFails headingFrom
   own-same hs cs c n ps s = rw (s (nameOf text c))
 
   -- What the cards cs, numbered from n on, give after the headings hs and the parts ps under a heading of kind k.
-  unfoldable Given : ℕ → ℕ → List Heading → Option (List Part) → List Card → Option ℕ
-  Given n k hs ps cs = firstCard (partErrors k ps (group text true false n cs .0) ++ reading hs (group text true false n cs .1))
+  unfoldable Given : ℕ → ℕ → List Heading → Option (List NamedCard) → List Card → Option ℕ
+  Given n k hs ps cs = firstCard (partErrors k ps (group text true false n cs .0) ++ readingErrors hs (group text true false n cs .1))
 
-  given-none : (n k : ℕ) (hs : List Heading) (ps : Option (List Part)) → Given n k hs ps [] ≡ none
-  unfolding Given group reading firstCard
+  given-none : (n k : ℕ) (hs : List Heading) (ps : Option (List NamedCard)) → Given n k hs ps [] ≡ none
+  unfolding Given group readingErrors firstCard
   given-none n k hs ps = rw (no-parts k ps)
 
   module _ (n k : ℕ) (hs : List Heading) (c : Card) (cs : List Card) where
@@ -378,20 +350,21 @@ module _ (text : List ℕ) where
     unfolding Given group partErrors
     given-part-other e = rw e
 
-    given-part-again : (ps : List Part) → isPart (c .kind) ≡ true → any (alike (partFrom text n c)) ps ≡ true → Given n k hs (some ps) (c ∷ cs) ≡ some n
-    unfolding Given group partErrors partFrom
-    given-part-again ps e t = rw e (first-of _ _ n (part-again k ps (partFrom text n c) (group text true false (n + 1) cs .0) t))
+    given-part-again : (ps : List NamedCard) → isPart (c .kind) ≡ true → any (alike (namedCard text n c)) ps ≡ true → Given n k hs (some ps) (c ∷ cs) ≡ some n
+    unfolding Given group partErrors namedCard
+    given-part-again ps e t = rw e (first-of _ _ n (part-again k ps (namedCard text n c) (group text true false (n + 1) cs .0) t))
 
-    given-part-new : (ps : List Part) → isPart (c .kind) ≡ true → any (alike (partFrom text n c)) ps ≡ false → Given n k hs (some ps) (c ∷ cs) ≡ Given (n + 1) k hs (some (ps ++ (partFrom text n c ∷ []))) cs
+    given-part-new : (ps : List NamedCard) → isPart (c .kind) ≡ true → any (alike (namedCard text n c)) ps ≡ false →
+        Given n k hs (some ps) (c ∷ cs) ≡ Given (n + 1) k hs (some (ps ++ (namedCard text n c ∷ []))) cs
     unfolding Given group partErrors
-    given-part-new ps e t = rw (e, part-new k ps (partFrom text n c) (group text true false (n + 1) cs .0) t)
+    given-part-new ps e t = rw (e, part-new k ps (namedCard text n c) (group text true false (n + 1) cs .0) t)
 
     abbrev head : Heading
     head = headingFrom text true false n c (group text true false (n + 1) cs .0)
 
-    module _ (ps : Option (List Part)) (plain : All Plain hs) (unbarred : Unbarred c) (e : isPart (c .kind) ≡ false) where
-      given-heading : Given n k hs ps (c ∷ cs) ≡ firstCard (errorsAt hs head ++ reading (hs ++ (head ∷ [])) (group text true false (n + 1) cs .1))
-      unfolding Given group reading
+    module _ (ps : Option (List NamedCard)) (plain : All Plain hs) (unbarred : Unbarred c) (e : isPart (c .kind) ≡ false) where
+      given-heading : Given n k hs ps (c ∷ cs) ≡ firstCard (errorsAt hs head ++ readingErrors (hs ++ (head ∷ [])) (group text true false (n + 1) cs .1))
+      unfolding Given group readingErrors
       given-heading = rw (e, no-parts k ps)
 
       given-own : ownFails hs head ≡ true → Given n k hs ps (c ∷ cs) ≡ some n
@@ -411,7 +384,8 @@ module _ (text : List ℕ) where
     unfolding failsFrom
     fails-here e = rw e
 
-    fails-later : (next : Option (List Card)) → cardFails text before seen c ≡ false → seenAfter seen c ≡ next → failsFrom text before seen n (c ∷ cs) ≡ failsFrom text (before ++ (c ∷ [])) next (n + 1) cs
+    fails-later : (next : Option (List Card)) → cardFails text before seen c ≡ false → seenAfter seen c ≡ next →
+        failsFrom text before seen n (c ∷ cs) ≡ failsFrom text (before ++ (c ∷ [])) next (n + 1) cs
     unfolding failsFrom
     fails-later next e f = rw (e, f)
 
@@ -433,11 +407,13 @@ module _ (text : List ℕ) where
 
   -- Both tell the same of the cards cs.
   abbrev Agree : ℕ → List Card → Type 0
-  Agree n cs = (k : ℕ) (hs : List Heading) (before : List Card) (ps : Option (List Part)) (seen : Option (List Card))
+  Agree n cs = (k : ℕ) (hs : List Heading) (before : List Card) (ps : Option (List NamedCard)) (seen : Option (List Card))
       → All Plain hs → SameTypes hs before → SameParts ps seen → Given n k hs ps cs ≡ failsFrom text before seen n cs
 
-  module _ (n : ℕ) (c : Card) (cs : List Card) (ih : Agree (n + 1) cs) (k : ℕ) (hs : List Heading) (before : List Card) (plain : All Plain hs) (types : SameTypes hs before) where
-    agree-part : (ps : Option (List Part)) (seen : Option (List Card)) → SameParts ps seen → isPart (c .kind) ≡ true → Given n k hs ps (c ∷ cs) ≡ failsFrom text before seen n (c ∷ cs)
+  module _ (n : ℕ) (c : Card) (cs : List Card) (ih : Agree (n + 1) cs) (k : ℕ) (hs : List Heading) (before : List Card) (plain : All Plain hs)
+      (types : SameTypes hs before) where
+    agree-part : (ps : Option (List NamedCard)) (seen : Option (List Card)) → SameParts ps seen → isPart (c .kind) ≡ true →
+        Given n k hs ps (c ∷ cs) ≡ failsFrom text before seen n (c ∷ cs)
     agree-part none (some q) s e = absurd s
     agree-part (some p) none s e = absurd s
     agree-part none none s e =
@@ -452,10 +428,12 @@ module _ (text : List ℕ) where
             ∙ sym (fails-here before (some q) n c cs (sym (fails-part text before c (some q) q _ e refl refl) ∙ t))
         go false t =
             given-part-new n k hs c cs p e (s c n ∙ t)
-            ∙ ih k hs (before ++ (c ∷ [])) (some (p ++ (partFrom text n c ∷ []))) (some (q ++ (c ∷ []))) plain (types-part hs before c types e) (parts-part p q c n s)
+            ∙ ih k hs (before ++ (c ∷ [])) (some (p ++ (namedCard text n c ∷ []))) (some (q ++ (c ∷ []))) plain (types-part hs before c types e)
+            (parts-part p q c n s)
             ∙ sym (fails-later before (some q) n c cs (some (q ++ (c ∷ []))) (sym (fails-part text before c (some q) q _ e refl refl) ∙ t) (seen-part c q e))
 
-    agree-heading : (ps : Option (List Part)) (seen : Option (List Card)) → Unbarred c → isPart (c .kind) ≡ false → Given n k hs ps (c ∷ cs) ≡ failsFrom text before seen n (c ∷ cs)
+    agree-heading : (ps : Option (List NamedCard)) (seen : Option (List Card)) → Unbarred c → isPart (c .kind) ≡ false →
+        Given n k hs ps (c ∷ cs) ≡ failsFrom text before seen n (c ∷ cs)
     agree-heading ps seen u e = go (headingFails text before c) refl (isType (c .kind)) refl
       where
         own : ownFails hs (head n k hs c cs) ≡ headingFails text before c
@@ -496,14 +474,15 @@ module _ (text : List ℕ) where
   plain-group n [] u = tt
   plain-group n (c ∷ cs) u = go (isPart (c .kind)) (plain-group (n + 1) cs (u .1))
     where
-      r : List Part × List Heading
+      r : List NamedCard × List Heading
       r = group text true false (n + 1) cs
 
-      go : (b : Bool) → All Plain (r .1) → All Plain (choose {A = List Part × List Heading} b (partFrom text n c ∷ r .0, r .1) ([], headingFrom text true false n c (r .0) ∷ r .1) .1)
+      go : (b : Bool) → All Plain (r .1) →
+          All Plain (choose {A = List NamedCard × List Heading} b (namedCard text n c ∷ r .0, r .1) ([], headingFrom text true false n c (r .0) ∷ r .1) .1)
       go true a = a
       go false a = ((u .0, refl), a)
 
-all-given : (text : List ℕ) (cs : List Card) → All Unbarred cs → firstCard (reading [] (group text true false 0 cs .1)) ≡ failsFrom text [] none 0 cs
+all-given : (text : List ℕ) (cs : List Card) → All Unbarred cs → firstCard (readingErrors [] (group text true false 0 cs .1)) ≡ failsFrom text [] none 0 cs
 unfolding Given partErrors any
 all-given text cs u = agree text 0 cs u 0 [] [] none none tt (λ n. refl) tt
 
@@ -512,7 +491,8 @@ unfolding barredFrom
 unbarred-all i [] h = tt
 unbarred-all i (c ∷ cs) h = go (isBarred (c .kind)) refl (unbarred-all (i + 1) cs) h
   where
-    go : (b : Bool) → isBarred (c .kind) ≡ b → (barredFrom (i + 1) cs ≡ none → All Unbarred cs) → choose b (some (answer 6 i)) (barredFrom (i + 1) cs) ≡ none → All Unbarred (c ∷ cs)
+    go : (b : Bool) → isBarred (c .kind) ≡ b → (barredFrom (i + 1) cs ≡ none → All Unbarred cs) →
+        choose b (some (answer 6 i)) (barredFrom (i + 1) cs) ≡ none → All Unbarred (c ∷ cs)
     go true e r k = absurd (let z : _≡_ {A = ℕ} 0 1 = cc in omega arith)
     go false e r k = (e, r k)
 
@@ -521,13 +501,14 @@ unfolding sixAt firstCard
 six-first [] = refl
 six-first (e ∷ es) = refl
 
-alone : (text : List ℕ) (cs : List Card) → All Unbarred cs → errorAlone (record { text = text; cards = cs; ignored = false }) ≡ sixAt (failsFrom text [] none 0 cs)
-unfolding errorAlone draw headings headingsFrom
+alone : (text : List ℕ) (cs : List Card) → All Unbarred cs →
+    errorAlone (record { text = text; cards = cs; ignored = false }) ≡ sixAt (failsFrom text [] none 0 cs)
+unfolding errorAlone merge headings headingsFrom
 alone text cs u =
     let hs : List Heading = group text true false 0 cs .1 in
     let a : All Plain hs = plain-group text 0 cs u in
-    six-first (reading [] (hs ++ []) ++ drawing false (hs ++ []))
-    ∙ ap sixAt (rw (append-nil hs, no-drawing hs a, append-nil (reading [] hs)) (all-given text cs u))
+    six-first (readingErrors [] (hs ++ []) ++ drawingErrors false (hs ++ []))
+    ∙ ap sixAt (rw (append-nil hs, no-drawing hs a, append-nil (readingErrors [] hs)) (all-given text cs u))
 
 -- With o the number of the first barred heading: that heading is the refusal; where there is none, the first error is.
 module _ (text ws : List ℕ) (o : Option ℕ) (barred : sixAt o ≡ barredFrom 0 (cardsOf ws)) where

@@ -1,17 +1,17 @@
 -- One law for each answer of the tests of a card, and the turns of the searches over the cards before it.
-use mathlib.Core.Path.{_≡_}
+use mathlib.Core.Path.{_≡_, ap}
 use mathlib.Core.Bool.{Bool, true, false}
 use mathlib.Core.List.{List}
 use mathlib.Core.Option.{Option, none, some}
-use Prim.Native.Nat.{ℕ, _+_, _-_, _*_, _<_, _≤_}
-use native.Mathlib.Nat.{sub-zero}
+use Prim.Native.Nat.{ℕ, _+_, _*_, _<_, _≤_}
 use borrow.Author.Tests.{eq-eqb, ne-eqb, le-leb, lt-leb}
 use lib.ListN.{drop}
 use Rattle.definition.specs.Lists.{any}
 use Rattle.definition.specs.Names.{sameName}
 use Rattle.definition.specs.Cards.{Card, cardWords, cardFrom, cardsFrom, isPart, isType, isRoot}
-use Rattle.definition.specs.Headings.{nameOf, partFrom, alike}
-use Rattle.ast.proofs.Walk.{chunks-next, chunks-end}
+use Rattle.definition.specs.Headings.{nameOf, namedCard, alike}
+use Rattle.ast.specs.Cards.{cardsBetween}
+use Rattle.ast.proofs.Walk.{between-all, between-next, between-end}
 use Rattle.store_built_in.specs.Fails.{typeNamed, alikeCards, headingFails, cardFails}
 
 -- ---- Two cards.
@@ -26,40 +26,41 @@ module _ (text : List ℕ) (c d : Card) where
   type-same b e f = simp (e, f)
 
   pub alike-kinds : (c .kind ≡ d .kind → ⊥) → alikeCards text c d ≡ false
-  unfolding alikeCards alike partFrom
+  unfolding alikeCards alike namedCard
   alike-kinds n = simp (ne-eqb (c .kind) (d .kind) n)
 
   pub alike-roots : c .kind ≡ d .kind → isRoot (c .kind) ≡ true → alikeCards text c d ≡ true
-  unfolding alikeCards alike partFrom
+  unfolding alikeCards alike namedCard
   alike-roots k e = simp (eq-eqb (c .kind) (d .kind) k, e)
 
   pub alike-directives : c .kind ≡ d .kind → isRoot (c .kind) ≡ false → c .kind ≡ 20 → alikeCards text c d ≡ false
-  unfolding alikeCards alike partFrom
+  unfolding alikeCards alike namedCard
   alike-directives k e f = simp (eq-eqb (c .kind) (d .kind) k, e, eq-eqb (c .kind) 20 f)
 
-  pub alike-names : (b : Bool) → c .kind ≡ d .kind → isRoot (c .kind) ≡ false → (c .kind ≡ 20 → ⊥) → b ≡ sameName (nameOf text c) (nameOf text d) → b ≡ alikeCards text c d
-  unfolding alikeCards alike partFrom
+  pub alike-names : (b : Bool) → c .kind ≡ d .kind → isRoot (c .kind) ≡ false → (c .kind ≡ 20 → ⊥) → b ≡ sameName (nameOf text c) (nameOf text d) →
+      b ≡ alikeCards text c d
+  unfolding alikeCards alike namedCard
   alike-names b k e n f = simp (eq-eqb (c .kind) (d .kind) k, e, ne-eqb (c .kind) 20 n, f)
 
 -- ---- A search over the cards from the number `from` to before the number `to`.
 
 module _ (p : Card → Bool) (ws : List ℕ) (from to : ℕ) where
-  pub any-hit : (b : Bool) (c : Card) → from < to → c ≡ cardFrom (drop (cardWords * from) ws) → b ≡ p c → b ≡ true → any p (cardsFrom (to - from) (drop (cardWords * from) ws)) ≡ true
-  unfolding any cardsFrom
-  any-hit b c h e f t = rw (chunks-next cardWords cardFrom to from ws h, ← e, ← f, t)
+  module _ (b : Bool) (c : Card) (h : from < to) (e : c ≡ cardFrom (drop (cardWords * from) ws)) (f : b ≡ p c) where
+    pub any-hit : b ≡ true → any p (cardsBetween ws from to) ≡ true
+    unfolding any
+    any-hit t = rw (between-next ws from to c h e, ← f, t)
 
-  pub any-next : (b : Bool) (c : Card) → from < to → c ≡ cardFrom (drop (cardWords * from) ws) → b ≡ p c → b ≡ false
-      → any p (cardsFrom (to - from) (drop (cardWords * from) ws)) ≡ any p (cardsFrom (to - (from + 1)) (drop (cardWords * (from + 1)) ws))
-  unfolding any cardsFrom
-  any-next b c h e f t = rw (chunks-next cardWords cardFrom to from ws h, ← e, ← f, t)
+    pub any-next : b ≡ false → any p (cardsBetween ws from to) ≡ any p (cardsBetween ws (from + 1) to)
+    unfolding any
+    any-next t = rw (between-next ws from to c h e, ← f, t)
 
-  pub any-end : to ≤ from → any p (cardsFrom (to - from) (drop (cardWords * from) ws)) ≡ false
-  unfolding any cardsFrom
-  any-end h = rw (chunks-end cardWords cardFrom to from (drop (cardWords * from) ws) h)
+  pub any-end : to ≤ from → any p (cardsBetween ws from to) ≡ false
+  unfolding any
+  any-end h = rw (between-end ws from to h)
 
 -- From the first card on.
-pub any-all : (p : Card → Bool) (ws : List ℕ) (to : ℕ) → any p (cardsFrom to ws) ≡ any p (cardsFrom (to - 0) (drop (cardWords * 0) ws))
-any-all p ws to = simp sub-zero
+pub any-all : (p : Card → Bool) (ws : List ℕ) (to : ℕ) → any p (cardsFrom to ws) ≡ any p (cardsBetween ws 0 to)
+any-all p ws to = ap (any p) (between-all ws to)
 
 -- ---- One card.
 
@@ -84,6 +85,7 @@ module _ (text : List ℕ) (before : List Card) (c : Card) where
   unfolding cardFails
   fails-other seen e f = simp (e, f)
 
-  pub fails-part : (seen : Option (List Card)) (ps : List Card) (b : Bool) → isPart (c .kind) ≡ true → seen ≡ some ps → b ≡ any (alikeCards text c) ps → b ≡ cardFails text before seen c
+  pub fails-part : (seen : Option (List Card)) (ps : List Card) (b : Bool) → isPart (c .kind) ≡ true → seen ≡ some ps →
+      b ≡ any (alikeCards text c) ps → b ≡ cardFails text before seen c
   unfolding cardFails
   fails-part seen ps b e f g = simp (e, f, g)

@@ -1,3 +1,3 @@
 mod Searches
-mod Alone
+pub mod Alone
 pub mod Fails

@@ -4,7 +4,7 @@ use mathlib.Core.Bool.{Bool, true, false}
 use mathlib.Core.List.{List, [], _∷_, _++_}
 use mathlib.Core.Option.{Option, none, some}
 use Prim.Native.Nat.{ℕ, zero, suc, _+_, _-_, _*_, _/_, _<_, _≤_}
-use native.Mathlib.Nat.{sub-zero, mul-suc, mul-zero, add-comm}
+use native.Mathlib.Nat.{sub-zero}
 use native.Mathlib.Numerals.{add-one}
 use native.Mathlib.Omega.{arith}
 use borrow.Author.Tests.{ne-eqb}
@@ -14,7 +14,8 @@ use Rattle.definition.specs.declared.Answer.{Answer}
 use Rattle.definition.specs.Lists.{chunks}
 use Rattle.definition.specs.Cards.{Card, cardWords, cardFrom, cardsFrom, cardsOf, isPart, isType, isExtension}
 use Rattle.definition.specs.Refusals.{isBarred, barredFrom}
-use Rattle.ast.proofs.Walk.{chunks-next, chunks-end}
+use Rattle.ast.specs.Cards.{cardsBetween}
+use Rattle.ast.proofs.Walk.{between-all, between-next, between-end}
 use Rattle.store_built_in.specs.declared.card_errors.Under.{Under}
 use Rattle.store_built_in.specs.declared.card_errors.Under.the-variants.{«Type» as UnderType, Other}
 use Rattle.store_built_in.specs.Fails.{cardFails, seenOf}
@@ -44,23 +45,24 @@ module _ (k : ℕ) where
 module _ (ws : List ℕ) where
   -- The first heading of a barred kind from the card i on.
   unfoldable pub barredAt : ℕ → Option Answer
-  barredAt i = barredFrom i (cardsFrom (length ws / cardWords - i) (drop (cardWords * i) ws))
+  barredAt i = barredFrom i (cardsBetween ws i (length ws / cardWords))
 
   pub barred-all : barredFrom 0 (cardsOf ws) ≡ barredAt 0
   unfolding barredAt cardsOf
-  barred-all = simp sub-zero
+  barred-all = rw (between-all ws (length ws / cardWords))
 
-  pub barred-hit : (i : ℕ) (b : Bool) (c : Card) → i < length ws / cardWords → c ≡ cardFrom (drop (cardWords * i) ws) → b ≡ isBarred (c .kind) → b ≡ true → barredAt i ≡ sixAt (some i)
-  unfolding barredAt barredFrom cardsFrom sixAt
-  barred-hit i b c h e f t = rw (chunks-next cardWords cardFrom (length ws / cardWords) i ws h, ← e, ← f, t)
+  module _ (i : ℕ) (b : Bool) (c : Card) (h : i < length ws / cardWords) (e : c ≡ cardFrom (drop (cardWords * i) ws)) (f : b ≡ isBarred (c .kind)) where
+    pub barred-hit : b ≡ true → barredAt i ≡ sixAt (some i)
+    unfolding barredAt barredFrom sixAt
+    barred-hit t = rw (between-next ws i (length ws / cardWords) c h e, ← f, t)
 
-  pub barred-next : (i : ℕ) (b : Bool) (c : Card) → i < length ws / cardWords → c ≡ cardFrom (drop (cardWords * i) ws) → b ≡ isBarred (c .kind) → b ≡ false → barredAt i ≡ barredAt (i + 1)
-  unfolding barredAt barredFrom cardsFrom
-  barred-next i b c h e f t = rw (chunks-next cardWords cardFrom (length ws / cardWords) i ws h, ← e, ← f, t)
+    pub barred-next : b ≡ false → barredAt i ≡ barredAt (i + 1)
+    unfolding barredAt barredFrom
+    barred-next t = rw (between-next ws i (length ws / cardWords) c h e, ← f, t)
 
   pub barred-end : (i : ℕ) → length ws / cardWords ≤ i → barredAt i ≡ sixAt none
-  unfolding barredAt barredFrom cardsFrom sixAt
-  barred-end i h = rw (chunks-end cardWords cardFrom (length ws / cardWords) i (drop (cardWords * i) ws) h)
+  unfolding barredAt barredFrom sixAt
+  barred-end i h = rw (between-end ws i (length ws / cardWords) h)
 
 -- ---- What a card stands under.
 
@@ -79,14 +81,16 @@ module _ (u : Under) (k next : ℕ) where
 
 -- ---- The first error.
 
-module _ {A B : Type 0} (w : ℕ) (f : List A → B) where
-  chunks-last : (n : ℕ) (xs : List A) → chunks w f (suc n) xs ≡ chunks w f n xs ++ (f (drop (w * n) xs) ∷ [])
-  unfolding chunks
-  chunks-last zero xs = simp mul-zero
-  chunks-last (suc n) xs = ap (λ (l : List B). f xs ∷ l) (chunks-last n (drop w xs) ∙ rw (drop-drop, mul-suc, add-comm w (w * n)))
-
-  chunks-snoc : (n : ℕ) (xs : List A) → chunks w f (n + 1) xs ≡ chunks w f n xs ++ (f (drop (w * n) xs) ∷ [])
-  chunks-snoc n xs = rw add-one (chunks-last n xs)
+-- One card more.
+cards-last : (n : ℕ) (ws : List ℕ) → cardsFrom (n + 1) ws ≡ cardsFrom n ws ++ (cardFrom (drop (cardWords * n) ws) ∷ [])
+unfolding cardsFrom chunks
+cards-last n ws = rw add-one (go n ws)
+  where
+    go : (n : ℕ) (ws : List ℕ) → cardsFrom (suc n) ws ≡ cardsFrom n ws ++ (cardFrom (drop (cardWords * n) ws) ∷ [])
+    go zero ws = refl
+    go (suc n) ws =
+        let k : cardWords + cardWords * n ≡ cardWords * suc n = omega arith in
+        ap (λ (l : List Card). cardFrom ws ∷ l) (go n (drop cardWords ws) ∙ rw (drop-drop, k))
 
 -- A type's first part has at most the number i.
 abbrev pub Within : Under → ℕ → Type 0
@@ -96,37 +100,32 @@ Within Other i = Unit {0}
 module _ (text ws : List ℕ) where
   -- The first error from the card i on.
   unfoldable pub errorsFrom : ℕ → Under → Option ℕ
-  errorsFrom i u = failsFrom text (cardsFrom i ws) (seenOf ws u i) i (cardsFrom (length ws / cardWords - i) (drop (cardWords * i) ws))
+  errorsFrom i u = failsFrom text (cardsFrom i ws) (seenOf ws u i) i (cardsBetween ws i (length ws / cardWords))
 
   pub errors-all : failsFrom text [] none 0 (cardsOf ws) ≡ errorsFrom 0 Other
   unfolding errorsFrom cardsOf cardsFrom chunks
   errors-all = simp sub-zero
 
   pub errors-end : (u : Under) (i : ℕ) → length ws / cardWords ≤ i → errorsFrom i u ≡ none
-  unfolding errorsFrom failsFrom cardsFrom
-  errors-end u i h = rw (chunks-end cardWords cardFrom (length ws / cardWords) i (drop (cardWords * i) ws) h)
+  unfolding errorsFrom failsFrom
+  errors-end u i h = rw (between-end ws i (length ws / cardWords) h)
 
   module _ (c : Card) (i : ℕ) (here : c ≡ cardFrom (drop (cardWords * i) ws)) where
     before-next : cardsFrom (i + 1) ws ≡ cardsFrom i ws ++ (c ∷ [])
-    unfolding cardsFrom
-    before-next = chunks-snoc cardWords cardFrom i ws ∙ rw (← here)
+    before-next = cards-last i ws ∙ rw (← here)
 
-    next-card : i < length ws / cardWords → cardsFrom (length ws / cardWords - i) (drop (cardWords * i) ws) ≡ c ∷ cardsFrom (length ws / cardWords - (i + 1)) (drop (cardWords * (i + 1)) ws)
-    unfolding cardsFrom
-    next-card h = chunks-next cardWords cardFrom (length ws / cardWords) i ws h ∙ rw (← here)
-
-    seen-next : (from : ℕ) → from ≤ i → cardsFrom (i - from) (drop (cardWords * from) ws) ++ (c ∷ []) ≡ cardsFrom (i + 1 - from) (drop (cardWords * from) ws)
-    unfolding cardsFrom
+    seen-next : (from : ℕ) → from ≤ i → cardsBetween ws from i ++ (c ∷ []) ≡ cardsBetween ws from (i + 1)
     seen-next from h =
         let e : i + 1 - from ≡ i - from + 1 = omega arith in
         let g : cardWords * from + cardWords * (i - from) ≡ cardWords * i = omega arith in
-        rw (e, chunks-snoc cardWords cardFrom (i - from) (drop (cardWords * from) ws), drop-drop, g, here)
+        rw (e, cards-last (i - from) (drop (cardWords * from) ws), drop-drop, g, here)
 
     seen-after : (u : Under) → Within u i → seenAfter (seenOf ws u i) c ≡ seenOf ws (underAfter u (c .kind) (i + 1)) (i + 1)
     unfolding seenAfter underAfter cardsFrom chunks
     seen-after u h = go u h (isPart (c .kind)) refl (isType (c .kind)) refl
       where
-        go : (v : Under) → Within v i → (a : Bool) → isPart (c .kind) ≡ a → (b : Bool) → isType (c .kind) ≡ b → seenAfter (seenOf ws v i) c ≡ seenOf ws (underAfter v (c .kind) (i + 1)) (i + 1)
+        go : (v : Under) → Within v i → (a : Bool) → isPart (c .kind) ≡ a → (b : Bool) → isType (c .kind) ≡ b
+            → seenAfter (seenOf ws v i) c ≡ seenOf ws (underAfter v (c .kind) (i + 1)) (i + 1)
         go (UnderType from) k true ea b eb = rw (ea, seen-next from k)
         go Other k true ea b eb = rw ea
         go v k false ea true eb = let z : i + 1 - (i + 1) ≡ 0 = omega arith in rw (ea, eb, z)
@@ -135,11 +134,11 @@ module _ (text ws : List ℕ) where
     module _ (u : Under) (b : Bool) (inside : i < length ws / cardWords) (told : b ≡ cardFails text (cardsFrom i ws) (seenOf ws u i) c) where
       pub errors-hit : b ≡ true → errorsFrom i u ≡ some i
       unfolding errorsFrom failsFrom
-      errors-hit t = rw (next-card inside, ← told, t)
+      errors-hit t = rw (between-next ws i (length ws / cardWords) c inside here, ← told, t)
 
       pub errors-next : Within u i → b ≡ false → errorsFrom i u ≡ errorsFrom (i + 1) (underAfter u (c .kind) (i + 1))
       unfolding errorsFrom failsFrom
-      errors-next h t = rw (next-card inside, ← told, t, ← before-next, seen-after u h)
+      errors-next h t = rw (between-next ws i (length ws / cardWords) c inside here, ← told, t, ← before-next, seen-after u h)
 
 pub within-next : (u : Under) (k i : ℕ) → Within u i → Within (underAfter u k (i + 1)) (i + 1)
 unfolding underAfter

@@ -2,13 +2,11 @@
 use ast::Card;
 use ast::kinds;
 ghost use mathlib.Core.Path.{_≡_};
-ghost use Prim.Native.Nat.{_-_, _*_};
-ghost use lib.ListN.{drop};
 ghost use Rattle.definition.specs.Lists.{any};
 ghost use Rattle.definition.specs.Names.{sameName};
-ghost use Rattle.definition.specs.Cards.{cardWords, cardsFrom};
+ghost use Rattle.definition.specs.Cards.{cardsFrom};
 ghost use Rattle.definition.specs.Headings.{nameOf};
-ghost use Rattle.ast.specs.Cards.{cardOf};
+ghost use Rattle.ast.specs.Cards.{cardOf, cardsBetween};
 ghost use Rattle.store_built_in.specs.Fails.{typeNamed, alikeCards, headingFails, cardFails, seenOf};
 
 // Whether a card stands under a type, and the number of the first part there.
@@ -56,7 +54,8 @@ fn is_alike(text: &[u8], a: Card, b: Card) -> bool
 
 // Whether a card before the number `to` defines a type of the card's name.
 fn type_before(text: &[u8], cards: &[u32], to: usize, card: Card) -> bool
-    ensures { λ r. ⌜ r ≡ any (typeNamed (now (text .entry)) (nameOf (now (text .entry)) (cardOf card))) (cardsFrom to (now (cards .entry))) ⌝ }
+    ensures { λ r. ⌜ r
+        ≡ any (typeNamed (now (text .entry)) (nameOf (now (text .entry)) (cardOf card))) (cardsFrom to (now (cards .entry))) ⌝ }
 {
     let mut i = 0;
     while i < to {
@@ -70,7 +69,7 @@ fn type_before(text: &[u8], cards: &[u32], to: usize, card: Card) -> bool
 
 // Whether the card is like one of the cards from the number `from` to before the number `to`.
 fn part_before(text: &[u8], cards: &[u32], from: usize, to: usize, card: Card) -> bool
-    ensures { λ r. ⌜ r ≡ any (alikeCards (now (text .entry)) (cardOf card)) (cardsFrom (to - from) (drop (cardWords * from) (now (cards .entry)))) ⌝ }
+    ensures { λ r. ⌜ r ≡ any (alikeCards (now (text .entry)) (cardOf card)) (cardsBetween (now (cards .entry)) from to) ⌝ }
 {
     let mut i = from;
     while i < to {
@@ -98,7 +97,8 @@ fn heading_fails(text: &[u8], cards: &[u32], i: usize, card: Card) -> bool
 
 // Whether the card of number i gives an error.
 pub fn card_fails(text: &[u8], cards: &[u32], under: Under, i: usize, card: Card) -> bool
-    ensures { λ r. ⌜ r ≡ cardFails (now (text .entry)) (cardsFrom i (now (cards .entry))) (seenOf (now (cards .entry)) under i) (cardOf card) ⌝ }
+    ensures { λ r. ⌜ r
+        ≡ cardFails (now (text .entry)) (cardsFrom i (now (cards .entry))) (seenOf (now (cards .entry)) under i) (cardOf card) ⌝ }
 {
     if !kinds::is_part(card.kind) {
         return heading_fails(text, cards, i, card);

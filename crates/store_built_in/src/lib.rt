@@ -1,8 +1,10 @@
 // SchemaBuilder::built_in: what the Rust asserts of its own built-in document is here the refusal 6 of a lent document 0, of any length.
+use crate::card_errors::Under;
 use ast::kinds;
 use ast_check::CardCheck;
-use crate::card_errors::Under;
 use definition::Answer;
+use definition::layout::CARD_WORDS;
+use definition::refusal::BUILT_INS_FAULTY;
 ghost use mathlib.Core.Path.{_≡_};
 ghost use mathlib.Core.List.{[]};
 ghost use mathlib.Core.Bool.{false};
@@ -40,7 +42,7 @@ fn is_barred(kind: u32) -> bool
 fn first_barred(cards: &[u32]) -> Search
     ensures { λ r. ⌜ sixAt (foundAt r) ≡ barredFrom 0 (cardsOf (now (cards .entry))) ⌝ }
 {
-    let count = cards.len() / ast::CARD_WORDS;
+    let count = cards.len() / CARD_WORDS;
     let mut i = 0;
     while i < count {
         if is_barred(ast::kind_at(cards, i)) {
@@ -68,7 +70,7 @@ fn under_after(under: Under, kind: u32, next: usize) -> Under
 fn first_error(text: &[u8], cards: &[u32]) -> Search
     ensures { λ r. ⌜ foundAt r ≡ failsFrom (now (text .entry)) [] none 0 (cardsOf (now (cards .entry))) ⌝ }
 {
-    let count = cards.len() / ast::CARD_WORDS;
+    let count = cards.len() / CARD_WORDS;
     let mut under = Under::Other;
     let mut i = 0;
     while i < count {
@@ -90,7 +92,10 @@ fn refusal(search: Search) -> CardCheck
     let Search::Found(i) = search else {
         return CardCheck::Sound;
     };
-    CardCheck::Faulty(Answer { number: 6, card: i })
+    CardCheck::Faulty(Answer {
+        number: BUILT_INS_FAULTY,
+        card: i,
+    })
 }
 
 // The refusal 6 of a document 0: a barred kind, or else the first error that it gives alone.
@@ -100,5 +105,5 @@ pub fn check_built_in(text: &[u8], cards: &[u32]) -> CardCheck
     let Search::Found(i) = first_barred(cards) else {
         return refusal(first_error(text, cards));
     };
-    CardCheck::Faulty(Answer { number: 6, card: i })
+    refusal(Search::Found(i))
 }

@@ -7,7 +7,9 @@ use native.Mathlib.Omega.{arith}
 use lib.Dec.{eqb}
 use lib.ListN.{length}
 use borrow.Author.Tests.{lt-ltb, le-ltb}
-use Rattle.definition.specs.Store.{storedRows, storedCards, accountIn, tooShort, countsSound, rowsSound, cardsSound, zeroSound, sound, storeRefusal}
+use Rattle.definition.specs.Refusals.{textCapacity}
+use Rattle.definition.specs.Store.{wordsCapacity, documentRows, storedCards, accountIn}
+use Rattle.definition.specs.Store.{tooShort, countsSound, rowsSound, cardsSound, zeroSound, sound, storeRefusal}
 use Rattle.store_check.specs.declared.StoreCheck.{StoreCheck}
 use Rattle.store_check.specs.declared.StoreCheck.the-variants.{Sound, Refused}
 use Rattle.store_check.specs.Check.{checkNumber, Checked}
@@ -15,21 +17,25 @@ use Rattle.store_check.proofs.Sound.{sounds, Counts, counts-held, Rows,
 
 module _ (text words : List ℕ) where
   refused : (n : ℕ) → eqb n 0 ≡ false → n ≡ storeRefusal text words → Checked (Refused n) text words
-  refused n u e = record { number = e; refused = λ m q. let w : n ≡ m = cc in rw (← w) u; decoded = λ q. absurd (let z : _≡_ {A = ℕ} 0 1 = cc in omega arith) }
+  refused n u e = record {
+    number = e;
+    refused = λ m q. let w : n ≡ m = cc in rw (← w) u;
+    decoded = λ q. absurd (let z : _≡_ {A = ℕ} 0 1 = cc in omega arith);
+  }
 
-  pub short-text : length text < 65536 → Checked (Refused 21) text words
+  pub short-text : length text < textCapacity → Checked (Refused 21) text words
   unfolding storeRefusal tooShort
-  short-text h = refused 21 refl (rw (lt-ltb (length text) 65536 h))
+  short-text h = refused 21 refl (rw (lt-ltb (length text) textCapacity h))
 
-  module _ (t : 65536 ≤ length text) where
-    pub short-words : length words < 11761 → Checked (Refused 21) text words
+  module _ (t : textCapacity ≤ length text) where
+    pub short-words : length words < wordsCapacity → Checked (Refused 21) text words
     unfolding storeRefusal tooShort
-    short-words h = refused 21 refl (rw (le-ltb (length text) 65536 t, lt-ltb (length words) 11761 h))
+    short-words h = refused 21 refl (rw (le-ltb (length text) textCapacity t, lt-ltb (length words) wordsCapacity h))
 
-    module _ (w : 11761 ≤ length words) where
+    module _ (w : wordsCapacity ≤ length words) where
       long-enough : tooShort text words ≡ false
       unfolding tooShort
-      long-enough = rw (le-ltb (length text) 65536 t, le-ltb (length words) 11761 w)
+      long-enough = rw (le-ltb (length text) textCapacity t, le-ltb (length words) wordsCapacity w)
 
       unsound : sound text words ≡ false → Checked (Refused 22) text words
       unfolding storeRefusal
@@ -40,16 +46,16 @@ module _ (text words : List ℕ) where
       counts-unsound e = unsound (rw e)
 
       module _ (c : countsSound words ≡ true) where
-        pub rows-unsound : rowsSound words (storedRows words) ≡ false → Checked (Refused 22) text words
+        pub rows-unsound : rowsSound words (documentRows words) ≡ false → Checked (Refused 22) text words
         unfolding sound
         rows-unsound e = unsound (rw (c, e))
 
-        module _ (r : rowsSound words (storedRows words) ≡ true) where
-          pub cards-unsound : cardsSound text (storedRows words) (storedCards words) ≡ false → Checked (Refused 22) text words
+        module _ (r : rowsSound words (documentRows words) ≡ true) where
+          pub cards-unsound : cardsSound text (documentRows words) (storedCards words) ≡ false → Checked (Refused 22) text words
           unfolding sound
           cards-unsound e = unsound (rw (c, r, e))
 
-          module _ (k : cardsSound text (storedRows words) (storedCards words) ≡ true) where
+          module _ (k : cardsSound text (documentRows words) (storedCards words) ≡ true) where
             pub zero-unsound : zeroSound (accountIn text words .documents) ≡ false → Checked (Refused 22) text words
             unfolding sound
             zero-unsound e = unsound (rw (c, r, k, e))
@@ -60,15 +66,19 @@ module _ (text words : List ℕ) where
 
             pub found-sound : zeroSound (accountIn text words .documents) ≡ true → Checked Sound text words
             unfolding storeRefusal
-            found-sound e = record { number = rw (long-enough, all-sound e); refused = λ m q. absurd (let z : _≡_ {A = ℕ} 0 1 = cc in omega arith); decoded = λ q. decoded text words (all-sound e) }
+            found-sound e = record {
+              number = rw (long-enough, all-sound e);
+              refused = λ m q. absurd (let z : _≡_ {A = ℕ} 0 1 = cc in omega arith);
+              decoded = λ q. decoded text words (all-sound e);
+            }
 
 -- ---- What a caller learns.
 
 -- A store that is not refused.
 pub record SoundStore (text words : List ℕ) : Type 0 where
   pub unrefused : storeRefusal text words ≡ 0
-  pub textLong : 65536 ≤ length text
-  pub wordsLong : 11761 ≤ length words
+  pub textLong : textCapacity ≤ length text
+  pub wordsLong : wordsCapacity ≤ length words
   pub sound : sound text words ≡ true
   pub counts : Counts words
   pub rows : Rows words
@@ -80,7 +90,14 @@ module _ (text words : List ℕ) (r : StoreCheck) (k : Checked r text words) whe
       let a = accepted text words z in
       let l = long text words (a .0) in
       let s = sounds text words (a .1) in
-      record { unrefused = z; textLong = l .0; wordsLong = l .1; sound = a .1; counts = counts-held words (s .counts); rows = rows-held words (s .rows) }
+      record {
+        unrefused = z;
+        textLong = l .0;
+        wordsLong = l .1;
+        sound = a .1;
+        counts = counts-held words (s .counts);
+        rows = rows-held words (s .rows);
+      }
 
   pub refused-number : (n : ℕ) → r ≡ Refused n → n ≡ storeRefusal text words
   refused-number n e = sym (ap checkNumber e) ∙ k .number

@@ -1,72 +1,84 @@
 // Whether the counts of a store and its documents' rows are sound: the part of 22 that asks neither text nor cards.
+use definition::layout::ADOPT_SWITCH;
+use definition::layout::CARD_CAPACITY;
+use definition::layout::CARDS_USED;
+use definition::layout::DOCUMENT_CAPACITY;
+use definition::layout::DOCUMENT_CARD_COUNT;
+use definition::layout::DOCUMENT_COUNT;
+use definition::layout::DOCUMENT_IGNORED;
+use definition::layout::DOCUMENT_TEXT_AT;
+use definition::layout::DOCUMENT_TEXT_LEN;
+use definition::layout::DOCUMENT_WORDS;
+use definition::layout::DOCUMENTS_AT;
+use definition::layout::IGNORE_SWITCH;
+use definition::layout::TEXT_CAPACITY;
+use definition::layout::TEXT_USED;
 ghost use mathlib.Core.Path.{_≡_};
 ghost use mathlib.Core.Bool.{_&&_};
 ghost use Prim.Native.Nat.{_+_, _≤_};
 ghost use lib.Dec.{eqb, leb};
 ghost use lib.ListN.{length, getD};
-ghost use Rattle.definition.specs.Store.{documentCount, textUsed, cardsUsed, ignoreWord, storedRows, countsSound, rowsSound};
+ghost use Rattle.definition.specs.Refusals.{documentCapacity};
+ghost use Rattle.definition.specs.Store.{documentsAt, documentWords, cardsAt, documentCount, documentRows, countsSound, rowsSound};
+ghost use Rattle.store_check.specs.Check.{rowFollows, sumsSound};
 
-// Where the rows begin.
-pub const ROWS_AT: usize = 5;
-
-// How many words a row has: text offset, text length, card count, ignore switch when filed.
-pub const ROW_WORDS: usize = 4;
-
-// 1 to 64 documents, each switch 0 or 1, no more text and cards than there is room for.
+// 1 to DOCUMENT_CAPACITY documents, each switch 0 or 1, no more text and cards than there is room for.
 pub fn counts_sound(words: &[u32]) -> bool
-    requires { ⌜ 5 ≤ length (now words) ⌝ }
+    requires { ⌜ documentsAt ≤ length (now words) ⌝ }
     ensures { λ r. ⌜ r ≡ countsSound (now (words .entry)) ⌝ }
 {
-    if words[0] < 1 {
+    if words[DOCUMENT_COUNT] < 1 {
         return false;
     }
-    if words[0] > 64 {
+    if words[DOCUMENT_COUNT] as usize > DOCUMENT_CAPACITY {
         return false;
     }
-    if words[1] > 1 {
+    if words[ADOPT_SWITCH] > 1 {
         return false;
     }
-    if words[2] > 1 {
+    if words[IGNORE_SWITCH] > 1 {
         return false;
     }
-    if words[3] > 65536 {
+    if words[TEXT_USED] as usize > TEXT_CAPACITY {
         return false;
     }
-    words[4] <= 2300
+    words[CARDS_USED] as usize <= CARD_CAPACITY
 }
 
 // Whether the row at i begins where the text of the rows before it ends, and its ignore switch has not fallen.
 fn row_follows(words: &[u32], i: usize, at: usize, ignored: u32) -> bool
-    requires { ⌜ i + 4 ≤ length (now words) ⌝ }
-    ensures { λ r. ⌜ r ≡ (eqb (getD (now (words .entry)) i 0) at && leb ignored (getD (now (words .entry)) (i + 3) 0)) ⌝ }
+    requires { ⌜ i + documentWords ≤ length (now words) ⌝ }
+    ensures { λ r. ⌜ r ≡ rowFollows (now (words .entry)) i at ignored ⌝ }
 {
-    if words[i] as usize != at {
+    if words[i + DOCUMENT_TEXT_AT] as usize != at {
         return false;
     }
-    ignored <= words[i + 3]
+    ignored <= words[i + DOCUMENT_IGNORED]
 }
 
 // Whether the rows come to the store's counts, and its ignore switch has not fallen.
 fn sums_sound(words: &[u32], at: usize, cards: usize, ignored: u32) -> bool
-    requires { ⌜ 5 ≤ length (now words) ⌝ }
-    ensures { λ r. ⌜ r ≡ (eqb at (textUsed (now (words .entry))) && eqb cards (cardsUsed (now (words .entry))) && leb ignored (ignoreWord (now (words .entry)))) ⌝ }
+    requires { ⌜ documentsAt ≤ length (now words) ⌝ }
+    ensures { λ r. ⌜ r ≡ sumsSound (now (words .entry)) at cards ignored ⌝ }
 {
-    if at != words[3] as usize {
+    if at != words[TEXT_USED] as usize {
         return false;
     }
-    if cards != words[4] as usize {
+    if cards != words[CARDS_USED] as usize {
         return false;
     }
-    ignored <= words[2]
+    ignored <= words[IGNORE_SWITCH]
 }
 
 // One pass over the documents' rows: they touch, their counts come to those of the store, and their ignore switches never fall.
 pub fn rows_sound(words: &[u32]) -> bool
-    requires { ⌜ (261 ≤ length (now words)) × (1 ≤ documentCount (now words)) × (documentCount (now words) ≤ 64) ⌝ }
-    ensures { λ r. ⌜ r ≡ rowsSound (now (words .entry)) (storedRows (now (words .entry))) ⌝ }
+    requires { ⌜ (cardsAt ≤ length (now words))
+        × (1 ≤ documentCount (now words))
+        × (documentCount (now words) ≤ documentCapacity) ⌝ }
+    ensures { λ r. ⌜ r ≡ rowsSound (now (words .entry)) (documentRows (now (words .entry))) ⌝ }
 {
-    let documents = words[0] as usize;
-    if words[8] != 0 {
+    let documents = words[DOCUMENT_COUNT] as usize;
+    if words[DOCUMENTS_AT + DOCUMENT_IGNORED] != 0 {
         return false;
     }
     let mut at: usize = 0;
@@ -74,13 +86,13 @@ pub fn rows_sound(words: &[u32]) -> bool
     let mut ignored: u32 = 0;
     let mut row: usize = 0;
     while row < documents {
-        let i = ROWS_AT + ROW_WORDS * row;
+        let i = DOCUMENTS_AT + DOCUMENT_WORDS * row;
         if !row_follows(words, i, at, ignored) {
             return false;
         }
-        at += words[i + 1] as usize;
-        cards += words[i + 2] as usize;
-        ignored = words[i + 3];
+        at += words[i + DOCUMENT_TEXT_LEN] as usize;
+        cards += words[i + DOCUMENT_CARD_COUNT] as usize;
+        ignored = words[i + DOCUMENT_IGNORED];
         row += 1;
     }
     sums_sound(words, at, cards, ignored)

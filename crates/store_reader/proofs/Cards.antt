@@ -5,20 +5,19 @@ use Prim.Native.Nat.{ℕ, _+_, _*_, _≤_, _<_}
 use native.Mathlib.Omega.{arith}
 use lib.ListN.{getD}
 use borrow.Author.Tests.{lt-ltb, le-ltb}
-use Rattle.definition.specs.Store.{cardsUsed}
+use Rattle.definition.specs.Cards.{cardWords}
+use Rattle.definition.specs.Store.{cardsAt, cardsUsed}
 use Rattle.store_reader.specs.Cards.{cardWord, nextCard}
 
--- As a word.
-module _ (words : List ℕ) (n k used : ℕ) (e : used ≡ getD words 4 0) where
-  pub word-here : n < used → cardWord words n k ≡ getD words (261 + 5 * n + k) 0
-  unfolding cardWord cardsUsed
-  word-here h = rw (lt-ltb n (getD words 4 0) (omega arith))
-
-  pub word-none : used ≤ n → cardWord words n k ≡ 0
-  unfolding cardWord cardsUsed
-  word-none h = rw (le-ltb n (getD words 4 0) (omega arith))
-
 module _ (words : List ℕ) (n used : ℕ) (e : used ≡ cardsUsed words) where
+  pub word-here : (k : ℕ) → n < used → cardWord words n k ≡ getD words (cardsAt + cardWords * n + k) 0
+  unfolding cardWord
+  word-here k h = rw (lt-ltb n (cardsUsed words) (omega arith))
+
+  pub word-none : (k : ℕ) → used ≤ n → cardWord words n k ≡ 0
+  unfolding cardWord
+  word-none k h = rw (le-ltb n (cardsUsed words) (omega arith))
+
   pub after-end : used ≤ n → used ≡ nextCard words n
   unfolding nextCard
   after-end h = rw (le-ltb n (cardsUsed words) (omega arith)) e

@@ -10,7 +10,8 @@ use lib.ListN.{length}
 use borrow.Author.Tests.{ltb-true, ltb-false, not-false}
 use Rattle.definition.specs.Lists.{found, All}
 use Rattle.definition.specs.Names.{isName, bytesAt}
-use Rattle.definition.specs.Cards.{Card, Place, isHeading, isPart, isUnnamed, extended, partOrder, placeIn, unknownKind, nameAmiss, nameNoName, misplacedUnder, misplaced, faultFrom}
+use Rattle.definition.specs.Cards.{Card, Place, isHeading, isPart, isUnnamed, definitionOf, partOrder, placeIn, unknownKind, nameAmiss}
+use Rattle.definition.specs.Cards.{nameNoName, misplacedUnder, misplaced, faultFrom}
 use Rattle.definition.proofs.CleanCards.{Clean, placed, item-within, name-within-item, clean-part, clean-heading}
 use Rattle.store_reader.proofs.Lists.{or-false, and-left-false}
 
@@ -72,12 +73,12 @@ fine-stands bytes base size i h s (c ∷ cs) e =
 
 pub part-placed : (bytes : List ℕ) (base size : ℕ) (h : Card) (s : Option Card) (c : Card) → isPart (c .kind) ≡ true →
     Clean (placed bytes base size (some h) s) c →
-    (placeIn (partOrder (extended (h .kind))) (c .kind) < length (partOrder (extended (h .kind)))) ×
-    (found s (λ t. placeIn (partOrder (extended (h .kind))) (t .kind)) 0 ≤ placeIn (partOrder (extended (h .kind))) (c .kind))
+    (placeIn (partOrder (definitionOf (h .kind))) (c .kind) < length (partOrder (definitionOf (h .kind)))) ×
+    (found s (λ t. placeIn (partOrder (definitionOf (h .kind))) (t .kind)) 0 ≤ placeIn (partOrder (definitionOf (h .kind))) (c .kind))
 part-placed bytes base size h s c p k = go s (inside s (k .inPlace))
   where
     order : List (List ℕ)
-    order = partOrder (extended (h .kind))
+    order = partOrder (definitionOf (h .kind))
 
     inside : (s : Option Card) → misplaced (placed bytes base size (some h) s) c ≡ false →
         (not (ltb (placeIn order (c .kind)) (length order)) || found s (λ t. ltb (placeIn order (c .kind)) (placeIn order (t .kind))) false) ≡ false

@@ -12,98 +12,93 @@ use lib.Seq.{getD-drop}
 use borrow.Author.Tests.{ltb-true, ltb-false}
 use Rattle.definition.specs.Lists.{chunks, All}
 use Rattle.definition.specs.Names.{isName, bytesAt}
-use Rattle.definition.specs.Cards.{Card, cardFrom, isHeading, isPart, isUnnamed}
+use Rattle.definition.specs.Cards.{Card, cardWords, cardFrom, isHeading, isPart, isUnnamed}
 use Rattle.definition.specs.Headings.{headingsFrom, headings}
-use Rattle.definition.specs.Refusals.{textRoom, cardRoom}
-use Rattle.definition.specs.Store.{StoredRow, rowFrom, documentCount, textUsed, cardsUsed, storedRows, storedCards, documentsFrom, accountIn, wordsRoom, tooShort, sound}
+use Rattle.definition.specs.Refusals.{textCapacity, documentCapacity, cardCapacity}
+use Rattle.definition.specs.Store.{documentsAt, documentWords, cardsAt, wordsCapacity, documentCount, textUsed, cardsUsed}
+use Rattle.definition.specs.Store.{DocumentRow, documentRowFrom, documentRows, storedCards, documentsFrom, accountIn, tooShort, sound}
 use Rattle.definition.specs.LentRows.{held, nameNumbered}
 use Rattle.definition.specs.Lookups.{Span, span, spanIn}
 use Rattle.definition.specs.Outcomes.{partOf}
 use Rattle.definition.proofs.CleanCards.{unnamed-parts}
-use Rattle.store_reader.specs.Stored.{storedParts, cardKind, nameStart, nameSize, cardName, mayLackName, builtInCount, builtInAt, ignoredIn, ignoredAt, heads, storedHeadings, partsFrom}
-use Rattle.store_reader.proofs.Lists.{or-false, all-get, bytes-none}
-use Rattle.store_reader.proofs.Laid.{asked, Laid, laid, length-stored-cards}
+use Rattle.store_reader.specs.Stored.{storedParts, cardKind, nameStart, nameSize, cardName, mayLackName, builtInCount, builtInAt}
+use Rattle.store_reader.specs.Stored.{ignoredIn, ignoredAt, headingsOf, storedHeadings, partsFrom}
+use Rattle.store_reader.proofs.Lists.{all-get, bytes-none}
+use Rattle.store_reader.proofs.Sound.{long, sounds, counts-held}
+use Rattle.store_reader.proofs.Laid.{Laid, laid, length-stored-cards}
 use Rattle.store_reader.proofs.DocumentsLaws.{held-rows, headings-rows, ordered-rows, Ordered}
 use Rattle.store_reader.proofs.Spans.{Sound, sound-cards, Standing, span-stands, span-none}
 use Rattle.store_reader.proofs.Words.{stored-card, card-kind, card-name-at, card-name-len, name-past, name-stored, parts-next}
-use Rattle.store_reader.proofs.Group.{heads-parts}
+use Rattle.store_reader.proofs.Group.{headings-parts}
 
 -- ---- Room.
 
 module _ (text words : List ℕ) (ok : sound text words ≡ true) where
-  pub cards-fit : cardsUsed words ≤ cardRoom
-  cards-fit = asked text words ok .cardsFit
+  pub cards-fit : cardsUsed words ≤ cardCapacity
+  cards-fit = counts-held words (sounds text words ok .counts) .cards
 
-  pub text-fits : textUsed words ≤ textRoom
-  text-fits = asked text words ok .textFits
+  pub text-fits : textUsed words ≤ textCapacity
+  text-fits = counts-held words (sounds text words ok .counts) .text
 
-  pub documents-fit : (1 ≤ documentCount words) × (documentCount words ≤ 64)
-  documents-fit = let a = asked text words ok in (a .some-held, a .documentsFit)
-
-pub text-long : (text words : List ℕ) → tooShort text words ≡ false → textRoom ≤ length text
-unfolding tooShort
-text-long text words e = ltb-false _ _ (or-false (ltb (length text) textRoom) (ltb (length words) wordsRoom) e .0)
-
-pub words-long : (text words : List ℕ) → tooShort text words ≡ false → wordsRoom ≤ length words
-unfolding tooShort
-words-long text words e = ltb-false _ _ (or-false (ltb (length text) textRoom) (ltb (length words) wordsRoom) e .1)
+  pub documents-fit : (1 ≤ documentCount words) × (documentCount words ≤ documentCapacity)
+  documents-fit = let c = counts-held words (sounds text words ok .counts) in (c .some, c .few)
 
 -- ---- The cards held and the headings.
 
 pub held-stored : (text words : List ℕ) → sound text words ≡ true → held (accountIn text words .documents) ≡ storedParts text words
 unfolding held accountIn storedParts
-held-stored text words ok = held-rows text (textUsed words) 0 0 (storedRows words) (storedCards words) (laid text words ok)
+held-stored text words ok = held-rows text (textUsed words) 0 0 (documentRows words) (storedCards words) (laid text words ok)
 
 -- The first row is document 0's.
 pub record FirstRow (words : List ℕ) : Type 0 where
-  pub row : StoredRow
-  pub later : List StoredRow
-  pub rows : storedRows words ≡ row ∷ later
+  pub row : DocumentRow
+  pub later : List DocumentRow
+  pub rows : documentRows words ≡ row ∷ later
   pub count : row .cardCount ≡ builtInCount words
 
 first-row : (words : List ℕ) → 1 ≤ documentCount words → FirstRow words
-unfolding storedRows chunks rowFrom builtInCount
+unfolding documentRows chunks documentRowFrom builtInCount
 first-row words h = go (documentCount words) refl h
   where
     go : (n : ℕ) → documentCount words ≡ n → 1 ≤ n → FirstRow words
     go zero e h = absurd (omega arith)
     go (suc n) e h = record {
-      row = rowFrom (drop 5 words);
-      later = chunks 4 rowFrom n (drop 4 (drop 5 words));
-      rows = ap (λ (m : ℕ). chunks 4 rowFrom m (drop 5 words)) e;
-      count = getD-drop 5 words 2 0;
+      row = documentRowFrom (drop documentsAt words);
+      later = chunks documentWords documentRowFrom n (drop documentWords (drop documentsAt words));
+      rows = ap (λ (m : ℕ). chunks documentWords documentRowFrom m (drop documentsAt words)) e;
+      count = getD-drop documentsAt words 2 0;
     }
 
 pub headings-stored : (text words : List ℕ) → sound text words ≡ true → headings (accountIn text words .documents) ≡ storedHeadings text words
 unfolding headings accountIn storedHeadings storedParts
 headings-stored text words ok =
-    let f = first-row words (asked text words ok .some-held) in
+    let f = first-row words (counts-held words (sounds text words ok .counts) .some) in
     let cs = storedCards words in
     let l : Laid text (textUsed words) 0 (f .row ∷ f .later) cs = rw (f .rows) at (laid text words ok) in
     let new : (m : ℕ) → builtInAt words m ≡ ltb m (0 + f .row .cardCount) =
     λ m. (unfold builtInAt in ap (ltb m) (let e = f .count in omega arith)) in
     let ign : (m : ℕ) → ignoredAt words (0 + m) ≡ ignoredIn (f .row ∷ f .later) m =
-    λ m. (unfold ignoredAt in (ap (ignoredIn (storedRows words)) (omega arith) ∙ ap (λ (rs : List StoredRow). ignoredIn rs m) (f .rows))) in
-    ap (λ (rs : List StoredRow). headingsFrom true 0 (documentsFrom text rs cs)) (f .rows)
+    λ m. (unfold ignoredAt in (ap (ignoredIn (documentRows words)) (omega arith) ∙ ap (λ (rs : List DocumentRow). ignoredIn rs m) (f .rows))) in
+    ap (λ (rs : List DocumentRow). headingsFrom true 0 (documentsFrom text rs cs)) (f .rows)
     ∙ sym (headings-rows (builtInAt words) (ignoredAt words) text (textUsed words) 0 0 (f .row) (f .later) cs l new ign)
 
 -- A heading's kind is 1 to 17; its parts are parts of kinds that its own kind allows, in order.
 pub headings-ordered : (text words : List ℕ) → sound text words ≡ true → All Ordered (storedHeadings text words)
 unfolding storedHeadings storedParts
 headings-ordered text words ok =
-    ordered-rows (builtInAt words) (ignoredAt words) text (textUsed words) 0 0 (storedRows words) (storedCards words) (laid text words ok) .1
+    ordered-rows (builtInAt words) (ignoredAt words) text (textUsed words) 0 0 (documentRows words) (storedCards words) (laid text words ok) .1
 
 -- The first stored card is a heading.
-none-before : (text words : List ℕ) → sound text words ≡ true → heads (builtInAt words) (ignoredAt words) (storedParts text words) .0 ≡ []
+none-before : (text words : List ℕ) → sound text words ≡ true → headingsOf (builtInAt words) (ignoredAt words) (storedParts text words) .0 ≡ []
 unfolding storedParts
 none-before text words ok =
-    ordered-rows (builtInAt words) (ignoredAt words) text (textUsed words) 0 0 (storedRows words) (storedCards words) (laid text words ok) .0
+    ordered-rows (builtInAt words) (ignoredAt words) text (textUsed words) 0 0 (documentRows words) (storedCards words) (laid text words ok) .0
 
 pub heading-first : (text words : List ℕ) → sound text words ≡ true → 0 < cardsUsed words → isPart (cardKind words 0) ≡ false
 heading-first text words ok h = go (isPart (cardKind words 0)) refl
   where
     e : partsFrom (storedParts text words) 0 ≡ []
-    e = sym (heads-parts (builtInAt words) (ignoredAt words) (storedParts text words)) ∙ none-before text words ok
+    e = sym (headings-parts (builtInAt words) (ignoredAt words) (storedParts text words)) ∙ none-before text words ok
 
     go : (b : Bool) → isPart (cardKind words 0) ≡ b → b ≡ false
     go false p = refl
@@ -113,13 +108,14 @@ heading-first text words ok h = go (isPart (cardKind words 0)) refl
 
 module _ (text words : List ℕ) (ok : sound text words ≡ true) (n : ℕ) (h : n < cardsUsed words) where
   card : Card
-  card = cardFrom (drop (261 + 5 * n) words)
+  card = cardFrom (drop (cardsAt + cardWords * n) words)
 
   card-sound : Sound text (textUsed words) card
   unfolding card
   card-sound =
       all-get (Sound text (textUsed words)) (storedCards words)
-      (sound-cards text (textUsed words) 0 (storedRows words) (storedCards words) (laid text words ok)) n (cardFrom (drop (261 + 5 * n) words)) (stored-card words n h)
+      (sound-cards text (textUsed words) 0 (documentRows words) (storedCards words) (laid text words ok)) n
+      (cardFrom (drop (cardsAt + cardWords * n) words)) (stored-card words n h)
 
   pub kind-known : (isHeading (cardKind words n) || isPart (cardKind words n)) ≡ true
   unfolding card
@@ -143,12 +139,13 @@ module _ (text words : List ℕ) (ok : sound text words ≡ true) (n : ℕ) (h :
 
   -- ---- Where its name stands in the store's text.
 
-  module _ (long : tooShort text words ≡ false) where
+  module _ (big : tooShort text words ≡ false) where
     standing : Standing (spanIn 0 (accountIn text words .documents) n) card
     unfolding card accountIn
     standing =
-        span-stands text (textUsed words) (let a = text-fits text words ok in let b = text-long text words long in omega arith) 0 (storedRows words) (storedCards words) n
-        (cardFrom (drop (261 + 5 * n) words)) (laid text words ok) (stored-card words n h)
+        span-stands text (textUsed words) (let a = text-fits text words ok in let b = long text words big .0 in omega arith) 0 (documentRows words)
+        (storedCards words) n
+        (cardFrom (drop (cardsAt + cardWords * n) words)) (laid text words ok) (stored-card words n h)
 
     span-named : isUnnamed card ≡ false → spanIn 0 (accountIn text words .documents) n ≡ span (nameStart words n) (nameSize words n)
     unfolding card
@@ -191,11 +188,12 @@ module _ (text words : List ℕ) (ok : sound text words ≡ true) (n : ℕ) (h :
         spelled : bytesAt text (s .at) (s .size) ≡ bytesAt text (nameStart words n) (nameSize words n)
         spelled = ap (λ (t : Span). bytesAt text (t .at) (t .size)) (standing .stands) ∙ (unfold span in go (isUnnamed card) refl)
 
-module _ (text words : List ℕ) (ok : sound text words ≡ true) (long : tooShort text words ≡ false) (n : ℕ) where
+module _ (text words : List ℕ) (ok : sound text words ≡ true) (big : tooShort text words ≡ false) (n : ℕ) where
   pub span-past : cardsUsed words ≤ n → spanIn 0 (accountIn text words .documents) n ≡ span 0 0
   unfolding accountIn
   span-past h =
-      span-none text (textUsed words) (let a = text-fits text words ok in let b = text-long text words long in omega arith) 0 (storedRows words) (storedCards words) n
+      span-none text (textUsed words) (let a = text-fits text words ok in let b = long text words big .0 in omega arith) 0 (documentRows words)
+      (storedCards words) n
       (laid text words ok) (let l = length-stored-cards words in omega arith)
 
   -- The bytes of the span are the name, also of a card that has none or that is not stored.
@@ -205,7 +203,7 @@ module _ (text words : List ℕ) (ok : sound text words ≡ true) (long : tooSho
     where
       go : (b : Bool) → ltb n (cardsUsed words) ≡ b →
           bytesAt text (spanIn 0 (accountIn text words .documents) n .at) (spanIn 0 (accountIn text words .documents) n .size) ≡ cardName text words n
-      go true t = span-of text words ok n (ltb-true n (cardsUsed words) t) long
+      go true t = span-of text words ok n (ltb-true n (cardsUsed words) t) big
       go false t =
           let none : cardName text words n ≡ [] = name-past text words n (ltb-false n (cardsUsed words) t) in
           let empty : bytesAt text (span 0 0 .at) (span 0 0 .size) ≡ [] = unfold span in bytes-none text 0 in
@@ -219,4 +217,4 @@ module _ (text words : List ℕ) (ok : sound text words ≡ true) (long : tooSho
   pub part-stored : n < cardsUsed words → mayLackName (cardKind words n) ≡ false →
       partOf text (spanIn 0 (accountIn text words .documents) n) ≡ record { bytes = cardName text words n; part = span (nameStart words n) (nameSize words n) }
   unfolding partOf
-  part-stored h k = λ i. record { bytes = span-bytes i; part = span-stored text words ok n h long k i }
+  part-stored h k = λ i. record { bytes = span-bytes i; part = span-stored text words ok n h big k i }

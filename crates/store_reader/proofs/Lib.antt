@@ -1,5 +1,6 @@
 -- Laws, Words and Group are for callers; the others serve them, Held the proofs over a reader.
 pub mod Lists
+pub mod Sound
 pub mod Fine
 pub mod Laid
 pub mod Group
@@ -8,4 +9,6 @@ pub mod Spans
 pub mod Words
 pub mod Laws
 pub mod Held
+mod Takes
+mod Asks
 mod Cards

@@ -10,16 +10,11 @@ use lib.ListN.{length, take, drop, getElem?}
 use lib.Seq.{drop-drop, take-take, take-nil}
 use Rattle.definition.specs.Lists.{choose, chunks, All}
 use Rattle.definition.specs.Names.{bytesAt}
+-- Laws of the definitions that callers use with these.
+pub use Rattle.definition.proofs.Tests.{and-true, or-false}
+pub use Rattle.definition.proofs.All.{all-append, all-to}
 
 -- ---- Tests.
-
-pub or-false : (a b : Bool) → (a || b) ≡ false → (a ≡ false) × (b ≡ false)
-or-false true b e = let q : true ≡ false = e in (q, cc)
-or-false false b e = (refl, e)
-
-pub and-true : (a b : Bool) → (a && b) ≡ true → (a ≡ true) × (b ≡ true)
-and-true true b e = (refl, e)
-and-true false b e = (e, cc)
 
 pub and-left-false : (a b : Bool) → a ≡ true → (a && b) ≡ false → b ≡ false
 and-left-false a b t e = rw t at e
@@ -76,19 +71,10 @@ module _ {ℓ} {A : Type ℓ} where
   -- ---- What holds of each element.
 
   module _ (P : A → Type 0) where
-    pub all-append : (xs ys : List A) → All P xs → All P ys → All P (xs ++ ys)
-    all-append [] ys a b = b
-    all-append (x ∷ xs) ys a b = (a .0, all-append xs ys (a .1) b)
-
     pub all-get : (xs : List A) → All P xs → (i : ℕ) (x : A) → getElem? xs i ≡ some x → P x
     all-get [] a i x e = absurd (let z : _≡_ {A = ℕ} 0 1 = cc in omega arith)
     all-get (y ∷ xs) a zero x e = let same : y ≡ x = cc in rw (← same) (a .0)
     all-get (y ∷ xs) a (suc i) x e = all-get xs (a .1) i x e
-
-module _ {ℓ} {A : Type ℓ} where
-  pub all-to : (P Q : A → Type 0) → ((x : A) → P x → Q x) → (xs : List A) → All P xs → All Q xs
-  all-to P Q f [] a = tt
-  all-to P Q f (x ∷ xs) a = (f x (a .0), all-to P Q f xs (a .1))
 
 module _ {ℓ κ} {A : Type ℓ} {B : Type κ} (f : A → B) where
   pub get-map : (xs : List A) (i : ℕ) (x : A) → getElem? xs i ≡ some x → getElem? (map f xs) i ≡ some (f x)

@@ -13,7 +13,7 @@ use Rattle.definition.specs.Lists.{choose, All}
 use Rattle.definition.specs.Names.{isName, bytesAt}
 use Rattle.definition.specs.Cards.{Card, isHeading, isPart, isUnnamed}
 use Rattle.definition.specs.Headings.{Document}
-use Rattle.definition.specs.Store.{StoredRow, unmoved, storedDocument, documentsFrom}
+use Rattle.definition.specs.Store.{DocumentRow, unmoved, storedDocument, documentsFrom}
 use Rattle.definition.specs.Lookups.{Span, span, spanIn}
 use Rattle.definition.proofs.CleanCards.{unnamed-parts}
 use Rattle.store_reader.proofs.Lists.{all-append, all-get, all-to, get-past, get-take, get-drop, get-map}
@@ -36,7 +36,7 @@ sound-of text used base size c h s = record { known = s .known; named = s .named
     go true u = let q = unnamed-parts c u in omega arith
     go false u = let q = s .high u in omega arith
 
-pub sound-cards : (text : List ℕ) (used at : ℕ) (rs : List StoredRow) (cs : List Card) → Laid text used at rs cs → All (Sound text used) cs
+pub sound-cards : (text : List ℕ) (used at : ℕ) (rs : List DocumentRow) (cs : List Card) → Laid text used at rs cs → All (Sound text used) cs
 sound-cards text used at [] cs l = rw l tt
 sound-cards text used at (r ∷ rs) cs l =
     let k = r .cardCount in
@@ -79,14 +79,14 @@ standing-own at c h = record {
 }
 
 module _ (text : List ℕ) (used : ℕ) (long : used ≤ length text) where
-  row-here : (at : ℕ) (r : StoredRow) (rs : List StoredRow) (cs : List Card) (n : ℕ) (c : Card) →
+  row-here : (at : ℕ) (r : DocumentRow) (rs : List DocumentRow) (cs : List Card) (n : ℕ) (c : Card) →
       getElem? (map (unmoved (r .textAt)) (take (r .cardCount) cs)) n ≡ some (unmoved (r .textAt) c) →
       spanIn at (documentsFrom text (r ∷ rs) cs) n ≡ span (at + unmoved (r .textAt) c .nameAt) (unmoved (r .textAt) c .nameLen)
   unfolding documentsFrom storedDocument
   row-here at r rs cs n c g =
       span-here at (storedDocument text r (take (r .cardCount) cs)) (documentsFrom text rs (drop (r .cardCount) cs)) n (unmoved (r .textAt) c) g
 
-  row-later : (at : ℕ) (r : StoredRow) (rs : List StoredRow) (cs : List Card) (n : ℕ) → LaidRow text used at r cs → r .cardCount ≤ n →
+  row-later : (at : ℕ) (r : DocumentRow) (rs : List DocumentRow) (cs : List Card) (n : ℕ) → LaidRow text used at r cs → r .cardCount ≤ n →
       spanIn at (documentsFrom text (r ∷ rs) cs) n ≡ spanIn (at + r .textLen) (documentsFrom text rs (drop (r .cardCount) cs)) (n - r .cardCount)
   unfolding documentsFrom storedDocument
   row-later at r rs cs n l h =
@@ -102,7 +102,7 @@ module _ (text : List ℕ) (used : ℕ) (long : used ≤ length text) where
       ∙ ap (λ (m : ℕ). spanIn (at + m) ds (n - length mine)) size
       ∙ ap (λ (m : ℕ). spanIn (at + r .textLen) ds (n - m)) len
 
-  pub span-stands : (at : ℕ) (rs : List StoredRow) (cs : List Card) (n : ℕ) (c : Card) → Laid text used at rs cs → getElem? cs n ≡ some c →
+  pub span-stands : (at : ℕ) (rs : List DocumentRow) (cs : List Card) (n : ℕ) (c : Card) → Laid text used at rs cs → getElem? cs n ≡ some c →
       Standing (spanIn at (documentsFrom text rs cs) n) c
   span-stands at [] cs n c l g =
       absurd (let q : none ≡ some c = ap (λ (l : List Card). getElem? l n) (sym l) ∙ g in let z : _≡_ {A = ℕ} 0 1 = cc in omega arith)
@@ -119,7 +119,8 @@ module _ (text : List ℕ) (used : ℕ) (long : used ≤ length text) where
           let b = l .0 .begins in
           let g1 : getElem? (take k cs) n ≡ some c = get-take cs k n h ∙ g in
           let g2 = get-map (unmoved (r .textAt)) (take k cs) n c g1 in
-          let s = all-get (Stands text (r .textAt) (r .textLen)) (take k cs) (fine-stands text (r .textAt) (r .textLen) 0 none none (take k cs) (l .0 .fine)) n c g1 in
+          let s = all-get (Stands text (r .textAt) (r .textLen)) (take k cs)
+          (fine-stands text (r .textAt) (r .textLen) 0 none none (take k cs) (l .0 .fine)) n c g1 in
           let e : spanIn at (documentsFrom text (r ∷ rs) cs) n ≡ span (at + unmoved at c .nameAt) (unmoved at c .nameLen) =
           row-here at r rs cs n c g2 ∙ ap (λ (j : ℕ). span (at + unmoved j c .nameAt) (unmoved j c .nameLen)) b in
           rw e (standing-own at c (λ u. let q = s .low u in omega arith))
@@ -130,7 +131,7 @@ module _ (text : List ℕ) (used : ℕ) (long : used ≤ length text) where
           let g1 : getElem? (drop k cs) (n - k) ≡ some c = get-drop cs k (n - k) ∙ ap (getElem? cs) e ∙ g in
           rw (row-later at r rs cs n (l .0) h) (later g1)
 
-  pub span-none : (at : ℕ) (rs : List StoredRow) (cs : List Card) (n : ℕ) → Laid text used at rs cs → length cs ≤ n →
+  pub span-none : (at : ℕ) (rs : List DocumentRow) (cs : List Card) (n : ℕ) → Laid text used at rs cs → length cs ≤ n →
       spanIn at (documentsFrom text rs cs) n ≡ span 0 0
   span-none at [] cs n l h = unfold documentsFrom spanIn in refl
   span-none at (r ∷ rs) cs n l h =

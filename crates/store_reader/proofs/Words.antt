@@ -9,70 +9,79 @@ use lib.Dec.{eqb, ltb}
 use lib.ListN.{length, drop, getD, getElem?, length-drop, drop-of-length-le}
 use lib.Seq.{getD-drop, drop-drop}
 use borrow.Author.Tests.{ltb-true, ltb-false, lt-ltb, le-ltb}
-use Rattle.definition.specs.Lists.{choose, found, before, chunks, All}
+use Rattle.definition.specs.Lists.{choose, found, takeUntil, chunks, All}
 use Rattle.definition.specs.Names.{bytesAt}
-use Rattle.definition.specs.Cards.{Card, cardFrom, cardsFrom, isPart}
-use Rattle.definition.specs.Headings.{Part, Heading, nameOf, partFrom}
-use Rattle.definition.specs.Store.{StoredRow, rowFrom, documentCount, cardsUsed, storedRows, storedCards}
+use Rattle.definition.specs.Cards.{Card, cardWords, cardFrom, cardsFrom, isPart}
+use Rattle.definition.specs.Headings.{NamedCard, Heading, nameOf, namedCard}
+use Rattle.definition.specs.Store.{DocumentRow, documentRowFrom, documentsAt, documentWords, cardsAt, documentCount, cardsUsed, documentRows, storedCards}
+use Rattle.ast.specs.Cards.{kindWord, nameAtWord, nameLenWord}
 use Rattle.definition.specs.LentRows.{cardsNamed, nameNumbered}
-use Rattle.store_reader.specs.Stored.{storedParts, kindNumbered, cardWord, cardKind, nameStart, nameSize, cardName, cardAt, builtInCount, builtInAt, ignoredIn, ignoredAt, headOf, heads, storedHeadings, isHead, partsFrom, storedHeadingsFrom, headingAt, isHeadCard, partRun, headingFrom, nextCard, nextHeading}
+use Rattle.store_reader.specs.Stored.{storedParts, kindNumbered, cardWord, cardKind, nameStart, nameSize, cardName, cardAt}
+use Rattle.store_reader.specs.Stored.{builtInCount, builtInAt, ignoredIn, ignoredAt, headingWith, headingsOf, storedHeadings}
+use Rattle.store_reader.specs.Stored.{isHeadingItem, partsFrom, storedHeadingsFrom, headingAt, isHeadingCard, partRun, headingFrom}
+use Rattle.store_reader.specs.Stored.{nextCard, nextHeading}
 use Rattle.store_reader.proofs.Lists.{all-to, bytes-none, drop-get, get-inside, get-past, length-chunks, chunk-at}
 use Rattle.store_reader.proofs.Laid.{length-stored-cards}
 use Rattle.store_reader.proofs.DocumentsLaws.{named-length, named-get, named-drop}
-use Rattle.store_reader.proofs.Group.{parts-at-part, parts-at-heading, parts-at-end, parts-inside, parts-later, parts-get, heads-at-heading, heads-at-part, heads-at-end, HeadAt, heads-are}
+use Rattle.store_reader.proofs.Group.{parts-at-part, parts-at-heading, parts-at-end, parts-inside, parts-later, parts-get}
+use Rattle.store_reader.proofs.Group.{headings-at-heading, headings-at-part, headings-at-end, HeadAt, headings-are}
 
 -- ---- Runs of parts.
 
-length-run : (text : List ℕ) (n : ℕ) (cs : List Card) → length (before isHead (cardsNamed text n cs)) ≡ length (before isHeadCard cs)
-unfolding before cardsNamed isHead isHeadCard partFrom
+length-run : (text : List ℕ) (n : ℕ) (cs : List Card) → length (takeUntil isHeadingItem (cardsNamed text n cs)) ≡ length (takeUntil isHeadingCard cs)
+unfolding takeUntil cardsNamed isHeadingItem isHeadingCard namedCard
 length-run text n [] = refl
 length-run text n (c ∷ cs) = go (isPart (c .kind)) (length-run text (n + 1) cs)
   where
-    go : (b : Bool) → length (before isHead (cardsNamed text (n + 1) cs)) ≡ length (before isHeadCard cs) →
-        length (choose (not b) [] (partFrom text n c ∷ before isHead (cardsNamed text (n + 1) cs))) ≡ length (choose (not b) [] (c ∷ before isHeadCard cs))
+    go : (b : Bool) → length (takeUntil isHeadingItem (cardsNamed text (n + 1) cs)) ≡ length (takeUntil isHeadingCard cs) →
+        length (choose (not b) [] (namedCard text n c ∷ takeUntil isHeadingItem (cardsNamed text (n + 1) cs)))
+        ≡ length (choose (not b) [] (c ∷ takeUntil isHeadingCard cs))
     go true ih = ap suc ih
     go false ih = refl
 
 pub run-stored : (text words : List ℕ) (i : ℕ) → partRun words i ≡ length (partsFrom (storedParts text words) i)
 unfolding partRun partsFrom storedParts
 run-stored text words i =
-    sym (ap (λ (l : List Part). length (before isHead l)) (named-drop text 0 (storedCards words) i) ∙ length-run text (0 + i) (drop i (storedCards words)))
+    sym
+    (ap (λ (l : List NamedCard). length (takeUntil isHeadingItem l)) (named-drop text 0 (storedCards words) i)
+    ∙ length-run text (0 + i) (drop i (storedCards words)))
 
 -- ---- One card.
 
-pub stored-card : (words : List ℕ) (n : ℕ) → n < cardsUsed words → getElem? (storedCards words) n ≡ some (cardFrom (drop (261 + 5 * n) words))
+pub stored-card : (words : List ℕ) (n : ℕ) → n < cardsUsed words → getElem? (storedCards words) n ≡ some (cardFrom (drop (cardsAt + cardWords * n) words))
 unfolding storedCards cardsFrom
-stored-card words n h = chunk-at 5 cardFrom (cardsUsed words) (drop 261 words) n h ∙ ap (λ (l : List ℕ). some (cardFrom l)) (drop-drop (5 * n) 261 words)
+stored-card words n h =
+    chunk-at cardWords cardFrom (cardsUsed words) (drop cardsAt words) n h ∙ ap (λ (l : List ℕ). some (cardFrom l)) (drop-drop (cardWords * n) cardsAt words)
 
-card-word : (words : List ℕ) (n k : ℕ) → n < cardsUsed words → getD (drop (261 + 5 * n) words) k 0 ≡ cardWord words n k
+card-word : (words : List ℕ) (n k : ℕ) → n < cardsUsed words → getD (drop (cardsAt + cardWords * n) words) k 0 ≡ cardWord words n k
 unfolding cardWord
-card-word words n k h = rw (lt-ltb n (cardsUsed words) h) (getD-drop (261 + 5 * n) words k 0)
+card-word words n k h = rw (lt-ltb n (cardsUsed words) h) (getD-drop (cardsAt + cardWords * n) words k 0)
 
 pub word-past : (words : List ℕ) (n k : ℕ) → cardsUsed words ≤ n → cardWord words n k ≡ 0
 unfolding cardWord
 word-past words n k h = rw (le-ltb n (cardsUsed words) h)
 
 module _ (words : List ℕ) (n : ℕ) (h : n < cardsUsed words) where
-  pub card-kind : cardFrom (drop (261 + 5 * n) words) .kind ≡ cardKind words n
+  pub card-kind : cardFrom (drop (cardsAt + cardWords * n) words) .kind ≡ cardKind words n
   unfolding cardFrom cardKind
-  card-kind = card-word words n 0 h
+  card-kind = card-word words n kindWord h
 
-  pub card-name-at : cardFrom (drop (261 + 5 * n) words) .nameAt ≡ nameStart words n
+  pub card-name-at : cardFrom (drop (cardsAt + cardWords * n) words) .nameAt ≡ nameStart words n
   unfolding cardFrom nameStart
-  card-name-at = card-word words n 3 h
+  card-name-at = card-word words n nameAtWord h
 
-  pub card-name-len : cardFrom (drop (261 + 5 * n) words) .nameLen ≡ nameSize words n
+  pub card-name-len : cardFrom (drop (cardsAt + cardWords * n) words) .nameLen ≡ nameSize words n
   unfolding cardFrom nameSize
-  card-name-len = card-word words n 4 h
+  card-name-len = card-word words n nameLenWord h
 
 -- A card that is not stored has the kind 0 and no name.
 pub kind-past : (words : List ℕ) (n : ℕ) → cardsUsed words ≤ n → cardKind words n ≡ 0
 unfolding cardKind
-kind-past words n h = word-past words n 0 h
+kind-past words n h = word-past words n kindWord h
 
 pub name-past : (text words : List ℕ) (n : ℕ) → cardsUsed words ≤ n → cardName text words n ≡ []
 unfolding cardName nameSize
-name-past text words n h = ap (bytesAt text (nameStart words n)) (word-past words n 4 h) ∙ bytes-none text (nameStart words n)
+name-past text words n h = ap (bytesAt text (nameStart words n)) (word-past words n nameLenWord h) ∙ bytes-none text (nameStart words n)
 
 module _ (text words : List ℕ) where
   pub length-stored : length (storedParts text words) ≡ cardsUsed words
@@ -81,9 +90,9 @@ module _ (text words : List ℕ) where
 
   module _ (n : ℕ) where
     pub stored-at : n < cardsUsed words → getElem? (storedParts text words) n ≡ some (cardAt text words n)
-    unfolding storedParts cardName partFrom nameOf
+    unfolding storedParts cardName namedCard nameOf
     stored-at h =
-        let c : Card = cardFrom (drop (261 + 5 * n) words) in
+        let c : Card = cardFrom (drop (cardsAt + cardWords * n) words) in
         let z : 0 + n ≡ n = omega arith in
         named-get text 0 (storedCards words) n c (stored-card words n h)
         ∙ (λ i. some (record { number = z i; kind = card-kind words n h i; name = bytesAt text (card-name-at words n h i) (card-name-len words n h i) }))
@@ -91,22 +100,23 @@ module _ (text words : List ℕ) where
     pub stored-past : cardsUsed words ≤ n → getElem? (storedParts text words) n ≡ none
     stored-past h = get-past (storedParts text words) n (let l = length-stored in omega arith)
 
-    pub stored-inside : (c : Part) → getElem? (storedParts text words) n ≡ some c → n < cardsUsed words
+    pub stored-inside : (c : NamedCard) → getElem? (storedParts text words) n ≡ some c → n < cardsUsed words
     stored-inside c e = let h = get-inside (storedParts text words) n c e in let l = length-stored in omega arith
 
-    pub stored-is : (c : Part) → getElem? (storedParts text words) n ≡ some c → c ≡ cardAt text words n
+    pub stored-is : (c : NamedCard) → getElem? (storedParts text words) n ≡ some c → c ≡ cardAt text words n
     stored-is c e = let q : some c ≡ some (cardAt text words n) = sym e ∙ stored-at (stored-inside c e) in cc
 
-    pub number-stored : (c : Part) → getElem? (storedParts text words) n ≡ some c → c .number ≡ n
-    number-stored c e = ap (λ (p : Part). p .number) (stored-is c e)
+    pub number-stored : (c : NamedCard) → getElem? (storedParts text words) n ≡ some c → c .number ≡ n
+    number-stored c e = ap (λ (p : NamedCard). p .number) (stored-is c e)
 
     -- Whatever is asked of a card by its number.
-    pub found-stored : {A : Type 0} (f : Part → A) (z : A) → found (getElem? (storedParts text words) n) f z ≡ choose (ltb n (cardsUsed words)) (f (cardAt text words n)) z
+    pub found-stored : {A : Type 0} (f : NamedCard → A) (z : A) →
+        found (getElem? (storedParts text words) n) f z ≡ choose (ltb n (cardsUsed words)) (f (cardAt text words n)) z
     found-stored {A} f z = go (ltb n (cardsUsed words)) refl
       where
         go : (b : Bool) → ltb n (cardsUsed words) ≡ b → found (getElem? (storedParts text words) n) f z ≡ choose b (f (cardAt text words n)) z
-        go true t = ap (λ (o : Option Part). found o f z) (stored-at (ltb-true n (cardsUsed words) t))
-        go false t = ap (λ (o : Option Part). found o f z) (stored-past (ltb-false n (cardsUsed words) t))
+        go true t = ap (λ (o : Option NamedCard). found o f z) (stored-at (ltb-true n (cardsUsed words) t))
+        go false t = ap (λ (o : Option NamedCard). found o f z) (stored-past (ltb-false n (cardsUsed words) t))
 
     -- The kind and the name of a card by its number.
     pub kind-stored : kindNumbered (storedParts text words) n ≡ cardKind words n
@@ -142,8 +152,8 @@ module _ (text words : List ℕ) where
     pub parts-end : cardsUsed words ≤ i → partsFrom (storedParts text words) i ≡ []
     parts-end h = parts-at-end (storedParts text words) i (let l = length-stored in omega arith)
 
-    -- Part k of the run from a position on is the card k positions on.
-    pub part-at : (k : ℕ) (p : Part) → getElem? (partsFrom (storedParts text words) i) k ≡ some p → p ≡ cardAt text words (i + k)
+    -- NamedCard k of the run from a position on is the card k positions on.
+    pub part-at : (k : ℕ) (p : NamedCard) → getElem? (partsFrom (storedParts text words) i) k ≡ some p → p ≡ cardAt text words (i + k)
     part-at k p e = stored-is (i + k) p (parts-get (storedParts text words) i k p e)
 
     run-part : i < cardsUsed words → isPart (cardKind words i) ≡ true → partRun words i ≡ suc (partRun words (i + 1))
@@ -154,22 +164,22 @@ module _ (text words : List ℕ) where
         storedHeadingsFrom text words i ≡ headingAt text words i ∷ storedHeadingsFrom text words (nextHeading words i)
     unfolding storedHeadingsFrom nextHeading
     headings-next h p =
-        let cs : List Part = storedParts text words in
+        let cs : List NamedCard = storedParts text words in
         let t : ltb i (cardsUsed words) ≡ true = lt-ltb i (cardsUsed words) h in
         let next : length (partsFrom cs (i + 1)) ≡ partRun words (i + 1) = sym (run-stored text words (i + 1)) in
-        heads-at-heading (builtInAt words) (ignoredAt words) cs i (cardAt text words i) (stored-at i h) p
+        headings-at-heading (builtInAt words) (ignoredAt words) cs i (cardAt text words i) (stored-at i h) p
         ∙ rw t (λ j.
-        headOf (builtInAt words i) (ignoredAt words i) (cardAt text words i) (partsFrom cs (i + 1))
-        ∷ heads (builtInAt words) (ignoredAt words) (drop (i + 1 + next j) cs) .1)
+        headingWith (builtInAt words i) (ignoredAt words i) (cardAt text words i) (partsFrom cs (i + 1))
+        ∷ headingsOf (builtInAt words) (ignoredAt words) (drop (i + 1 + next j) cs) .1)
 
     pub headings-skip : i < cardsUsed words → isPart (cardKind words i) ≡ true → storedHeadingsFrom text words i ≡ storedHeadingsFrom text words (i + 1)
     unfolding storedHeadingsFrom
     headings-skip h p =
-        heads-at-part (builtInAt words) (ignoredAt words) (storedParts text words) i (cardAt text words i) (stored-at i h) p
+        headings-at-part (builtInAt words) (ignoredAt words) (storedParts text words) i (cardAt text words i) (stored-at i h) p
 
     pub headings-end : cardsUsed words ≤ i → storedHeadingsFrom text words i ≡ []
     unfolding storedHeadingsFrom
-    headings-end h = heads-at-end (builtInAt words) (ignoredAt words) (storedParts text words) i (let l = length-stored in omega arith)
+    headings-end h = headings-at-end (builtInAt words) (ignoredAt words) (storedParts text words) i (let l = length-stored in omega arith)
 
   pub headings-start : storedHeadings text words ≡ storedHeadingsFrom text words 0
   unfolding storedHeadings storedHeadingsFrom
@@ -182,8 +192,8 @@ module _ (text words : List ℕ) where
       let n = h .number in
       let is = stored-is n (a .card) (a .held) in (
         stored-inside n (a .card) (a .held),
-        ap isPart (sym (ap (λ (p : Part). p .kind) is)) ∙ a .heading,
-        a .same ∙ ap (λ (p : Part). headOf (builtInAt words n) (ignoredAt words n) p (partsFrom (storedParts text words) (n + 1))) is,
+        ap isPart (sym (ap (λ (p : NamedCard). p .kind) is)) ∙ a .heading,
+        a .same ∙ ap (λ (p : NamedCard). headingWith (builtInAt words n) (ignoredAt words n) p (partsFrom (storedParts text words) (n + 1))) is,
       )
 
   pub headings-at : All (λ h. (h .number < cardsUsed words) × (isPart (cardKind words (h .number)) ≡ false) × (h ≡ headingAt text words (h .number)))
@@ -192,8 +202,8 @@ module _ (text words : List ℕ) where
   headings-at =
       all-to (HeadAt (builtInAt words) (ignoredAt words) (storedParts text words))
       (λ h. (h .number < cardsUsed words) × (isPart (cardKind words (h .number)) ≡ false) × (h ≡ headingAt text words (h .number))) at-of
-      (heads (builtInAt words) (ignoredAt words) (storedParts text words) .1)
-      (heads-are (builtInAt words) (ignoredAt words) (storedParts text words) number-stored)
+      (headingsOf (builtInAt words) (ignoredAt words) (storedParts text words) .1)
+      (headings-are (builtInAt words) (ignoredAt words) (storedParts text words) number-stored)
 
 -- ---- The next heading.
 
@@ -259,7 +269,7 @@ next-is-heading words n l = go (isPart (cardKind words (nextHeading words n))) r
 pub part-between : (words : List ℕ) (n m : ℕ) → n < m → m < nextHeading words n → isPart (cardKind words m) ≡ true
 part-between words n m a b = go (isPart (cardKind words m)) refl
   where
-    cs : List Part
+    cs : List NamedCard
     cs = storedParts [] words
 
     inside : nextHeading words n ≤ cardsUsed words
@@ -288,7 +298,8 @@ pub next-from : (words : List ℕ) (n : ℕ) → headingFrom words (nextCard wor
 unfolding headingFrom nextCard nextHeading
 next-from words n = go (ltb n (cardsUsed words))
   where
-    go : (b : Bool) → choose b (n + 1) (cardsUsed words) + partRun words (choose b (n + 1) (cardsUsed words)) ≡ choose b (n + 1 + partRun words (n + 1)) (cardsUsed words)
+    go : (b : Bool) →
+        choose b (n + 1) (cardsUsed words) + partRun words (choose b (n + 1) (cardsUsed words)) ≡ choose b (n + 1 + partRun words (n + 1)) (cardsUsed words)
     go true = refl
     go false = run-end words (cardsUsed words) (omega arith)
 
@@ -309,60 +320,64 @@ module _ (words : List ℕ) (n used : ℕ) (e : used ≡ cardsUsed words) where
 
 -- ---- The rows of the documents.
 
-row-at : (words : List ℕ) (i : ℕ) → i < documentCount words → drop i (storedRows words) ≡ rowFrom (drop (5 + 4 * i) words) ∷ drop (i + 1) (storedRows words)
-unfolding storedRows
+pub row-at : (words : List ℕ) (i : ℕ) → i < documentCount words →
+    drop i (documentRows words) ≡ documentRowFrom (drop (documentsAt + documentWords * i) words) ∷ drop (i + 1) (documentRows words)
+unfolding documentRows
 row-at words i h =
-    drop-get (chunks 4 rowFrom (documentCount words) (drop 5 words)) i (rowFrom (drop (5 + 4 * i) words))
-    (chunk-at 4 rowFrom (documentCount words) (drop 5 words) i h ∙ ap (λ (l : List ℕ). some (rowFrom l)) (drop-drop (4 * i) 5 words))
+    drop-get (chunks documentWords documentRowFrom (documentCount words) (drop documentsAt words)) i
+    (documentRowFrom (drop (documentsAt + documentWords * i) words))
+    (chunk-at documentWords documentRowFrom (documentCount words) (drop documentsAt words) i h
+    ∙ ap (λ (l : List ℕ). some (documentRowFrom l)) (drop-drop (documentWords * i) documentsAt words))
+
+pub rows-over : (words : List ℕ) (i : ℕ) → documentCount words ≤ i → drop i (documentRows words) ≡ []
+unfolding documentRows
+rows-over words i h =
+    let l = length-chunks documentWords documentRowFrom (documentCount words) (drop documentsAt words) in
+    drop-of-length-le (chunks documentWords documentRowFrom (documentCount words) (drop documentsAt words)) {i = i} (omega arith)
 
 module _ (words : List ℕ) (i : ℕ) where
-  row-count : rowFrom (drop (5 + 4 * i) words) .cardCount ≡ getD words (5 + 4 * i + 2) 0
-  unfolding rowFrom
-  row-count = getD-drop (5 + 4 * i) words 2 0
+  row-count : documentRowFrom (drop (documentsAt + documentWords * i) words) .cardCount ≡ getD words (documentsAt + documentWords * i + 2) 0
+  unfolding documentRowFrom
+  row-count = getD-drop (documentsAt + documentWords * i) words 2 0
 
-  row-switch : rowFrom (drop (5 + 4 * i) words) .ignored ≡ getD words (5 + 4 * i + 3) 0
-  unfolding rowFrom
-  row-switch = getD-drop (5 + 4 * i) words 3 0
+  row-switch : documentRowFrom (drop (documentsAt + documentWords * i) words) .ignored ≡ getD words (documentsAt + documentWords * i + 3) 0
+  unfolding documentRowFrom
+  row-switch = getD-drop (documentsAt + documentWords * i) words 3 0
 
   ignored-step : (n : ℕ) → i < documentCount words →
-      ignoredIn (drop i (storedRows words)) n ≡
-      choose (ltb n (getD words (5 + 4 * i + 2) 0)) (eqb (getD words (5 + 4 * i + 3) 0) 1)
-      (ignoredIn (drop (i + 1) (storedRows words)) (n - getD words (5 + 4 * i + 2) 0))
+      ignoredIn (drop i (documentRows words)) n ≡
+      choose (ltb n (getD words (documentsAt + documentWords * i + 2) 0)) (eqb (getD words (documentsAt + documentWords * i + 3) 0) 1)
+      (ignoredIn (drop (i + 1) (documentRows words)) (n - getD words (documentsAt + documentWords * i + 2) 0))
   unfolding ignoredIn
   ignored-step n h = rw (row-at words i h, row-count, row-switch)
 
   -- A turn of the walk over the rows.
-  pub ignored-here : (n : ℕ) → i < documentCount words → n < getD words (5 + 4 * i + 2) 0 →
-      ignoredIn (drop i (storedRows words)) n ≡ eqb (getD words (5 + 4 * i + 3) 0) 1
-  ignored-here n h l = ignored-step n h ∙ rw (lt-ltb n (getD words (5 + 4 * i + 2) 0) l)
+  pub ignored-here : (n : ℕ) → i < documentCount words → n < getD words (documentsAt + documentWords * i + 2) 0 →
+      ignoredIn (drop i (documentRows words)) n ≡ eqb (getD words (documentsAt + documentWords * i + 3) 0) 1
+  ignored-here n h l = ignored-step n h ∙ rw (lt-ltb n (getD words (documentsAt + documentWords * i + 2) 0) l)
 
-  pub ignored-next : (n : ℕ) → i < documentCount words → getD words (5 + 4 * i + 2) 0 ≤ n →
-      ignoredIn (drop i (storedRows words)) n ≡ ignoredIn (drop (i + 1) (storedRows words)) (n - getD words (5 + 4 * i + 2) 0)
-  ignored-next n h l = ignored-step n h ∙ rw (le-ltb n (getD words (5 + 4 * i + 2) 0) l)
+  pub ignored-next : (n : ℕ) → i < documentCount words → getD words (documentsAt + documentWords * i + 2) 0 ≤ n →
+      ignoredIn (drop i (documentRows words)) n ≡ ignoredIn (drop (i + 1) (documentRows words)) (n - getD words (documentsAt + documentWords * i + 2) 0)
+  ignored-next n h l = ignored-step n h ∙ rw (le-ltb n (getD words (documentsAt + documentWords * i + 2) 0) l)
 
-  pub ignored-end : (n : ℕ) → documentCount words ≤ i → ignoredIn (drop i (storedRows words)) n ≡ false
-  unfolding ignoredIn storedRows
-  ignored-end n h =
-      let l = length-chunks 4 rowFrom (documentCount words) (drop 5 words) in
-      ap (λ (rs : List StoredRow). ignoredIn rs n) (drop-of-length-le (chunks 4 rowFrom (documentCount words) (drop 5 words)) {i = i} (omega arith))
+  pub ignored-end : (n : ℕ) → documentCount words ≤ i → ignoredIn (drop i (documentRows words)) n ≡ false
+  unfolding ignoredIn
+  ignored-end n h = ap (λ (rs : List DocumentRow). ignoredIn rs n) (rows-over words i h)
 
-pub ignored-start : (words : List ℕ) (n : ℕ) → ignoredAt words n ≡ ignoredIn (drop 0 (storedRows words)) n
+pub ignored-start : (words : List ℕ) (n : ℕ) → ignoredAt words n ≡ ignoredIn (drop 0 (documentRows words)) n
 unfolding ignoredAt
 ignored-start words n = refl
 
 -- The same where the number of rows and a row's card count were read as words.
-module _ (words : List ℕ) (rows count i n : ℕ) (e : rows ≡ getD words 0 0) (f : count ≡ getD words (5 + 4 * i + 2) 0) where
-  pub ignored-found : i < rows → n < count → ignoredIn (drop i (storedRows words)) n ≡ eqb (getD words (5 + 4 * i + 3) 0) 1
-  unfolding documentCount
+module _ (words : List ℕ) (rows count i n : ℕ) (e : rows ≡ documentCount words) (f : count ≡ getD words (documentsAt + documentWords * i + 2) 0) where
+  pub ignored-found : i < rows → n < count → ignoredIn (drop i (documentRows words)) n ≡ eqb (getD words (documentsAt + documentWords * i + 3) 0) 1
   ignored-found h l = ignored-here words i n (omega arith) (omega arith)
 
-  pub ignored-passed : i < rows → count ≤ n → ignoredIn (drop i (storedRows words)) n ≡ ignoredIn (drop (i + 1) (storedRows words)) (n - count)
-  unfolding documentCount
+  pub ignored-passed : i < rows → count ≤ n → ignoredIn (drop i (documentRows words)) n ≡ ignoredIn (drop (i + 1) (documentRows words)) (n - count)
   ignored-passed h l =
-      ignored-next words i n (omega arith) (omega arith) ∙ ap (λ (m : ℕ). ignoredIn (drop (i + 1) (storedRows words)) (n - m)) (sym f)
+      ignored-next words i n (omega arith) (omega arith) ∙ ap (λ (m : ℕ). ignoredIn (drop (i + 1) (documentRows words)) (n - m)) (sym f)
 
-pub ignored-over : (words : List ℕ) (rows i n : ℕ) → rows ≡ getD words 0 0 → rows ≤ i → ignoredIn (drop i (storedRows words)) n ≡ false
-unfolding documentCount
+pub ignored-over : (words : List ℕ) (rows i n : ℕ) → rows ≡ documentCount words → rows ≤ i → ignoredIn (drop i (documentRows words)) n ≡ false
 ignored-over words rows i n e h = ignored-end words i n (omega arith)
 
 pub built-in-is : (words : List ℕ) (n : ℕ) → builtInAt words n ≡ ltb n (builtInCount words)

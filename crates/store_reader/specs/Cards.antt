@@ -7,29 +7,20 @@ use Rattle.definition.specs.Lists.{choose}
 use Rattle.definition.specs.Names.{bytesAt}
 use Rattle.definition.specs.Cards.{cardWords}
 use Rattle.definition.specs.Store.{cardsAt, cardsUsed}
+use Rattle.ast.specs.Cards.{kindWord, nameAtWord, nameLenWord}
 
 -- Word k of the card n, 0 where no such card is stored.
 unfoldable pub cardWord : List ℕ → ℕ → ℕ → ℕ
 cardWord words n k = choose (ltb n (cardsUsed words)) (getD words (cardsAt + cardWords * n + k) 0) 0
 
 unfoldable pub cardKind : List ℕ → ℕ → ℕ
-cardKind words n = cardWord words n 0
-
-unfoldable pub itemStart : List ℕ → ℕ → ℕ
-itemStart words n = cardWord words n 1
-
-unfoldable pub itemSize : List ℕ → ℕ → ℕ
-itemSize words n = cardWord words n 2
-
--- The bytes of a card's item, as far as the text reaches.
-unfoldable pub cardItem : List ℕ → List ℕ → ℕ → List ℕ
-cardItem text words n = bytesAt text (itemStart words n) (itemSize words n)
+cardKind words n = cardWord words n kindWord
 
 unfoldable pub nameStart : List ℕ → ℕ → ℕ
-nameStart words n = cardWord words n 3
+nameStart words n = cardWord words n nameAtWord
 
 unfoldable pub nameSize : List ℕ → ℕ → ℕ
-nameSize words n = cardWord words n 4
+nameSize words n = cardWord words n nameLenWord
 
 -- The bytes of a card's name, as far as the text reaches.
 unfoldable pub cardName : List ℕ → List ℕ → ℕ → List ℕ

@@ -1,35 +1,29 @@
 // What a store's words say of a card by its number. Nothing here trusts them: what lies past the slices reads as 0 or as empty.
+use ast::word;
+use definition::layout::CARD_WORDS;
+use definition::layout::CARDS_AT;
+use definition::layout::CARDS_USED;
 ghost use mathlib.Core.Path.{_≡_};
 ghost use Prim.Native.Nat.{_<_};
-ghost use lib.ListN.{getD};
+ghost use Rattle.definition.specs.Cards.{cardWords};
 ghost use Rattle.definition.specs.Store.{cardsUsed};
-ghost use Rattle.store_reader.specs.Cards.{cardWord, cardKind, itemStart, itemSize, cardItem, nameStart, nameSize, cardName, nextCard};
-
-// The word at a position.
-pub fn word(words: &[u32], i: usize) -> u32
-    ensures { λ r. ⌜ r ≡ getD (now (words .entry)) i 0 ⌝ }
-{
-    if i < words.len() {
-        return words[i];
-    }
-    0
-}
+ghost use Rattle.store_reader.specs.Cards.{cardWord, cardKind, nameStart, nameSize, cardName, nextCard};
 
 // How many cards the store says it has.
 pub fn cards_used(words: &[u32]) -> usize
     ensures { λ r. ⌜ r ≡ cardsUsed (now (words .entry)) ⌝ }
 {
-    word(words, 4) as usize
+    word(words, CARDS_USED) as usize
 }
 
 // Word k of the card n.
 pub fn card_word(words: &[u32], n: usize, k: usize) -> u32
-    requires { ⌜ k < 5 ⌝ }
+    requires { ⌜ k < cardWords ⌝ }
     ensures { λ r. ⌜ r ≡ cardWord (now (words .entry)) n k ⌝ }
 {
-    let used = word(words, 4) as usize;
+    let used = word(words, CARDS_USED) as usize;
     if n < used {
-        return word(words, 261 + 5 * n + k);
+        return word(words, CARDS_AT + CARD_WORDS * n + k);
     }
     0
 }
@@ -38,39 +32,20 @@ pub fn card_word(words: &[u32], n: usize, k: usize) -> u32
 pub fn kind_of(words: &[u32], n: usize) -> u32
     ensures { λ r. ⌜ r ≡ cardKind (now (words .entry)) n ⌝ }
 {
-    card_word(words, n, 0)
-}
-
-// Where the item of a card begins in the store's text, and how long it is.
-fn item_start(words: &[u32], n: usize) -> usize
-    ensures { λ r. ⌜ r ≡ itemStart (now (words .entry)) n ⌝ }
-{
-    card_word(words, n, 1) as usize
-}
-
-fn item_size(words: &[u32], n: usize) -> usize
-    ensures { λ r. ⌜ r ≡ itemSize (now (words .entry)) n ⌝ }
-{
-    card_word(words, n, 2) as usize
+    card_word(words, n, ast::CARD_KIND)
 }
 
 // Where the name of a card begins in the store's text, and how long it is.
 pub fn name_start(words: &[u32], n: usize) -> usize
     ensures { λ r. ⌜ r ≡ nameStart (now (words .entry)) n ⌝ }
 {
-    card_word(words, n, 3) as usize
+    card_word(words, n, ast::CARD_NAME_AT) as usize
 }
 
 pub fn name_size(words: &[u32], n: usize) -> usize
     ensures { λ r. ⌜ r ≡ nameSize (now (words .entry)) n ⌝ }
 {
-    card_word(words, n, 4) as usize
-}
-
-pub fn item_of<'a>(text: &'a [u8], words: &[u32], n: usize) -> &'a [u8]
-    ensures { λ r. ⌜ now r ≡ cardItem (now (text .entry)) (now (words .entry)) n ⌝ }
-{
-    name::bytes_at(text, item_start(words, n), item_size(words, n))
+    card_word(words, n, ast::CARD_NAME_LEN) as usize
 }
 
 pub fn name_of<'a>(text: &'a [u8], words: &[u32], n: usize) -> &'a [u8]

@@ -1,4 +1,10 @@
 // Which document a card is from: whether that is document 0, and whether the ignore switch was on when it was filed.
+use ast::word;
+use definition::layout::DOCUMENT_CARD_COUNT;
+use definition::layout::DOCUMENT_COUNT;
+use definition::layout::DOCUMENT_IGNORED;
+use definition::layout::DOCUMENT_WORDS;
+use definition::layout::DOCUMENTS_AT;
 ghost use mathlib.Core.Path.{_≡_};
 ghost use Rattle.store_reader.specs.Stored.{builtInCount, builtInAt, ignoredAt};
 
@@ -6,7 +12,7 @@ ghost use Rattle.store_reader.specs.Stored.{builtInCount, builtInAt, ign
 pub fn built_in_count(words: &[u32]) -> usize
     ensures { λ r. ⌜ r ≡ builtInCount (now (words .entry)) ⌝ }
 {
-    crate::word(words, 7) as usize
+    word(words, DOCUMENTS_AT + DOCUMENT_CARD_COUNT) as usize
 }
 
 pub fn built_in_at(words: &[u32], n: usize) -> bool
@@ -19,13 +25,14 @@ pub fn built_in_at(words: &[u32], n: usize) -> bool
 pub fn ignored_at(words: &[u32], n: usize) -> bool
     ensures { λ r. ⌜ r ≡ ignoredAt (now (words .entry)) n ⌝ }
 {
-    let rows = crate::word(words, 0) as usize;
+    let rows = word(words, DOCUMENT_COUNT) as usize;
     let mut left = n;
     let mut i = 0;
     while i < rows {
-        let count = crate::word(words, 5 + 4 * i + 2) as usize;
+        let row = DOCUMENTS_AT + DOCUMENT_WORDS * i;
+        let count = word(words, row + DOCUMENT_CARD_COUNT) as usize;
         if left < count {
-            return crate::word(words, 5 + 4 * i + 3) == 1;
+            return word(words, row + DOCUMENT_IGNORED) == 1;
         }
         left -= count;
         i += 1;

@@ -1,11 +1,9 @@
 // A reader of a store's cards. Each of its functions takes it apart and calls one on plain slices, so compiled code is that of those.
-use crate::heading_from;
-use crate::card_words::card_after;
-use crate::card_words::item_of;
 use crate::card_words::kind_of;
 use crate::card_words::name_of;
+use crate::heading_after;
 ghost use mathlib.Core.Path.{_≡_};
-ghost use Rattle.store_reader.specs.Stored.{cardKind, cardItem, cardName, nextCard, nextHeading};
+ghost use Rattle.store_reader.specs.Stored.{cardKind, cardName, nextHeading};
 
 // Holds the store's text and words, and a card's number as its place.
 pub struct CardReader<'a, 'b> {
@@ -16,7 +14,9 @@ pub struct CardReader<'a, 'b> {
 
 impl<'a, 'b> CardReader<'a, 'b> {
     pub fn at(text: &'a [u8], words: &'b [u32], card: usize) -> CardReader<'a, 'b>
-        ensures { λ r. ⌜ (r .text ≡ text .entry) × (r .words ≡ words .entry) × (r .card ≡ card) ⌝ }
+        ensures { λ r. ⌜ (r .text ≡ text .entry)
+            × (r .words ≡ words .entry)
+            × (r .card ≡ card) ⌝ }
     {
         CardReader { text, words, card }
     }
@@ -27,41 +27,17 @@ impl<'a, 'b> CardReader<'a, 'b> {
         kind_of(self.words, self.card)
     }
 
-    pub fn item(self) -> &'a [u8]
-        ensures { λ r. ⌜ now r ≡ cardItem (now (self .entry .text)) (now (self .entry .words)) (self .entry .card) ⌝ }
-    {
-        item_of(self.text, self.words, self.card)
-    }
-
     pub fn name(self) -> &'a [u8]
         ensures { λ r. ⌜ now r ≡ cardName (now (self .entry .text)) (now (self .entry .words)) (self .entry .card) ⌝ }
     {
         name_of(self.text, self.words, self.card)
     }
 
-    // Moved to the next card, or to the end.
-    pub fn next(self) -> CardReader<'a, 'b>
-        ensures { λ r. ⌜ (r .text ≡ self .entry .text) × (r .words ≡ self .entry .words) × (r .card ≡ nextCard (now (self .entry .words)) (self .entry .card)) ⌝ }
+    // The place of the next heading, or the end.
+    pub fn next_heading(self) -> usize
+        ensures { λ r. ⌜ r ≡ nextHeading (now (self .entry .words)) (self .entry .card) ⌝ }
     {
-        let card = card_after(self.words, self.card);
-        CardReader {
-            text: self.text,
-            words: self.words,
-            card,
-        }
-    }
-
-    // Moved to the next heading, or to the end.
-    pub fn next_heading(self) -> CardReader<'a, 'b>
-        ensures { λ r. ⌜ (r .text ≡ self .entry .text) × (r .words ≡ self .entry .words) × (r .card ≡ nextHeading (now (self .entry .words)) (self .entry .card)) ⌝ }
-    {
-        let after = self.next();
-        let card = heading_from(after.words, after.card);
-        CardReader {
-            text: after.text,
-            words: after.words,
-            card,
-        }
+        heading_after(self.words, self.card)
     }
 }
 
@@ -75,5 +51,5 @@ pub fn read_kind(text: &[u8], words: &[u32], card: usize) -> u32
 pub fn read_next_heading(text: &[u8], words: &[u32], card: usize) -> usize
     ensures { λ r. ⌜ r ≡ nextHeading (now (words .entry)) card ⌝ }
 {
-    CardReader::at(text, words, card).next_heading().card
+    CardReader::at(text, words, card).next_heading()
 }

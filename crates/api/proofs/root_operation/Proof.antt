@@ -1,12 +1,12 @@
 use mathlib.Core.Path.{sym, _∙_}
-use Rattle.api.proofs.RefusalsRefused.{unrefused}
-use Rattle.api.proofs.Roots.{root-refused, root-done}
+use Rattle.api.proofs.LookupRefusal.{unrefused}
+use Rattle.api.proofs.RootOutcomes.{root-refused, root-done}
 use borrow.Author.Needs.{needs}
 use Rattle.api.proofs.root_operation.Statement.{statement}
 use Rattle.api.proofs.root_operation.Tie as tie
 
-refusal-requires : tie.Need-refusal-requires
-refusal-requires c κs = search needs
+lookup-refusal-requires : tie.Need-lookup-refusal-requires
+lookup-refusal-requires c κs = search needs
 
 sub-result : tie.Need-sub-result
 sub-result c = search needs
@@ -18,21 +18,21 @@ part-result-end : tie.Need-part-result-end
 part-result-end c = search needs
 
 returns : tie.Need-returns
-returns c = root-refused _ _ _ _ _ (c .before .before .refusal .ensures) (c .before .if1 .taken)
+returns c = root-refused _ _ _ _ _ (c .before .before .lookup-refusal .ensures) (c .before .if1 .taken)
 
 root-operation-requires : tie.Need-root-operation-requires
 root-operation-requires c κs =
-    let u = unrefused _ _ _ (sym (c .before .refusal .ensures) ∙ c .if1 .left) in
+    let u = unrefused _ _ _ (sym (c .before .lookup-refusal .ensures) ∙ c .if1 .left) in
     (u .sound, u .long)
 
 returns-2 : tie.Need-returns-2
-returns-2 c = root-done _ _ _ _ _ (c .before .before .refusal .ensures) (c .before .if1 .left) _ (c .root-operation .ensures)
+returns-2 c = root-done _ _ _ _ _ (c .before .before .lookup-refusal .ensures) (c .before .if1 .left) _ (c .root-operation .ensures)
 
 pub root-operation-spec : {M : Type 1} → statement M
 root-operation-spec =
     tie.close
     (tie.spec
-    refusal-requires
+    lookup-refusal-requires
     sub-result
     part-result-start
     part-result-end

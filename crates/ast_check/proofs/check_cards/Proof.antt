@@ -22,7 +22,10 @@ fault-after-requires : tie.Need-fault-after-requires Inv-loop μ-loop
 fault-after-requires c κs = search needs
 
 returns : tie.Need-returns Inv-loop μ-loop
-returns c = sym (c .before .before .before .before .loop .inv .1 ∙ faults-hit _ _ _ _ _ _ _ _ (c .before .before .before .loop-test .taken) (c .before .before .card-at .ensures) (c .before .fault-after .ensures) (c .if1 .taken))
+returns c =
+    let turn = c .before .before .before in
+    let hit = faults-hit _ _ _ _ _ _ _ _ (turn .loop-test .taken) (c .before .before .card-at .ensures) (c .before .fault-after .ensures) (c .if1 .taken) in
+    sym (turn .before .loop .inv .1 ∙ hit)
 
 next-neighbours-requires : tie.Need-next-neighbours-requires Inv-loop μ-loop
 next-neighbours-requires c κs = search needs
@@ -34,7 +37,14 @@ loop-less : tie.Need-loop-less Inv-loop μ-loop
 loop-less c = search needs
 
 loop-again : tie.Need-loop-again Inv-loop μ-loop
-loop-again c = (search needs, c .before .before .before .before .before .loop .inv .1 ∙ faults-next _ _ _ _ _ _ _ _ (c .before .before .before .before .loop-test .taken) (c .before .before .before .card-at .ensures) (c .before .before .fault-after .ensures) (c .before .if1 .left) ∙ ap (faultsFrom _ _ _ _ _) (sym (c .next-neighbours .ensures)))
+loop-again c =
+    let turn = c .before .before .before .before in (
+      search needs,
+      turn .before .loop .inv .1
+          ∙ faults-next _ _ _ _ _ _ _ _ (turn .loop-test .taken) (c .before .before .before .card-at .ensures) (c .before .before .fault-after .ensures)
+          (c .before .if1 .left)
+          ∙ ap (faultsFrom _ _ _ _ _) (sym (c .next-neighbours .ensures)),
+    )
 
 returns-2 : tie.Need-returns-2 Inv-loop μ-loop
 returns-2 c = sym (c .before .loop .inv .1 ∙ faults-end _ _ _ _ _ _ (c .loop-test .left))

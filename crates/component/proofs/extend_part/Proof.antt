@@ -16,13 +16,17 @@ card-kind-requires c κs = search needs
 returns : tie.Need-returns
 returns c =
     let e = c .before .before .before .before .before .before .args in
-    part-skip (e .text .now) (e .words .now) (e .origin) (e .kind) (e .card) (e .start) (filled (e .rows .now) (e .used)) (λ q. c .if1 .taken (c .before .card-kind .ensures ∙ q))
+    part-skip (e .text .now) (e .words .now) (e .origin) (e .kind) (e .card) (e .start) (filled (e .rows .now) (e .used))
+    (λ q. c .if1 .taken (c .before .card-kind .ensures ∙ q))
 
 extend-sticky-requires : tie.Need-extend-sticky-requires
 extend-sticky-requires c κs =
-    let e = c .before .before .before .before .before .before .before .args in
-    let u = ap (λ (t : Filled). t .used) (part-take (e .text .now) (e .words .now) (e .origin) (e .kind) (e .card) (e .start) (filled (e .rows .now) (e .used)) (sym (c .before .before .card-kind .ensures) ∙ c .before .if1 .left)) in
-    (c .before .before .before .before .before .before .before .pre .0, c .before .before .before .before .before .before .before .pre .1, omega arith)
+    let s = c .before .before .before .before .before .before .before in
+    let e = s .args in
+    let is = sym (c .before .before .card-kind .ensures) ∙ c .before .if1 .left in
+    let u =
+    ap (λ (t : Filled). t .used) (part-take (e .text .now) (e .words .now) (e .origin) (e .kind) (e .card) (e .start) (filled (e .rows .now) (e .used)) is) in
+    (s .pre .0, omega (arith, s .pre .1))
 
 same-length : tie.Need-same-length
 same-length c = search needs
@@ -30,7 +34,9 @@ same-length c = search needs
 returns-2 : tie.Need-returns-2
 returns-2 c =
     let e = c .before .before .before .before .before .before .before .before .before .before .args in
-    c .before .before .extend-sticky .ensures ∙ sym (part-take (e .text .now) (e .words .now) (e .origin) (e .kind) (e .card) (e .start) (filled (e .rows .now) (e .used)) (sym (c .before .before .before .before .before .card-kind .ensures) ∙ c .before .before .before .before .if1 .left))
+    let is = sym (c .before .before .before .before .before .card-kind .ensures) ∙ c .before .before .before .before .if1 .left in
+    c .before .before .extend-sticky .ensures
+    ∙ sym (part-take (e .text .now) (e .words .now) (e .origin) (e .kind) (e .card) (e .start) (filled (e .rows .now) (e .used)) is)
 
 pub extend-part-spec : {M : Type 1} → statement M
 extend-part-spec =

@@ -4,7 +4,7 @@ use mathlib.Core.Logic.{⊎-elim}
 use Rattle.definition.specs.Lists.{any}
 use Rattle.definition.specs.Catalogue.{row}
 use Rattle.component.specs.Pushed.{alikeRows, usedFrom, rowsFrom}
-use Rattle.component.specs.Drawn.{sameStored}
+use Rattle.component.specs.RowsByCards.{sameStored}
 use Rattle.component.proofs.Turns.{listed-use, listed-root, listed-hit, listed-miss, listed-other, listed-end}
 use Rattle.component.proofs.is_listed.Statement.{statement}
 use Rattle.component.proofs.is_listed.Tie as tie
@@ -14,10 +14,12 @@ use Rattle.component.proofs.is_listed.Lts as lts
 use Rattle.component.proofs.same_stored.Reads as same-stored-reads
 
 abbrev Inv-loop : tie.InvT-loop
-Inv-loop text words prints rows start used kind card i₀ i = any (alikeRows (sameStored text words) (row kind card 0)) (rowsFrom rows start (used - start)) ≡ any (alikeRows (sameStored text words) (row kind card 0)) (rowsFrom rows i (used - i))
+Inv-loop text words hashes rows start used kind card i₀ i =
+    any (alikeRows (sameStored text words) (row kind card 0)) (rowsFrom rows start (used - start))
+    ≡ any (alikeRows (sameStored text words) (row kind card 0)) (rowsFrom rows i (used - i))
 
 abbrev μ-loop : tie.MeasureT-loop
-μ-loop text words prints rows start used kind card i₀ i = used - i
+μ-loop text words hashes rows start used kind card i₀ i = used - i
 
 returns : tie.Need-returns Inv-loop μ-loop
 returns c = sym (listed-use _ _ _ _ (c .if1 .taken))
@@ -34,9 +36,15 @@ mul-if2-2 c = search needs
 shared-slice-read-if2 : tie.Need-shared-slice-read-if2 Inv-loop μ-loop
 shared-slice-read-if2 c = search needs
 
+is-root-requires : tie.Need-is-root-requires Inv-loop μ-loop
+is-root-requires c κs = search needs
+
 returns-2 : tie.Need-returns-2 Inv-loop μ-loop
 unfolding usedFrom
-returns-2 c = sym (c .before .before .before .before .loop .inv ∙ listed-root _ _ _ _ _ _ (c .before .before .before .loop-test .taken) (c .before .if2 .taken) (c .if3 .taken) (c .before .before .before .before .before .before .before .before .before .before .pre .2))
+returns-2 c =
+    let root = sym (c .before .is-root .ensures) ∙ c .if3 .taken in
+    sym (c .before .before .before .before .before .loop .inv ∙ listed-root _ _ _ _ _ _ (c .before .before .before .before .loop-test .taken)
+    (c .before .before .if2 .taken) root)
 
 mul-same-stored : tie.Need-mul-same-stored Inv-loop μ-loop
 mul-same-stored c = search needs
@@ -55,7 +63,13 @@ same-stored-requires c κs = search needs
 
 returns-3 : tie.Need-returns-3 Inv-loop μ-loop
 unfolding usedFrom
-returns-3 c = sym (c .before .before .before .before .before .before .before .loop .inv ∙ listed-hit _ _ _ _ _ _ (c .before .before .before .before .before .before .loop-test .taken) (c .before .before .before .before .if2 .taken) (c .before .before .before .if3 .left) (c .before .before .before .before .before .before .before .before .if1 .left) (sym (c .before .same-stored .ensures) ∙ c .if4 .taken))
+returns-3 c =
+    let root = sym (c .before .before .before .before .is-root .ensures) ∙ c .before .before .before .if3 .left in
+    let same = sym (c .before .same-stored .ensures) ∙ c .if4 .taken in
+    sym (c .before .before .before .before .before .before .before .before .loop .inv
+    ∙ listed-hit _ _ _ _ _ _ (c .before .before .before .before .before .before .before .loop-test .taken)
+    (c .before .before .before .before .before .if2 .taken) root (c .before .before .before .before .before .before .before .before .before .if1 .left)
+    same)
 
 add-i : tie.Need-add-i Inv-loop μ-loop
 add-i c = search needs
@@ -65,9 +79,11 @@ loop-less c = search needs
 
 loop-again : tie.Need-loop-again Inv-loop μ-loop
 loop-again c =
+    let h = c .before .before .loop-test .taken in
     c .before .before .before .loop .inv ∙ ⊎-elim
-    (λ w. listed-miss _ _ _ _ _ _ (c .before .before .loop-test .taken) (w .0 .taken) (w .1 .left) (c .before .before .before .before .if1 .left) (sym (w .3 .ensures) ∙ w .4 .left))
-    (λ w. listed-other _ _ _ _ _ _ (c .before .before .loop-test .taken) (w .left))
+    (λ w. listed-miss _ _ _ _ _ _ h (w .0 .taken) (sym (w .1 .ensures) ∙ w .2 .left) (c .before .before .before .before .if1 .left)
+    (sym (w .4 .ensures) ∙ w .5 .left))
+    (λ w. listed-other _ _ _ _ _ _ h (w .left))
     (c .if2 .came)
 
 returns-4 : tie.Need-returns-4 Inv-loop μ-loop
@@ -85,6 +101,7 @@ is-listed-spec =
     mul-if2
     mul-if2-2
     shared-slice-read-if2
+    is-root-requires
     returns-2
     mul-same-stored
     add-same-stored

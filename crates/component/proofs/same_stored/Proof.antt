@@ -16,13 +16,19 @@ returns : tie.Need-returns
 returns c = let n = c .before .cards-used .ensures in sym (stored-not-first _ _ _ _ (omega arith))
 
 returns-2 : tie.Need-returns-2
-returns-2 c = let n = c .before .before .cards-used .ensures in sym (stored-not-second _ _ _ _ (omega arith) (omega arith))
+returns-2 c =
+    let n = c .before .before .cards-used .ensures in
+    sym (stored-not-second _ _ _ _ (omega arith) (omega arith))
 
 same-cards-requires : tie.Need-same-cards-requires
-same-cards-requires c κs = let n = c .before .before .cards-used .ensures in (c .before .before .before .before .before .before .pre, omega arith, omega arith)
+same-cards-requires c κs =
+    let n = c .before .before .cards-used .ensures in
+    (c .before .before .before .before .before .before .pre, omega arith, omega arith)
 
 returns-3 : tie.Need-returns-3
-returns-3 c = let n = c .before .before .before .cards-used .ensures in c .same-cards .ensures ∙ sym (stored-both _ _ _ _ (omega arith) (omega arith))
+returns-3 c =
+    let n = c .before .before .before .cards-used .ensures in
+    c .same-cards .ensures ∙ sym (stored-both _ _ _ _ (omega arith) (omega arith))
 
 pub same-stored-spec : {M : Type 1} → statement M
 same-stored-spec =

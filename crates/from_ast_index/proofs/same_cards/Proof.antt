@@ -1,4 +1,4 @@
--- Where fingerprints differ, so do the names.
+-- Where hashes differ, so do the names.
 use mathlib.Core.Path.{sym}
 use Rattle.from_ast_index.proofs.Search.{cards-differ}
 use Rattle.from_ast_index.proofs.same_cards.Statement.{statement}
@@ -20,7 +20,8 @@ shared-slice-read-if1-2 c = search needs
 returns : tie.Need-returns
 returns c =
     let s = c .before .before .before .before .before .before in
-    sym (cards-differ (s .args .text .now) (s .args .words .now) (s .args .prints .now) (s .pre .0) (s .args .a) (s .args .b) (s .pre .1) (s .pre .2) (c .if1 .taken))
+    sym (cards-differ (s .args .text .now) (s .args .words .now) (s .args .hashes .now) (s .pre .0) (s .args .a) (s .args .b) (s .pre .1) (s .pre .2)
+    (c .if1 .taken))
 
 same-names-requires : tie.Need-same-names-requires
 same-names-requires c κs = search needs

@@ -5,34 +5,52 @@ use mathlib.Core.Path.{_≡_, _∙_, refl}
 use lib.ListN.{length, length-set}
 use Rattle.definition.specs.Store.{cardsUsed}
 use Rattle.store_reader.proofs.Words.{next-after}
-use Rattle.from_ast_indexing.proofs.Heads.{HeadsSoFar, heads-start, heads-turn, heads-done}
+use Rattle.from_ast_indexing.proofs.Headings.{HeadingsSoFar, headings-begin, headings-turn, headings-done}
 use Rattle.from_ast_indexing.proofs.index_headings.Statement.{statement}
 use Rattle.from_ast_indexing.proofs.index_headings.Tie as tie
 use borrow.Author.Needs.{needs}
 
 abbrev Inv-loop : tie.InvT-loop
-Inv-loop words heads₀ used count₀ card₀ heads count card = HeadsSoFar words heads count card × (used ≡ cardsUsed words) × (length heads ≡ length heads₀)
+Inv-loop words headings₀ used count₀ card₀ headings count card = HeadingsSoFar words headings count card × (used ≡ cardsUsed words)
+    × (length headings ≡ length headings₀)
 
 abbrev μ-loop : tie.MeasureT-loop
-μ-loop words heads₀ used count₀ card₀ heads count card = used - card
+μ-loop words headings₀ used count₀ card₀ headings count card = used - card
 
 cards-used-requires : tie.Need-cards-used-requires Inv-loop μ-loop
 cards-used-requires c κs = search needs
 
 loop-holds : tie.Need-loop-holds Inv-loop μ-loop
-loop-holds c = (heads-start _ _ (c .before .before .before .pre), c .cards-used .ensures, refl)
+loop-holds c = (headings-begin _ _ (c .before .before .before .pre), c .cards-used .ensures, refl)
 
-cast-heads : tie.Need-cast-heads Inv-loop μ-loop
-cast-heads c = let i = c .before .loop .inv in omega (arith, i .0 .inside, c .before .before .before .before .before .pre .cards-most)
+cast-headings : tie.Need-cast-headings Inv-loop μ-loop
+cast-headings c =
+    let i = c .before .loop .inv in
+    omega (arith, i .0 .inside, c .before .before .before .before .before .pre .cards-most)
 
-mul-heads : tie.Need-mul-heads Inv-loop μ-loop
-mul-heads c = let i = c .before .loop .inv in omega (arith, i .0 .inside, i .0 .count-most, i .2, c .before .before .before .before .before .pre .heads-room, c .before .before .before .before .before .pre .cards-most)
+mul-headings : tie.Need-mul-headings Inv-loop μ-loop
+mul-headings c = let i = c .before .loop .inv in omega (
+  arith,
+  i .0 .inside,
+  i .0 .count-most,
+  i .2,
+  c .before .before .before .before .before .pre .headings-capacity,
+  c .before .before .before .before .before .pre .cards-most,
+)
 
-slice-write-heads : tie.Need-slice-write-heads Inv-loop μ-loop
-slice-write-heads c = let i = c .before .loop .inv in omega (arith, i .0 .inside, i .0 .count-most, i .2, c .before .before .before .before .before .pre .heads-room)
+slice-write-headings : tie.Need-slice-write-headings Inv-loop μ-loop
+slice-write-headings c = let i = c .before .loop .inv in omega (
+  arith,
+  i .0 .inside,
+  i .0 .count-most,
+  i .2,
+  c .before .before .before .before .before .pre .headings-capacity,
+)
 
 add-count : tie.Need-add-count Inv-loop μ-loop
-add-count c = let i = c .before .loop .inv in omega (arith, i .0 .inside, i .0 .count-most, c .before .before .before .before .before .pre .cards-most)
+add-count c =
+    let i = c .before .loop .inv in
+    omega (arith, i .0 .inside, i .0 .count-most, c .before .before .before .before .before .pre .cards-most)
 
 next-heading-requires : tie.Need-next-heading-requires Inv-loop μ-loop
 next-heading-requires c κs = search needs
@@ -40,7 +58,8 @@ next-heading-requires c κs = search needs
 loop-less : tie.Need-loop-less Inv-loop μ-loop
 loop-less c =
     let l = c .before .before .loop in
-    let a = next-after (c .before .before .before .before .before .before .args .words .now) (l .card) (omega (arith, c .before .loop-test .taken, l .inv .1)) in
+    let a = next-after (c .before .before .before .before .before .before .args .words .now) (l .card)
+    (omega (arith, c .before .loop-test .taken, l .inv .1)) in
     omega (arith, a, c .next-heading .ensures, c .before .loop-test .taken)
 
 loop-again : tie.Need-loop-again Inv-loop μ-loop
@@ -48,19 +67,35 @@ loop-again c =
     let s = c .before .before .before .before .before .before in
     let l = c .before .before .loop in
     let h = c .before .loop-test .taken in (
-      rw (c .next-heading .ensures) (heads-turn (s .args .words .now) (l .heads) (l .count) (l .card) (l .inv .0) (omega (arith, h, l .inv .1)) (omega (arith, s .pre .heads-room, l .inv .2))),
+      rw (c .next-heading .ensures) (headings-turn (s .args .words .now) (l .headings) (l .count) (l .card) (l .inv .0) (omega (arith, h, l .inv .1))
+          (omega (arith, s .pre .headings-capacity, l .inv .2))),
       l .inv .1,
       (simp length-set) ∙ l .inv .2,
     )
 
-cast-heads-2 : tie.Need-cast-heads-2 Inv-loop μ-loop
-cast-heads-2 c = let i = c .before .loop .inv in omega (arith, i .1, c .before .before .before .before .before .pre .cards-most)
+cast-headings-2 : tie.Need-cast-headings-2 Inv-loop μ-loop
+cast-headings-2 c =
+    let i = c .before .loop .inv in
+    omega (arith, i .1, c .before .before .before .before .before .pre .cards-most)
 
-mul-heads-2 : tie.Need-mul-heads-2 Inv-loop μ-loop
-mul-heads-2 c = let i = c .before .loop .inv in omega (arith, i .0 .inside, i .0 .count-most, i .2, c .before .before .before .before .before .pre .heads-room, c .before .before .before .before .before .pre .cards-most)
+mul-headings-2 : tie.Need-mul-headings-2 Inv-loop μ-loop
+mul-headings-2 c = let i = c .before .loop .inv in omega (
+  arith,
+  i .0 .inside,
+  i .0 .count-most,
+  i .2,
+  c .before .before .before .before .before .pre .headings-capacity,
+  c .before .before .before .before .before .pre .cards-most,
+)
 
-slice-write-heads-2 : tie.Need-slice-write-heads-2 Inv-loop μ-loop
-slice-write-heads-2 c = let i = c .before .loop .inv in omega (arith, i .0 .inside, i .0 .count-most, i .2, c .before .before .before .before .before .pre .heads-room)
+slice-write-headings-2 : tie.Need-slice-write-headings-2 Inv-loop μ-loop
+slice-write-headings-2 c = let i = c .before .loop .inv in omega (
+  arith,
+  i .0 .inside,
+  i .0 .count-most,
+  i .2,
+  c .before .before .before .before .before .pre .headings-capacity,
+)
 
 same-length : tie.Need-same-length Inv-loop μ-loop
 same-length c = (simp length-set) ∙ c .before .loop .inv .2
@@ -69,7 +104,8 @@ returns : tie.Need-returns Inv-loop μ-loop
 returns c =
     let s = c .before .before .before .before .before in
     let l = c .before .loop in
-    heads-done (s .args .words .now) (l .heads) (l .count) (l .card) (l .inv .0) (omega (arith, c .loop-test .left, l .inv .1)) (omega (arith, s .pre .heads-room, l .inv .2)) _ (l .inv .1)
+    headings-done (s .args .words .now) (l .headings) (l .count) (l .card) (l .inv .0) (omega (arith, c .loop-test .left, l .inv .1))
+    (omega (arith, s .pre .headings-capacity, l .inv .2)) _ (l .inv .1)
 
 pub index-headings-spec : {M : Type 1} → statement M
 index-headings-spec =
@@ -79,15 +115,15 @@ index-headings-spec =
     μ-loop
     cards-used-requires
     loop-holds
-    cast-heads
-    mul-heads
-    slice-write-heads
+    cast-headings
+    mul-headings
+    slice-write-headings
     add-count
     next-heading-requires
     loop-less
     loop-again
-    cast-heads-2
-    mul-heads-2
-    slice-write-heads-2
+    cast-headings-2
+    mul-headings-2
+    slice-write-headings-2
     same-length
     returns)

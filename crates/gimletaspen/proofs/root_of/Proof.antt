@@ -20,7 +20,8 @@ root-operation-requires-3 : tie.Need-root-operation-requires-3
 root-operation-requires-3 c κs = search needs
 
 returns-3 : tie.Need-returns-3
-returns-3 c = c .root-operation3 .ensures ∙ subscription-named _ _ _ _ (c .before .before .before .if1 .left) (c .before .before .if2 .left) (c .before .if3 .taken)
+returns-3 c =
+    c .root-operation3 .ensures ∙ subscription-named _ _ _ _ (c .before .before .before .if1 .left) (c .before .before .if2 .left) (c .before .if3 .taken)
 
 sub-result : tie.Need-sub-result
 sub-result c = search needs

@@ -4,9 +4,6 @@ use lib.ListN.{length}
 use borrow.Author.Needs.{needs}
 use Rattle.listing.proofs.file_documents.Statement.{statement}
 use Rattle.listing.proofs.file_documents.Tie as tie
-use Rattle.listing.proofs.file_documents.Reads as reads
-use Rattle.listing.proofs.file_documents.Lts as lts
-use Rattle.listing.proofs.run_document.Reads as run-document-reads
 
 abbrev Inv-loop : tie.InvT-loop
 Inv-loop switches text₀ words₀ n₀ text words n = (length text ≡ length text₀) × (length words ≡ length words₀)

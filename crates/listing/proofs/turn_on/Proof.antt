@@ -19,13 +19,16 @@ ignore-builtin-redefinitions-requires : tie.Need-ignore-builtin-redefinitions-re
 ignore-builtin-redefinitions-requires c κs = search needs
 
 same-length-2 : tie.Need-same-length-2
-same-length-2 c = ⊎-elim (λ w. let e = ap length (w .7) in let k = w .2 .kept in omega arith) (λ w. let e = ap length (w .1) in omega arith) (c .before .before .before .before .before .if1 .came)
+same-length-2 c =
+    ⊎-elim (λ w. let e = ap length (w .7) in let k = w .2 .kept in omega arith) (λ w. let e = ap length (w .1) in omega arith)
+    (c .before .before .before .before .before .if1 .came)
 
 returns-2 : tie.Need-returns-2
 returns-2 c = search needs
 
 same-length-3 : tie.Need-same-length-3
-same-length-3 c = ⊎-elim (λ w. let e = ap length (w .7) in let k = w .2 .kept in omega arith) (λ w. let e = ap length (w .1) in omega arith) (c .before .if1 .came)
+same-length-3 c =
+    ⊎-elim (λ w. let e = ap length (w .7) in let k = w .2 .kept in omega arith) (λ w. let e = ap length (w .1) in omega arith) (c .before .if1 .came)
 
 returns-3 : tie.Need-returns-3
 returns-3 c = search needs

@@ -1,5 +1,6 @@
 // A document's two files: its text, and its cards as little-endian words.
 use crate::input::files::File;
+use crate::input::files::PATH_CAPACITY;
 use crate::input::files::is_missing;
 use crate::input::files::read_file;
 use crate::output::put::put_name;
@@ -7,7 +8,7 @@ ghost use mathlib.Core.Path.{_≡_};
 ghost use Prim.Native.Nat.{_+_, _*_, _≤_};
 ghost use lib.ListN.{length};
 ghost use Rattle.program_io.specs.Text.{Put};
-ghost use Rattle.program_io.specs.Input.{Lies, littleEndian, wordsOf};
+ghost use Rattle.program_io.specs.Input.{folderCapacity, pathCapacity, Lies, littleEndian, wordsOf};
 
 pub enum Document {
     // Its text and its card words stand at the front of their buffers.
@@ -28,11 +29,12 @@ pub fn read_document(
     bytes: &mut [u8],
     cards: &mut [u32],
 ) -> Document
-    requires { ⌜ (length (now folder) ≤ 24) × (length (now bytes) ≤ 4 * length (now cards) + 1) ⌝ }
+    requires { ⌜ (length (now folder) ≤ folderCapacity)
+        × (length (now bytes) ≤ 4 * length (now cards) + 1) ⌝ }
     ensures { λ r. ⌜ Lies r (length (now (text .entry))) (length (now (cards .entry))) ⌝ }
 {
-    let mut txt_name = [0u8; 64];
-    let mut crd_name = [0u8; 64];
+    let mut txt_name = [0u8; PATH_CAPACITY];
+    let mut crd_name = [0u8; PATH_CAPACITY];
     let a = put_name(folder, b"d", n, b".txt", &mut txt_name);
     let b = put_name(folder, b"d", n, b".crd", &mut crd_name);
     let txt = &txt_name[..a];
@@ -53,7 +55,9 @@ fn read_both(
     bytes: &mut [u8],
     cards: &mut [u32],
 ) -> Document
-    requires { ⌜ (length (now txt) ≤ 64) × (length (now crd) ≤ 64) × (length (now bytes) ≤ 4 * length (now cards) + 1) ⌝ }
+    requires { ⌜ (length (now txt) ≤ pathCapacity)
+        × (length (now crd) ≤ pathCapacity)
+        × (length (now bytes) ≤ 4 * length (now cards) + 1) ⌝ }
     ensures { λ r. ⌜ Lies r (length (now (text .entry))) (length (now (cards .entry))) ⌝ }
 {
     let larger = b" is larger than 1048576 bytes";

@@ -1,9 +1,12 @@
 // Reading whole files. What goes wrong is told on standard error where it happens, with the file's name.
-use libc::STDERR_FILENO;
 use crate::output::put::put_bytes;
+use libc::STDERR_FILENO;
 ghost use Prim.Native.Nat.{_≤_};
 ghost use lib.ListN.{length};
-ghost use Rattle.program_io.specs.Input.{Within};
+ghost use Rattle.program_io.specs.Input.{pathCapacity, Within};
+
+// The bytes that a path may have.
+pub const PATH_CAPACITY: usize = 64;
 
 // How many bytes a file has, which stand at the front of a buffer, or that it was told why there are none.
 pub enum File {
@@ -23,7 +26,7 @@ pub fn is_missing(path: &[u8]) -> bool {
 
 // Reads a file of fewer bytes than the buffer has; of one that has as many or more, `larger` is told.
 pub fn read_file(path: &[u8], larger: &[u8], buffer: &mut [u8]) -> File
-    requires { ⌜ length (now path) ≤ 64 ⌝ }
+    requires { ⌜ length (now path) ≤ pathCapacity ⌝ }
     ensures { λ r. ⌜ Within r (length (now (buffer .entry))) ⌝ }
 {
     let fd = os::open_read(path);
@@ -37,7 +40,7 @@ pub fn read_file(path: &[u8], larger: &[u8], buffer: &mut [u8]) -> File
 }
 
 fn read_open(fd: i32, path: &[u8], larger: &[u8], buffer: &mut [u8]) -> File
-    requires { ⌜ length (now path) ≤ 64 ⌝ }
+    requires { ⌜ length (now path) ≤ pathCapacity ⌝ }
     ensures { λ r. ⌜ Within r (length (now (buffer .entry))) ⌝ }
 {
     let mut done = 0;
@@ -66,7 +69,7 @@ pub fn tell(path: &[u8], wrong: &[u8]) {
 
 // The same with the system's reason for the call that failed last, so nothing else is called before it is asked.
 fn tell_why(path: &[u8])
-    requires { ⌜ length (now path) ≤ 64 ⌝ }
+    requires { ⌜ length (now path) ≤ pathCapacity ⌝ }
 {
     let mut line = [0u8; 96];
     let at = put_bytes(path, &mut line, 0);

@@ -3,12 +3,13 @@
 use definition::ABSENT;
 use definition::Answer;
 use definition::Drawing;
+use definition::layout::ROW_WORDS;
 ghost use mathlib.Core.Path.{_≡_};
 ghost use mathlib.Core.List.{[], _∷_};
 ghost use Prim.Native.Nat.{_+_, _*_, _^_, _<_, _≤_};
 ghost use lib.ListN.{length, take};
 ghost use Rattle.program_io.specs.Text.{Put, decimal};
-ghost use Rattle.program_io.specs.Listing.{word, line, lines, counts, refused, rowsShown, errorsShown, listing, fileName};
+ghost use Rattle.program_io.specs.Listing.{word, line, lines, counts, refused, rowsShown, errorsShown, listing, listingCapacity, fileName};
 
 pub fn put_byte(b: u8, out: &mut [u8], at: usize) -> usize
     requires { ⌜ at < length (now out) ⌝ }
@@ -36,10 +37,10 @@ pub fn put_decimal(n: usize, out: &mut [u8], at: usize) -> usize
     ensures { λ r. ⌜ Put (now (out .entry)) at (decimal n) (now (out .exit)) r ⌝ }
 {
     if n < 10 {
-        return put_byte(48 + n as u8, out, at);
+        return put_byte(b'0' + n as u8, out, at);
     }
     let next = put_decimal(n / 10, out, at);
-    put_byte(48 + (n % 10) as u8, out, next)
+    put_byte(b'0' + (n % 10) as u8, out, next)
 }
 
 pub fn put_word(w: u32, out: &mut [u8], at: usize) -> usize
@@ -74,9 +75,9 @@ fn put_lines(rows: &[u32], out: &mut [u8], at: usize) -> usize
 {
     let mut end = at;
     let mut i = 0;
-    while rows.len() - i >= 3 {
+    while rows.len() - i >= ROW_WORDS {
         end = put_line(rows[i], rows[i + 1], rows[i + 2], out, end);
-        i += 3;
+        i += ROW_WORDS;
     }
     end
 }
@@ -105,10 +106,10 @@ pub fn put_refusal(answer: Answer, out: &mut [u8]) -> usize
 fn first_rows(rows: &[u32], count: usize) -> &[u32]
     ensures { λ r. ⌜ now r ≡ take (3 * count) (now (rows .entry)) ⌝ }
 {
-    if rows.len() / 3 < count {
+    if rows.len() / ROW_WORDS < count {
         return rows;
     }
-    &rows[..3 * count]
+    &rows[..ROW_WORDS * count]
 }
 
 // The drawn rows under their count.
@@ -125,7 +126,8 @@ fn put_rows(count: usize, rows: &[u32], out: &mut [u8]) -> usize
 
 // The errors, those while reading documents first, under both counts.
 fn put_errors(reading: usize, drawing: usize, errors: &[u32], out: &mut [u8], at: usize) -> usize
-    requires { ⌜ (reading + drawing < 2 ^ 64) × (at + 11 * length (now errors) + 49 ≤ length (now out)) ⌝ }
+    requires { ⌜ (reading + drawing < 2 ^ 64)
+        × (at + 11 * length (now errors) + 49 ≤ length (now out)) ⌝ }
     ensures { λ r. ⌜ Put (now (out .entry)) at (errorsShown reading drawing (now (errors .entry))) (now (out .exit)) r ⌝ }
 {
     let at = put_counts(b"errors ", reading, drawing, out, at);
@@ -133,7 +135,7 @@ fn put_errors(reading: usize, drawing: usize, errors: &[u32], out: &mut [u8], at
 }
 
 pub fn put_listing(d: Drawing, rows: &[u32], errors: &[u32], out: &mut [u8]) -> usize
-    requires { ⌜ 11 * (length (now rows) + length (now errors)) + 75 ≤ length (now out) ⌝ }
+    requires { ⌜ listingCapacity (length (now rows) + length (now errors)) ≤ length (now out) ⌝ }
     ensures { λ r. ⌜ Put (now (out .entry)) 0 (listing d (now (rows .entry)) (now (errors .entry))) (now (out .exit)) r ⌝ }
 {
     let number = d.number;
@@ -153,7 +155,8 @@ pub fn put_listing(d: Drawing, rows: &[u32], errors: &[u32], out: &mut [u8]) -> 
 // The name of a numbered file: its folder, a stem, the number and an ending.
 pub fn put_name(folder: &[u8], stem: &[u8], n: usize, ending: &[u8], out: &mut [u8]) -> usize
     requires { ⌜ length (now folder) + length (now stem) + 20 + length (now ending) ≤ length (now out) ⌝ }
-    ensures { λ r. ⌜ Put (now (out .entry)) 0 (fileName (now (folder .entry)) (now (stem .entry)) n (now (ending .entry))) (now (out .exit)) r ⌝ }
+    ensures { λ r. ⌜ Put (now (out .entry)) 0 (fileName (now (folder .entry)) (now (stem .entry)) n (now (ending .entry)))
+        (now (out .exit)) r ⌝ }
     ensures { λ r. ⌜ r ≤ length (now (folder .entry)) + length (now (stem .entry)) + 20 + length (now (ending .entry)) ⌝ }
 {
     let at = put_bytes(folder, out, 0);

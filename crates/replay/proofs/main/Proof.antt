@@ -1,16 +1,12 @@
 use Prim.Native.Nat.{_*_, _-_, _≤_}
-use native.Mathlib.Omega.{arith}
+use Rattle.replay_calls.specs.LineWords.{callsCapacity}
 use Rattle.replay.proofs.Counted.{few-ran}
 use Rattle.replay.proofs.main.Statement.{statement}
 use Rattle.replay.proofs.main.Tie as tie
 use borrow.Author.Needs.{needs}
-use Rattle.replay.proofs.main.Reads as reads
-use Rattle.replay.proofs.main.Lts as lts
-use Rattle.replay.proofs.expected.report.print_total.Reads as print-total-reads
-use Rattle.replay.proofs.run_case.Reads as run-case-reads
 
 abbrev Inv-loop : tie.InvT-loop
-Inv-loop total₀ cases₀ total cases = (total .calls ≤ 262144 * cases) × (total .failures ≤ 262144 * cases) × (cases ≤ 1099511627776)
+Inv-loop total₀ cases₀ total cases = (total .calls ≤ callsCapacity * cases) × (total .failures ≤ callsCapacity * cases) × (cases ≤ 1099511627776)
 
 abbrev μ-loop : tie.MeasureT-loop
 μ-loop total₀ cases₀ total cases = 1099511627776 - cases
@@ -31,7 +27,10 @@ add-t6 : tie.Need-add-t6 Inv-loop μ-loop
 add-t6 c = let f = few-ran (c .before .before .before .tally .given .1) (c .before .before .before .before .before .run-case .ensures) in search needs
 
 add-t7 : tie.Need-add-t7 Inv-loop μ-loop
-add-t7 c = let f = few-ran (c .before .before .before .before .before .tally .given .1) (c .before .before .before .before .before .before .before .run-case .ensures) in search needs
+add-t7 c =
+    let f = few-ran (c .before .before .before .before .before .tally .given .1)
+    (c .before .before .before .before .before .before .before .run-case .ensures) in
+    search needs
 
 add-cases : tie.Need-add-cases Inv-loop μ-loop
 add-cases c = search needs
@@ -40,7 +39,10 @@ loop-less : tie.Need-loop-less Inv-loop μ-loop
 loop-less c = search needs
 
 loop-again : tie.Need-loop-again Inv-loop μ-loop
-loop-again c = let f = few-ran (c .before .before .before .before .before .tally .given .1) (c .before .before .before .before .before .before .before .run-case .ensures) in search needs
+loop-again c =
+    let f = few-ran (c .before .before .before .before .before .tally .given .1)
+    (c .before .before .before .before .before .before .before .run-case .ensures) in
+    search needs
 
 print-total-requires : tie.Need-print-total-requires Inv-loop μ-loop
 print-total-requires c κs = search needs

@@ -2,16 +2,6 @@ use Rattle.program_io.proofs.InputLaws.{within}
 use borrow.Author.Needs.{needs}
 use Rattle.replay.proofs.run_case.Statement.{statement}
 use Rattle.replay.proofs.run_case.Tie as tie
-use Rattle.replay.proofs.run_case.Reads as reads
-use Rattle.replay.proofs.run_case.Lts as lts
-use Rattle.replay.proofs.expected.report.print_unread.Reads as print-unread-reads
-use Rattle.program_io.proofs.input.files.is_missing.Reads as is-missing-reads
-use Rattle.program_io.proofs.input.files.read_file.Reads as read-file-reads
-use Rattle.program_io.proofs.output.put.put_bytes.Reads as put-bytes-reads
-use Rattle.program_io.proofs.output.put.put_name.Reads as put-name-reads
-use Rattle.replay.proofs.lines.run_lines.Reads as run-lines-reads
-use Rattle.replay_calls.proofs.steps.buffers.file_bytes.Reads as file-bytes-reads
-use Rattle.replay_calls.proofs.steps.compare.first_bytes.Reads as first-bytes-reads
 
 slice-aggregate-put-name : tie.Need-slice-aggregate-put-name
 slice-aggregate-put-name c = search needs
@@ -84,11 +74,12 @@ first-bytes-requires-3 c κs = search needs
 
 run-lines-requires : tie.Need-run-lines-requires
 run-lines-requires c κs =
+    let far = c .before .before .before .before .before .before .before .before .before .before in
     let f = c .first-bytes3 .ensures .1 in
     let g = c .before .before .first-bytes2 .ensures .1 in
     let w = within (c .before .before .before .before .size .given .1) (c .before .before .before .before .before .before .before .read-file .ensures) in
-    let e = c .before .before .before .before .before .before .before .before .before .before .file-bytes .ensures in
-    let q = c .before .before .before .before .before .before .before .before .before .before .before .before .before .before .before .before .before .before .before .before .put-name .ensures .1 in
+    let e = far .file-bytes .ensures in
+    let q = far .before .before .before .before .before .before .before .before .before .before .put-name .ensures .1 in
     search needs
 
 returns-3 : tie.Need-returns-3

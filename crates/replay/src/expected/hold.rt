@@ -3,24 +3,29 @@ use api::answers::field_card;
 use api::answers::field_meta;
 use api::answers::field_number;
 use api::answers::field_refusal;
-use replay_calls::calls::parse::are_numbers;
-use replay_calls::calls::parse::count_words;
-use replay_calls::calls::parse::word_place;
 use definition::Answer;
 use definition::Drawing;
 use definition::FieldLookup;
 use definition::Tallies;
+use definition::build_error::ERROR_NUMBERS;
 use program_io::input::files::File;
+use program_io::input::files::PATH_CAPACITY;
 use program_io::input::files::read_file;
 use program_io::output::put::put_listing;
 use program_io::output::put::put_name;
+use replay_calls::calls::parse::are_numbers;
+use replay_calls::calls::parse::count_words;
+use replay_calls::calls::parse::word_place;
 use replay_calls::steps::buffers;
-use replay_calls::steps::compare::first_bytes;
-use replay_calls::steps::compare::same_words;
+use replay_calls::steps::slices::first_bytes;
+use replay_calls::steps::slices::same_words;
 use replay_calls::steps::step::Verdict;
 ghost use mathlib.Core.Path.{_≡_};
 ghost use Prim.Native.Nat.{_≤_};
 ghost use lib.ListN.{length};
+ghost use Rattle.definition.specs.Refusals.{rowsCapacity, errorsCapacity};
+ghost use Rattle.program_io.specs.Input.{folderCapacity};
+ghost use Rattle.replay_calls.specs.LineWords.{callsCapacity};
 ghost use Rattle.definition.specs.Answers.{fieldRefusal, fieldNumber, fieldMeta, fieldCard};
 
 // Holds an answer against the number and the card that are expected.
@@ -51,7 +56,11 @@ pub fn hold_field(
     meta: usize,
     card: usize,
 ) -> Verdict
-    ensures { λ r. ⌜ (r ≡ Verdict.Passed → (fieldRefusal answer ≡ refusal) × (fieldNumber answer ≡ kind) × (fieldMeta answer ≡ meta) × (fieldCard answer ≡ card)) ⌝ }
+    ensures { λ r. ⌜ (r ≡ Verdict.Passed →
+        (fieldRefusal answer ≡ refusal)
+        × (fieldNumber answer ≡ kind)
+        × (fieldMeta answer ≡ meta)
+        × (fieldCard answer ≡ card)) ⌝ }
 {
     let came_refusal = field_refusal(answer) as usize;
     let came_kind = field_number(answer) as usize;
@@ -95,7 +104,7 @@ fn hold_bytes(came: &[u8], expected: &[u8]) -> Verdict {
 
 // The words of the line behind the first four are those written, and all past them stayed.
 pub fn hold_list(line: &[u8], list: &[u32]) -> Verdict
-    requires { ⌜ length (now line) ≤ 262144 ⌝ }
+    requires { ⌜ length (now line) ≤ callsCapacity ⌝ }
 {
     let n = count_words(line);
     if n < 4 {
@@ -124,7 +133,9 @@ pub fn hold_drawing(
     rows: &[u32],
     errors: &[u32],
 ) -> Verdict
-    requires { ⌜ (length (now folder) ≤ 24) × (length (now rows) ≡ 6912) × (length (now errors) ≡ 6900) ⌝ }
+    requires { ⌜ (length (now folder) ≤ folderCapacity)
+        × (length (now rows) ≡ rowsCapacity)
+        × (length (now errors) ≡ errorsCapacity) ⌝ }
 {
     let came = drawing.number as usize;
     if came != number {
@@ -142,9 +153,9 @@ pub fn hold_drawing(
 }
 
 fn hold_listing(folder: &[u8], k: usize, listing: &[u8]) -> Verdict
-    requires { ⌜ length (now folder) ≤ 24 ⌝ }
+    requires { ⌜ length (now folder) ≤ folderCapacity ⌝ }
 {
-    let mut name = [0u8; 64];
+    let mut name = [0u8; PATH_CAPACITY];
     let n = put_name(folder, b"listing", k, b"", &mut name);
     let mut expected = buffers::file_bytes();
     let path = first_bytes(&name, n);
@@ -156,9 +167,9 @@ fn hold_listing(folder: &[u8], k: usize, listing: &[u8]) -> Verdict
 
 // Holds the tallies of the last drawing: `tallies T1 .. T16 TOTAL`.
 pub fn hold_tallies(line: &[u8], tallies: Tallies) -> Verdict
-    requires { ⌜ length (now line) ≤ 262144 ⌝ }
+    requires { ⌜ length (now line) ≤ callsCapacity ⌝ }
 {
-    if count_words(line) != 18 {
+    if count_words(line) != ERROR_NUMBERS + 2 {
         return Verdict::Malformed;
     }
     let counts = tallies.counts;
@@ -166,7 +177,7 @@ pub fn hold_tallies(line: &[u8], tallies: Tallies) -> Verdict
         return Verdict::Other;
     }
     let total = [tallies.total];
-    if !are_numbers(line, word_place(line, 17), &total) {
+    if !are_numbers(line, word_place(line, ERROR_NUMBERS + 1), &total) {
         return Verdict::Other;
     }
     Verdict::Passed

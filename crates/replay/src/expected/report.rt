@@ -1,15 +1,14 @@
 // What is printed: a line for each failure, and how many there were.
 use libc::STDOUT_FILENO;
 use program_io::output::put::put_decimal;
-use replay_calls::steps::compare::first_bytes;
+use replay_calls::calls::parse::DASH;
+use replay_calls::steps::slices::first_bytes;
 use replay_calls::steps::step::Step;
 use replay_calls::steps::step::Verdict;
 ghost use mathlib.Core.Path.{_≡_};
 ghost use Prim.Native.Nat.{_+_, _<_, _≤_};
 ghost use lib.ListN.{length};
-
-// The number that is written `-`.
-const ABSENT: usize = 4294967295;
+ghost use Rattle.replay_calls.specs.LineWords.{callsCapacity};
 
 // How many calls ran, and how many lines failed.
 pub struct Tally {
@@ -19,8 +18,10 @@ pub struct Tally {
 
 // Counts a line that ran, and prints it where it failed.
 pub fn count(case: usize, number: usize, line: &[u8], step: Step, tally: Tally) -> Tally
-    requires { ⌜ (tally .calls < 262144) × (tally .failures < 262144) ⌝ }
-    ensures { λ r. ⌜ (r .calls ≤ tally .calls + 1) × (r .failures ≤ tally .failures + 1) ⌝ }
+    requires { ⌜ (tally .calls < callsCapacity)
+        × (tally .failures < callsCapacity) ⌝ }
+    ensures { λ r. ⌜ (r .calls ≤ tally .calls + 1)
+        × (r .failures ≤ tally .failures + 1) ⌝ }
 {
     let verdict = step.verdict;
     let failures = tally.failures + print_verdict(case, number, line, verdict);
@@ -38,8 +39,10 @@ pub fn count(case: usize, number: usize, line: &[u8], step: Step, tally: Tally) 
 
 // Counts a last line that no line feed ends.
 pub fn count_unended(case: usize, number: usize, line: &[u8], tally: Tally) -> Tally
-    requires { ⌜ (tally .calls < 262144) × (tally .failures < 262144) ⌝ }
-    ensures { λ r. ⌜ (r .calls ≡ tally .calls) × (r .failures ≡ tally .failures + 1) ⌝ }
+    requires { ⌜ (tally .calls < callsCapacity)
+        × (tally .failures < callsCapacity) ⌝ }
+    ensures { λ r. ⌜ (r .calls ≡ tally .calls)
+        × (r .failures ≡ tally .failures + 1) ⌝ }
 {
     print_verdict(case, number, line, Verdict::Malformed);
     Tally {
@@ -97,7 +100,7 @@ fn print_field(refusal: usize, kind: usize, meta: usize, card: usize) {
 
 // A space and a number, as the lines write it.
 fn print_number(n: usize) {
-    if n == ABSENT {
+    if n == DASH {
         print(b" -");
         return;
     }

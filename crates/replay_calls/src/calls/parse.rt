@@ -1,31 +1,35 @@
 // Words and numbers of a line. Words are what stands between single spaces, so a word may be empty.
+use definition::ABSENT;
 ghost use mathlib.Core.Path.{_≡_};
 ghost use mathlib.Core.Bool.{true};
-ghost use Prim.Native.Nat.{ℕ, _+_, _<_, _≤_};
+ghost use Prim.Native.Nat.{_+_, _≤_};
 ghost use lib.Dec.{eqb};
-ghost use lib.ListN.{length, drop, getD};
+ghost use lib.ListN.{length, drop};
 ghost use Rattle.definition.specs.Lists.{choose};
-ghost use Rattle.replay_calls.specs.CallsWords.{wordLength, afterWords, wordOf, spaces, digitsFrom, numberOf};
+ghost use Rattle.replay_calls.specs.LineWords.{callsCapacity, lengthBefore, wordLength, afterWords, wordOf, spaces, digitsFrom};
+ghost use Rattle.replay_calls.specs.LineWords.{numberOf, HasNumbers, BeginsWith};
 
 // A number that is larger is malformed, so that none overflows with its next digit.
 const MOST: usize = 100000000000000000;
 
 // The number that is written `-`.
-const ABSENT: usize = 4294967295;
+pub const DASH: usize = ABSENT as usize;
 
 pub enum Number {
     Value(usize),
     Malformed,
 }
 
-// Where the word at a place ends: at the next space, or where the line does.
-pub fn word_end(line: &[u8], at: usize) -> usize
-    requires { ⌜ at ≤ length (now line) ⌝ }
-    ensures { λ r. ⌜ (r ≡ at + wordLength (drop at (now (line .entry)))) × (at ≤ r) × (r ≤ length (now (line .entry))) ⌝ }
+// Where the first byte of a value stands, from a place on; the end where there is none.
+pub fn find_byte(bytes: &[u8], at: usize, stop: u8) -> usize
+    requires { ⌜ at ≤ length (now bytes) ⌝ }
+    ensures { λ r. ⌜ (r ≡ at + lengthBefore stop (drop at (now (bytes .entry))))
+        × (at ≤ r)
+        × (r ≤ length (now (bytes .entry))) ⌝ }
 {
     let mut i = at;
-    while i < line.len() {
-        if line[i] == b' ' {
+    while i < bytes.len() {
+        if bytes[i] == stop {
             return i;
         }
         i += 1;
@@ -33,10 +37,21 @@ pub fn word_end(line: &[u8], at: usize) -> usize
     i
 }
 
+// Where the word at a place ends: at the next space, or where the line does.
+fn word_end(line: &[u8], at: usize) -> usize
+    requires { ⌜ at ≤ length (now line) ⌝ }
+    ensures { λ r. ⌜ (r ≡ at + wordLength (drop at (now (line .entry))))
+        × (at ≤ r)
+        × (r ≤ length (now (line .entry))) ⌝ }
+{
+    find_byte(line, at, b' ')
+}
+
 // Where the word after the one at a place begins; the line's end where there is none.
 pub fn next_word(line: &[u8], at: usize) -> usize
     requires { ⌜ at ≤ length (now line) ⌝ }
-    ensures { λ r. ⌜ (drop r (now (line .entry)) ≡ afterWords 1 (drop at (now (line .entry)))) × (r ≤ length (now (line .entry))) ⌝ }
+    ensures { λ r. ⌜ (drop r (now (line .entry)) ≡ afterWords 1 (drop at (now (line .entry))))
+        × (r ≤ length (now (line .entry))) ⌝ }
 {
     let end = word_end(line, at);
     if end == line.len() {
@@ -47,7 +62,8 @@ pub fn next_word(line: &[u8], at: usize) -> usize
 
 // Where word k begins, counted from 0.
 pub fn word_place(line: &[u8], k: usize) -> usize
-    ensures { λ r. ⌜ (drop r (now (line .entry)) ≡ afterWords k (now (line .entry))) × (r ≤ length (now (line .entry))) ⌝ }
+    ensures { λ r. ⌜ (drop r (now (line .entry)) ≡ afterWords k (now (line .entry)))
+        × (r ≤ length (now (line .entry))) ⌝ }
 {
     let mut at = 0;
     let mut i = 0;
@@ -68,7 +84,8 @@ pub fn word(line: &[u8], k: usize) -> &[u8]
 }
 
 fn is_space(b: u8) -> usize
-    ensures { λ r. ⌜ (r ≡ choose (eqb b 32) 1 0) × (r ≤ 1) ⌝ }
+    ensures { λ r. ⌜ (r ≡ choose (eqb b 32) 1 0)
+        × (r ≤ 1) ⌝ }
 {
     if b == b' ' {
         return 1;
@@ -78,7 +95,7 @@ fn is_space(b: u8) -> usize
 
 // How many words there are: one more than spaces.
 pub fn count_words(line: &[u8]) -> usize
-    requires { ⌜ length (now line) ≤ 262144 ⌝ }
+    requires { ⌜ length (now line) ≤ callsCapacity ⌝ }
     ensures { λ r. ⌜ r ≡ spaces (now (line .entry)) + 1 ⌝ }
 {
     let mut n = 1;
@@ -123,7 +140,7 @@ pub fn number_of(word: &[u8]) -> Number
         return digits(word);
     }
     if word[0] == b'-' {
-        return Number::Value(ABSENT);
+        return Number::Value(DASH);
     }
     digits(word)
 }
@@ -131,7 +148,7 @@ pub fn number_of(word: &[u8]) -> Number
 // Reads as many numbers as the slice has, from word `from` on. More words may follow.
 pub fn read_first_numbers(line: &[u8], from: usize, numbers: &mut [usize]) -> bool
     requires { ⌜ from + length (now numbers) ≤ 32 ⌝ }
-    ensures { λ r. ⌜ (r ≡ true → (i : ℕ) → i < length (now (numbers .entry)) → numberOf (wordOf (from + i) (now (line .entry))) ≡ Number.Value (getD (now (numbers .exit)) i 0)) ⌝ }
+    ensures { λ r. ⌜ (r ≡ true → HasNumbers (now (line .entry)) from (length (now (numbers .entry))) (now (numbers .exit))) ⌝ }
 {
     let mut i = 0;
     while i < numbers.len() {
@@ -146,8 +163,9 @@ pub fn read_first_numbers(line: &[u8], from: usize, numbers: &mut [usize]) -> bo
 
 // The same of a line that has no more words.
 pub fn read_numbers(line: &[u8], from: usize, numbers: &mut [usize]) -> bool
-    requires { ⌜ (length (now line) ≤ 262144) × (from + length (now numbers) ≤ 32) ⌝ }
-    ensures { λ r. ⌜ (r ≡ true → (i : ℕ) → i < length (now (numbers .entry)) → numberOf (wordOf (from + i) (now (line .entry))) ≡ Number.Value (getD (now (numbers .exit)) i 0)) ⌝ }
+    requires { ⌜ (length (now line) ≤ callsCapacity)
+        × (from + length (now numbers) ≤ 32) ⌝ }
+    ensures { λ r. ⌜ (r ≡ true → HasNumbers (now (line .entry)) from (length (now (numbers .entry))) (now (numbers .exit))) ⌝ }
     ensures { λ r. ⌜ (r ≡ true → spaces (now (line .entry)) + 1 ≡ from + length (now (numbers .entry))) ⌝ }
 {
     if count_words(line) != from + numbers.len() {
@@ -159,7 +177,7 @@ pub fn read_numbers(line: &[u8], from: usize, numbers: &mut [usize]) -> bool
 // Whether the words from a place on are these numbers. More words may follow.
 pub fn are_numbers(line: &[u8], from: usize, list: &[u32]) -> bool
     requires { ⌜ from ≤ length (now line) ⌝ }
-    ensures { λ r. ⌜ (r ≡ true → (i : ℕ) → i < length (now (list .entry)) → numberOf (wordOf i (drop from (now (line .entry)))) ≡ Number.Value (getD (now (list .entry)) i 0)) ⌝ }
+    ensures { λ r. ⌜ (r ≡ true → BeginsWith (drop from (now (line .entry))) (now (list .entry))) ⌝ }
 {
     let mut at = from;
     let mut i = 0;

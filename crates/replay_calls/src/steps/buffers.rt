@@ -1,60 +1,60 @@
 // The large arrays. Each is made by a function whose contract tells its length alone, so that no proof of a caller has to write out the elements.
+use definition::layout::ERRORS_CAPACITY;
+use definition::layout::GROUPS_CAPACITY;
+use definition::layout::ROWS_CAPACITY;
+use definition::layout::TEXT_CAPACITY;
+use definition::layout::WORDS_CAPACITY;
 ghost use mathlib.Core.Path.{_≡_};
+ghost use Prim.Native.Nat.{_+_};
 ghost use lib.ListN.{length};
+ghost use Rattle.definition.specs.Refusals.{textCapacity, rowsCapacity, errorsCapacity, groupsCapacity};
+ghost use Rattle.definition.specs.Store.{wordsCapacity};
+ghost use Rattle.replay_calls.specs.LineWords.{callsCapacity};
 
-// The bytes that a file may have.
-const FILE: usize = 262144;
+// The bytes that a file of calls may have.
+const CALLS_CAPACITY: usize = 262144;
 
-// The store of a case, and the rows and errors that a drawing fills.
-const STORE_BYTES: usize = 65536;
-
-const STORE_WORDS: usize = 11761;
-
-const ROWS: usize = 6912;
-
-const ERRORS: usize = 6900;
-
-// The words that a lookup may be lent to fill.
-const LIST: usize = 9216;
+// The words that a lookup may be lent to fill: some more than any lookup asks for.
+const LIST_CAPACITY: usize = GROUPS_CAPACITY + 16;
 
 // What stands in errors and lists before they are lent.
 const UNWRITTEN: u32 = 2863311530;
 
 // One byte more than a file may have, so that a longer one shows.
-pub fn file_bytes() -> [u8; FILE + 1]
-    ensures { λ r. ⌜ 262145 ≡ length r ⌝ }
+pub fn file_bytes() -> [u8; CALLS_CAPACITY + 1]
+    ensures { λ r. ⌜ callsCapacity + 1 ≡ length r ⌝ }
 {
-    [0; FILE + 1]
+    [0; CALLS_CAPACITY + 1]
 }
 
-// The store's text, and behind it room for the copy that `keep` makes.
-pub fn text() -> [u8; 2 * STORE_BYTES]
-    ensures { λ r. ⌜ 131072 ≡ length r ⌝ }
+// A store's text, and its words.
+pub fn text() -> [u8; TEXT_CAPACITY]
+    ensures { λ r. ⌜ textCapacity ≡ length r ⌝ }
 {
-    [0; 2 * STORE_BYTES]
+    [0; TEXT_CAPACITY]
 }
 
-// The same of its words.
-pub fn words() -> [u32; 2 * STORE_WORDS]
-    ensures { λ r. ⌜ 23522 ≡ length r ⌝ }
+pub fn words() -> [u32; WORDS_CAPACITY]
+    ensures { λ r. ⌜ wordsCapacity ≡ length r ⌝ }
 {
-    [0; 2 * STORE_WORDS]
+    [0; WORDS_CAPACITY]
 }
 
-pub fn rows() -> [u32; ROWS]
-    ensures { λ r. ⌜ 6912 ≡ length r ⌝ }
+// The rows and errors that a drawing fills.
+pub fn rows() -> [u32; ROWS_CAPACITY]
+    ensures { λ r. ⌜ rowsCapacity ≡ length r ⌝ }
 {
-    [0; ROWS]
+    [0; ROWS_CAPACITY]
 }
 
-pub fn errors() -> [u32; ERRORS]
-    ensures { λ r. ⌜ 6900 ≡ length r ⌝ }
+pub fn errors() -> [u32; ERRORS_CAPACITY]
+    ensures { λ r. ⌜ errorsCapacity ≡ length r ⌝ }
 {
-    [UNWRITTEN; ERRORS]
+    [UNWRITTEN; ERRORS_CAPACITY]
 }
 
-pub fn list() -> [u32; LIST]
-    ensures { λ r. ⌜ 9216 ≡ length r ⌝ }
+pub fn list() -> [u32; LIST_CAPACITY]
+    ensures { λ r. ⌜ groupsCapacity + 16 ≡ length r ⌝ }
 {
-    [UNWRITTEN; LIST]
+    [UNWRITTEN; LIST_CAPACITY]
 }

@@ -1,29 +1,27 @@
 // Changes of what is lent, between calls.
+use crate::calls::parse::count_words;
+use crate::calls::parse::read_numbers;
 use crate::steps::command::Change;
-use crate::steps::compare::move_bytes;
-use crate::steps::compare::move_words;
 use crate::steps::numbers::Pair;
 use crate::steps::numbers::read_pair;
+use crate::steps::slices::copy_bytes;
+use crate::steps::slices::copy_words;
 use crate::steps::step::Lent;
 use crate::steps::step::Step;
 use crate::steps::step::Verdict;
 use crate::steps::step::told;
-use crate::calls::parse::count_words;
-use crate::calls::parse::read_numbers;
-ghost use mathlib.Core.Path.{_≡_};
+use definition::layout::TEXT_CAPACITY;
+use definition::layout::WORDS_CAPACITY;
 ghost use Prim.Native.Nat.{_≤_};
 ghost use lib.ListN.{length};
+ghost use Rattle.replay_calls.specs.LineWords.{callsCapacity};
 
 // The largest word and byte.
 const WORD: usize = 4294967295;
 
 const BYTE: usize = 255;
 
-// The store, and behind it the copy that `keep` makes.
-const STORE_BYTES: usize = 65536;
-
-const STORE_WORDS: usize = 11761;
-
+// Changes the whole store or the rows; `keep` copies the store and `restore` copies it back.
 pub fn run_change(
     change: Change,
     line: &[u8],
@@ -31,26 +29,25 @@ pub fn run_change(
     text: &mut [u8],
     words: &mut [u32],
     rows: &mut [u32],
+    kept_text: &mut [u8],
+    kept_words: &mut [u32],
 ) -> Step
-    requires { ⌜ (length (now line) ≤ 262144) × (length (now text) ≡ 131072) × (length (now words) ≡ 23522) ⌝ }
+    requires { ⌜ length (now line) ≤ callsCapacity ⌝ }
 {
     match change {
         Change::Store => lend_store(line, lent),
         Change::Rows => lend_rows(line, lent, rows.len()),
-        Change::Word => told(lent, set_word(line, words, STORE_WORDS)),
+        Change::Word => told(lent, set_word(line, words)),
         Change::Byte => told(lent, set_byte(line, text)),
-        Change::Row => {
-            let all = rows.len();
-            told(lent, set_word(line, rows, all))
-        }
-        Change::Keep => told(lent, keep(line, text, words)),
-        Change::Restore => told(lent, restore(line, text, words)),
+        Change::Row => told(lent, set_word(line, rows)),
+        Change::Keep => told(lent, copy_store(line, text, words, kept_text, kept_words)),
+        Change::Restore => told(lent, copy_store(line, kept_text, kept_words, text, words)),
     }
 }
 
 // `store T W`
 fn lend_store(line: &[u8], lent: Lent) -> Step
-    requires { ⌜ length (now line) ≤ 262144 ⌝ }
+    requires { ⌜ length (now line) ≤ callsCapacity ⌝ }
 {
     let Pair::Numbers {
         first: text,
@@ -59,10 +56,10 @@ fn lend_store(line: &[u8], lent: Lent) -> Step
     else {
         return told(lent, Verdict::Malformed);
     };
-    if STORE_BYTES < text {
+    if TEXT_CAPACITY < text {
         return told(lent, Verdict::Malformed);
     }
-    if STORE_WORDS < words {
+    if WORDS_CAPACITY < words {
         return told(lent, Verdict::Malformed);
     }
     let tallies = lent.tallies;
@@ -79,7 +76,7 @@ fn lend_store(line: &[u8], lent: Lent) -> Step
 
 // `rows L`
 fn lend_rows(line: &[u8], lent: Lent, all: usize) -> Step
-    requires { ⌜ length (now line) ≤ 262144 ⌝ }
+    requires { ⌜ length (now line) ≤ callsCapacity ⌝ }
 {
     let mut given = [0usize; 1];
     if !read_numbers(line, 1, &mut given) {
@@ -101,9 +98,9 @@ fn lend_rows(line: &[u8], lent: Lent, all: usize) -> Step
     )
 }
 
-// `word I V` and `row I V`, of the first n words
-fn set_word(line: &[u8], words: &mut [u32], n: usize) -> Verdict
-    requires { ⌜ (length (now line) ≤ 262144) × (n ≤ length (now words)) ⌝ }
+// `word I V` and `row I V`
+fn set_word(line: &[u8], words: &mut [u32]) -> Verdict
+    requires { ⌜ length (now line) ≤ callsCapacity ⌝ }
 {
     let Pair::Numbers {
         first: i,
@@ -112,7 +109,7 @@ fn set_word(line: &[u8], words: &mut [u32], n: usize) -> Verdict
     else {
         return Verdict::Malformed;
     };
-    if n <= i {
+    if words.len() <= i {
         return Verdict::Malformed;
     }
     if WORD < v {
@@ -124,7 +121,7 @@ fn set_word(line: &[u8], words: &mut [u32], n: usize) -> Verdict
 
 // `byte I V`
 fn set_byte(line: &[u8], text: &mut [u8]) -> Verdict
-    requires { ⌜ (length (now line) ≤ 262144) × (65536 ≤ length (now text)) ⌝ }
+    requires { ⌜ length (now line) ≤ callsCapacity ⌝ }
 {
     let Pair::Numbers {
         first: i,
@@ -133,7 +130,7 @@ fn set_byte(line: &[u8], text: &mut [u8]) -> Verdict
     else {
         return Verdict::Malformed;
     };
-    if STORE_BYTES <= i {
+    if text.len() <= i {
         return Verdict::Malformed;
     }
     if BYTE < v {
@@ -143,26 +140,20 @@ fn set_byte(line: &[u8], text: &mut [u8]) -> Verdict
     Verdict::Passed
 }
 
-// `keep`
-fn keep(line: &[u8], text: &mut [u8], words: &mut [u32]) -> Verdict
-    requires { ⌜ (length (now line) ≤ 262144) × (length (now text) ≡ 131072) × (length (now words) ≡ 23522) ⌝ }
+// `keep` and `restore`: the one copies to where the other copies from.
+fn copy_store(
+    line: &[u8],
+    text: &[u8],
+    words: &[u32],
+    to_text: &mut [u8],
+    to_words: &mut [u32],
+) -> Verdict
+    requires { ⌜ length (now line) ≤ callsCapacity ⌝ }
 {
     if count_words(line) != 1 {
         return Verdict::Malformed;
     }
-    move_bytes(text, 0, STORE_BYTES, STORE_BYTES);
-    move_words(words, 0, STORE_WORDS, STORE_WORDS);
-    Verdict::Passed
-}
-
-// `restore`
-fn restore(line: &[u8], text: &mut [u8], words: &mut [u32]) -> Verdict
-    requires { ⌜ (length (now line) ≤ 262144) × (length (now text) ≡ 131072) × (length (now words) ≡ 23522) ⌝ }
-{
-    if count_words(line) != 1 {
-        return Verdict::Malformed;
-    }
-    move_bytes(text, STORE_BYTES, 0, STORE_BYTES);
-    move_words(words, STORE_WORDS, 0, STORE_WORDS);
+    copy_bytes(text, to_text);
+    copy_words(words, to_words);
     Verdict::Passed
 }

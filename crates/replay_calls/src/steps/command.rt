@@ -3,6 +3,7 @@ use crate::calls::parse::count_words;
 use crate::calls::parse::word;
 ghost use Prim.Native.Nat.{_≤_};
 ghost use lib.ListN.{length};
+ghost use Rattle.replay_calls.specs.LineWords.{callsCapacity};
 
 // The lookups that fill a slice.
 pub enum Filling {
@@ -60,7 +61,7 @@ pub enum Command {
 
 // Which of the names a word is, counted from 0; as many as there are where it is none of them.
 fn place_of(name: &[u8], names: &[u8]) -> usize
-    requires { ⌜ length (now names) ≤ 262144 ⌝ }
+    requires { ⌜ length (now names) ≤ callsCapacity ⌝ }
 {
     let n = count_words(names);
     let mut k = 0;

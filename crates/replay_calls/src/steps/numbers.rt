@@ -2,6 +2,7 @@
 use crate::calls::parse::read_numbers;
 ghost use Prim.Native.Nat.{_≤_};
 ghost use lib.ListN.{length};
+ghost use Rattle.replay_calls.specs.LineWords.{callsCapacity};
 
 pub enum Pair {
     Numbers { first: usize, second: usize },
@@ -10,7 +11,8 @@ pub enum Pair {
 
 // The numbers from word `from` on, behind which no more words follow.
 pub fn read_pair(line: &[u8], from: usize) -> Pair
-    requires { ⌜ (length (now line) ≤ 262144) × (from ≤ 30) ⌝ }
+    requires { ⌜ (length (now line) ≤ callsCapacity)
+        × (from ≤ 30) ⌝ }
 {
     let mut given = [0usize; 2];
     if !read_numbers(line, from, &mut given) {

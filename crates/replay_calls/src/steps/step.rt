@@ -1,5 +1,8 @@
 // What a line leaves: what is lent from then on, and how it went.
 use definition::Tallies;
+use definition::build_error::ERROR_NUMBERS;
+use definition::layout::TEXT_CAPACITY;
+use definition::layout::WORDS_CAPACITY;
 
 // How much of the store and of the rows is lent, and the tallies of the last drawing.
 pub struct Lent {
@@ -12,12 +15,12 @@ pub struct Lent {
 // At a case's start all of the store is lent, and no rows are drawn.
 pub fn whole() -> Lent {
     let tallies = Tallies {
-        counts: [0u32; 16],
+        counts: [0u32; ERROR_NUMBERS],
         total: 0,
     };
     Lent {
-        text: 65536,
-        words: 11761,
+        text: TEXT_CAPACITY,
+        words: WORDS_CAPACITY,
         rows: 0,
         tallies,
     }

@@ -19,7 +19,10 @@ cards-used-requires : tie.Need-cards-used-requires
 cards-used-requires c κs = search needs
 
 returns-3 : tie.Need-returns-3
-returns-3 c = let h = c .before .cards-used .ensures in card-past _ (c .before .before .before .before .args .card) _ (c .before .before .before .before .args .words .now) (c .before .before .if1 .left) (omega arith)
+returns-3 c =
+    let h = c .before .cards-used .ensures in
+    card-past _ (c .before .before .before .before .args .card) _ (c .before .before .before .before .args .words .now) (c .before .before .if1 .left)
+    (omega arith)
 
 card-kind-requires : tie.Need-card-kind-requires
 card-kind-requires c κs = search needs
@@ -28,7 +31,10 @@ wanted-kind-requires : tie.Need-wanted-kind-requires
 wanted-kind-requires c κs = search needs
 
 returns-4 : tie.Need-returns-4
-returns-4 c = let h = c .before .before .before .cards-used .ensures in card-asked _ (c .before .before .before .before .before .before .args .card) _ (c .before .before .before .before .before .before .args .words .now) (c .before .before .before .before .if1 .left) (omega arith) _ _ (c .before .card-kind .ensures) (c .wanted-kind .ensures)
+returns-4 c =
+    let h = c .before .before .before .cards-used .ensures in
+    card-asked _ (c .before .before .before .before .before .before .args .card) _ (c .before .before .before .before .before .before .args .words .now)
+    (c .before .before .before .before .if1 .left) (omega arith) _ _ (c .before .card-kind .ensures) (c .wanted-kind .ensures)
 
 pub card-passes-spec : {M : Type 1} → statement M
 card-passes-spec =

@@ -11,7 +11,8 @@ use Rattle.definition.specs.LentRows.{lentRows, rowsRefusal}
 use Rattle.store_reader.specs.Stored.{storedParts}
 use Rattle.schema_rows.specs.Order.{isStanding}
 use Rattle.schema_rows.specs.Walk.{restPasses, Marked}
-use Rattle.schema_rows.proofs.Walk.{not-whole, whole, marked-start, marked-same, walk-order, walk-row, walk-card, mark-room, walk-marks, walk-next, walk-end, standing-next}
+use Rattle.schema_rows.proofs.Walk.{not-whole, whole, marked-start, marked-same, walk-order, walk-row, walk-card, mark-capacity}
+use Rattle.schema_rows.proofs.Walk.{walk-marks, walk-next, walk-end, standing-next}
 use Rattle.schema_rows.proofs.check_lent_rows.Statement.{statement}
 use Rattle.schema_rows.proofs.check_lent_rows.Tie as tie
 use borrow.Author.Needs.{needs}
@@ -59,7 +60,9 @@ row-fits-requires : tie.Need-row-fits-requires Inv-loop μ-loop
 row-fits-requires c κs = c .before .before .before .loop .inv .2
 
 returns-2 : tie.Need-returns-2 Inv-loop μ-loop
-returns-2 c = sym (c .before .before .before .before .before .loop .inv .3 ∙ walk-order _ _ _ _ _ _ (c .before .before .before .before .loop-test .taken) (sym (c .before .row-fits .ensures) ∙ not-true _ (c .if2 .taken)))
+returns-2 c =
+    sym (c .before .before .before .before .before .loop .inv .3
+    ∙ walk-order _ _ _ _ _ _ (c .before .before .before .before .loop-test .taken) (sym (c .before .row-fits .ensures) ∙ not-true _ (c .if2 .taken)))
 
 mul-row-passes : tie.Need-mul-row-passes Inv-loop μ-loop
 mul-row-passes c = search needs
@@ -77,21 +80,32 @@ row-passes-requires : tie.Need-row-passes-requires Inv-loop μ-loop
 row-passes-requires c κs = search needs
 
 returns-3 : tie.Need-returns-3 Inv-loop μ-loop
-returns-3 c = sym (c .before .before .before .before .before .before .before .before .loop .inv .3 ∙ walk-row _ _ _ _ _ _ (c .before .before .before .before .before .before .before .loop-test .taken) (sym (c .before .row-passes .ensures) ∙ not-true _ (c .if3 .taken)))
+returns-3 c =
+    sym (c .before .before .before .before .before .before .before .before .loop .inv .3
+    ∙ walk-row _ _ _ _ _ _ (c .before .before .before .before .before .before .before .loop-test .taken)
+    (sym (c .before .row-passes .ensures) ∙ not-true _ (c .if3 .taken)))
 
 slice-aggregate-mark : tie.Need-slice-aggregate-mark Inv-loop μ-loop
 slice-aggregate-mark c = search needs
 
 mark-requires : tie.Need-mark-requires Inv-loop μ-loop
-mark-requires c κs = mark-room _ _ _ 0 0 _ (c .before .before .before .before .before .before .before .before .loop-test .taken) _ (c .before .before .before .before .before .before .before .before .before .loop .inv .1) (c .before .before .before .before .before .before .before .before .before .before .before .before .before .before .pre) (sym (c .before .before .row-passes .ensures) ∙ not-false _ (c .before .if3 .left))
+mark-requires c κs =
+    mark-capacity _ _ _ 0 0 _ (c .before .before .before .before .before .before .before .before .loop-test .taken) _
+    (c .before .before .before .before .before .before .before .before .before .loop .inv .1)
+    (c .before .before .before .before .before .before .before .before .before .before .before .before .before .before .pre)
+    (sym (c .before .before .row-passes .ensures) ∙ not-false _ (c .before .if3 .left))
 
 returns-4 : tie.Need-returns-4 Inv-loop μ-loop
 returns-4 c =
     sym (c .before .before .before .before .before .before .before .before .before .before .before .before .loop .inv .3
-    ∙ walk-card _ _ _ _ _ _ (c .before .before .before .before .before .before .before .before .before .before .before .loop-test .taken) _ (c .before .before .before .before .before .before .before .before .before .before .before .before .loop .inv .1) (c .before .before .before .before .before .before .before .before .before .before .before .before .before .before .before .before .before .pre) (sym (c .before .before .before .before .before .row-passes .ensures) ∙ not-false _ (c .before .before .before .before .if3 .left)) (sym (c .before .before .mark .ensures .0) ∙ not-true _ (c .if4 .taken)))
+    ∙ walk-card _ _ _ _ _ _ (c .before .before .before .before .before .before .before .before .before .before .before .loop-test .taken) _
+    (c .before .before .before .before .before .before .before .before .before .before .before .before .loop .inv .1)
+    (c .before .before .before .before .before .before .before .before .before .before .before .before .before .before .before .before .before .pre)
+    (sym (c .before .before .before .before .before .row-passes .ensures) ∙ not-false _ (c .before .before .before .before .if3 .left))
+    (sym (c .before .before .mark .ensures .0) ∙ not-true _ (c .if4 .taken)))
 
-stand-after-requires : tie.Need-stand-after-requires Inv-loop μ-loop
-stand-after-requires c κs = c .before .before .before .before .before .before .before .before .before .before .before .before .loop .inv .2
+place-after-requires : tie.Need-place-after-requires Inv-loop μ-loop
+place-after-requires c κs = c .before .before .before .before .before .before .before .before .before .before .before .before .loop .inv .2
 
 add-i : tie.Need-add-i Inv-loop μ-loop
 add-i c = search needs
@@ -101,17 +115,23 @@ loop-less c = search needs
 
 loop-again : tie.Need-loop-again Inv-loop μ-loop
 loop-again c =
-    let a = c .before .before .before .before .before .before .before .before .before .before .before .before .before in
-    let t = c .before .before .before .before .before .before .before .before .before .before .before .before .loop-test .taken in
-    let f = sym (c .before .before .before .before .before .before .before .before .before .row-fits .ensures) ∙ not-false _ (c .before .before .before .before .before .before .before .before .if2 .left) in
+    let far = c .before .before .before .before .before .before .before .before .before .before .before .before in
+    let a = far .before in
+    let t = far .loop-test .taken in
+    let f = sym (c .before .before .before .before .before .before .before .before .before .row-fits .ensures)
+    ∙ not-false _ (c .before .before .before .before .before .before .before .before .if2 .left) in
     let p = sym (c .before .before .before .before .before .before .row-passes .ensures) ∙ not-false _ (c .before .before .before .before .before .if3 .left) in
     let g = sym (c .before .before .before .mark .ensures .0) ∙ not-false _ (c .before .if4 .left) in
-    let e = c .stand-after .ensures in (
+    let e = c .place-after .ensures in (
       omega arith,
-      marked-same _ _ _ (c .before .before .before .mark .ensures .1 g) (walk-marks _ _ _ (a .loop .kind) (a .loop .place) _ t _ (a .loop .inv .1) (c .before .before .before .before .before .before .before .before .before .before .before .before .before .before .before .before .before .before .pre) p g),
+      marked-same _ _ _ (c .before .before .before .mark .ensures .1 g)
+          (walk-marks _ _ _ (a .loop .kind) (a .loop .place) _ t _ (a .loop .inv .1)
+          (far .before .before .before .before .before .before .pre) p
+          g),
       ap isStanding (e .0) ∙ standing-next _ _ _ (a .loop .inv .2) f,
       a .loop .inv .3
-          ∙ walk-next _ _ _ _ _ _ t _ (a .loop .inv .1) (c .before .before .before .before .before .before .before .before .before .before .before .before .before .before .before .before .before .before .pre) p g (a .loop .inv .2) f _ _ (e .0) (e .1),
+          ∙ walk-next _ _ _ _ _ _ t _ (a .loop .inv .1)
+          (far .before .before .before .before .before .before .pre) p g (a .loop .inv .2) f _ _ (e .0) (e .1),
     )
 
 returns-5 : tie.Need-returns-5 Inv-loop μ-loop
@@ -143,7 +163,7 @@ check-lent-rows-spec =
     slice-aggregate-mark
     mark-requires
     returns-4
-    stand-after-requires
+    place-after-requires
     add-i
     loop-less
     loop-again

@@ -17,7 +17,8 @@ origin-passes-requires c κs = search needs
 
 returns-2 : tie.Need-returns-2
 returns-2 c =
-    row-origin _ _ _ (sym (card-is _ _ _ _ _) ∙ sym (c .before .before .before .card-passes .ensures) ∙ not-false _ (c .before .before .if1 .left)) (sym (origin-is _ _ _ _ _) ∙ sym (c .before .origin-passes .ensures) ∙ not-true _ (c .if2 .taken))
+    row-origin _ _ _ (sym (card-is _ _ _ _ _) ∙ sym (c .before .before .before .card-passes .ensures) ∙ not-false _ (c .before .before .if1 .left))
+    (sym (origin-is _ _ _ _ _) ∙ sym (c .before .origin-passes .ensures) ∙ not-true _ (c .if2 .taken))
 
 default-root-passes-requires : tie.Need-default-root-passes-requires
 default-root-passes-requires c κs = search needs
@@ -25,7 +26,9 @@ default-root-passes-requires c κs = search needs
 returns-3 : tie.Need-returns-3
 returns-3 c =
     c .default-root-passes .ensures
-    ∙ row-root _ _ _ (sym (card-is _ _ _ _ _) ∙ sym (c .before .before .before .before .card-passes .ensures) ∙ not-false _ (c .before .before .before .if1 .left)) (sym (origin-is _ _ _ _ _) ∙ sym (c .before .before .origin-passes .ensures) ∙ not-false _ (c .before .if2 .left))
+    ∙ row-root _ _ _ (sym (card-is _ _ _ _ _) ∙ sym (c .before .before .before .before .card-passes .ensures)
+    ∙ not-false _ (c .before .before .before .if1 .left))
+    (sym (origin-is _ _ _ _ _) ∙ sym (c .before .before .origin-passes .ensures) ∙ not-false _ (c .before .if2 .left))
 
 pub row-passes-spec : {M : Type 1} → statement M
 row-passes-spec =

@@ -22,15 +22,19 @@ same-length-2 c = search needs
 
 returns : tie.Need-returns
 returns c =
-    let e = c .before .before .before .before .before .before .before .before .before .before .args in
-    let k = c .before .before .before .check-store .ensures in
-    add-unsound (e .text .now) (e .words .now) (e .lent .now) (e .cards .now) _ (refused-store _ _ _ k _ (c .before .number .given .1)) (refused-number _ _ _ k _ (c .before .number .given .1))
+    let store = c .before .before .before in
+    let e = store .before .before .before .before .before .before .before .args in
+    add-unsound (e .text .now) (e .words .now) (e .lent .now) (e .cards .now) _
+    (refused-store _ _ _ (store .check-store .ensures) _ (c .before .number .given .1))
+    (refused-number _ _ _ (store .check-store .ensures) _ (c .before .number .given .1))
 
 enum-told : tie.Need-enum-told
 enum-told c = search needs
 
 check-filing-requires : tie.Need-check-filing-requires
-check-filing-requires c κs = let s = sound-store _ _ _ (c .before .before .before .check-store .ensures) (c .before .enum-told .given .1) in (omega (arith, s .wordsLong), s .counts .text, s .counts .cards)
+check-filing-requires c κs =
+    let s = sound-store _ _ _ (c .before .before .before .check-store .ensures) (c .before .enum-told .given .1) in
+    (omega (arith, s .wordsLong), s .counts .text, s .counts .cards)
 
 enum-known-answer : tie.Need-enum-known-answer
 enum-known-answer c = search needs
@@ -43,17 +47,26 @@ same-length-4 c = search needs
 
 returns-2 : tie.Need-returns-2
 returns-2 c =
-    let e = c .before .before .before .before .before .before .before .before .before .before .before .before .before .before .args in
-    let s = sound-store _ _ _ (c .before .before .before .before .before .before .before .check-store .ensures) (c .before .before .before .before .before .enum-told .given .1) in
-    add-refused (e .text .now) (e .words .now) (e .lent .now) (e .cards .now) (s .unrefused) _ (same-refusal (e .text .now) (e .words .now) (e .lent .now) (e .cards .now) s ∙ sym (c .before .before .before .check-filing .ensures) ∙ ap checkOption (c .before .answer .given .1))
+    let filing = c .before .before .before in
+    let store = filing .before .before .before .before in
+    let e = store .before .before .before .before .before .before .before .args in
+    let s = sound-store _ _ _ (store .check-store .ensures) (filing .before .before .enum-told .given .1) in
+    add-refused (e .text .now) (e .words .now) (e .lent .now) (e .cards .now) (s .unrefused) _
+    (same-refusal (e .text .now) (e .words .now) (e .lent .now) (e .cards .now) s
+    ∙ sym (filing .check-filing .ensures)
+    ∙ ap checkOption (c .before .answer .given .1))
 
 enum-told-2 : tie.Need-enum-told-2
 enum-told-2 c = search needs
 
 file-requires : tie.Need-file-requires
 file-requires c κs =
-    let e = c .before .before .before .before .before .before .before .before .before .before .before .before .before .before .before .args in
-    fits (e .text .now) (e .words .now) (e .lent .now) (e .cards .now) (sound-store _ _ _ (c .before .before .before .before .before .before .before .before .check-store .ensures) (c .before .before .before .before .before .before .enum-told .given .1)) (sym (c .before .before .before .before .check-filing .ensures) ∙ ap checkOption (c .before .before .enum-told2 .given .1))
+    let filing = c .before .before .before .before in
+    let store = filing .before .before .before .before in
+    let e = store .before .before .before .before .before .before .before .args in
+    fits (e .text .now) (e .words .now) (e .lent .now) (e .cards .now)
+    (sound-store _ _ _ (store .check-store .ensures) (filing .before .before .enum-told .given .1))
+    (sym (filing .check-filing .ensures) ∙ ap checkOption (c .before .before .enum-told2 .given .1))
 
 accepted-requires : tie.Need-accepted-requires
 accepted-requires c κs = search needs
@@ -66,10 +79,16 @@ same-length-6 c = search needs
 
 returns-3 : tie.Need-returns-3
 returns-3 c =
-    let e = c .before .before .before .before .before .before .before .before .before .before .before .before .before .before .before .before .before .before .before .before .before .args in
-    let s = sound-store _ _ _ (c .before .before .before .before .before .before .before .before .before .before .before .before .before .before .check-store .ensures) (c .before .before .before .before .before .before .before .before .before .before .before .before .enum-told .given .1) in
-    add-done (e .text .now) (e .words .now) (e .lent .now) (e .cards .now) (s .unrefused) _ _ _ (c .accepted .ensures) (same-refusal (e .text .now) (e .words .now) (e .lent .now) (e .cards .now) s ∙ sym (c .before .before .before .before .before .before .before .before .before .before .check-filing .ensures) ∙ ap checkOption (c .before .before .before .before .before .before .before .before .enum-told2 .given .1))
-    (c .before .before .before .before .before .file .ensures .0) (c .before .before .before .before .before .file .ensures .1)
+    let filed = c .before .before .before .before .before in
+    let filing = filed .before .before .before .before .before in
+    let store = filing .before .before .before .before in
+    let e = store .before .before .before .before .before .before .before .args in
+    let s = sound-store _ _ _ (store .check-store .ensures) (filing .before .before .enum-told .given .1) in
+    add-done (e .text .now) (e .words .now) (e .lent .now) (e .cards .now) (s .unrefused) _ _ _ (c .accepted .ensures)
+    (same-refusal (e .text .now) (e .words .now) (e .lent .now) (e .cards .now) s
+    ∙ sym (filing .check-filing .ensures)
+    ∙ ap checkOption (filed .before .before .before .enum-told2 .given .1))
+    (filed .file .ensures .0) (filed .file .ensures .1)
 
 pub add-ast-spec : {M : Type 1} → statement M
 add-ast-spec =

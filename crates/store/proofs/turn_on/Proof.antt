@@ -18,7 +18,8 @@ returns : tie.Need-returns
 returns c =
     let e = c .before .before .before .before .before .before .before .args in
     let k = c .before .before .before .check-store .ensures in
-    turned-unsound (e .text .now) (e .words .now) _ _ (refused-store _ _ _ k _ (c .before .number .given .1)) (refused-number _ _ _ k _ (c .before .number .given .1))
+    turned-unsound (e .text .now) (e .words .now) _ _ (refused-store _ _ _ k _ (c .before .number .given .1))
+    (refused-number _ _ _ k _ (c .before .number .given .1))
 
 enum-told : tie.Need-enum-told
 enum-told c = search needs
@@ -27,7 +28,9 @@ mul-words : tie.Need-mul-words
 mul-words c = omega (arith, c .before .before .before .before .before .before .pre)
 
 slice-write-words : tie.Need-slice-write-words
-slice-write-words c = let s = sound-store _ _ _ (c .before .before .check-store .ensures) (c .enum-told .given .1) in omega (arith, s .wordsLong, c .before .before .before .before .before .before .pre)
+slice-write-words c =
+    let s = sound-store _ _ _ (c .before .before .check-store .ensures) (c .enum-told .given .1) in
+    omega (arith, s .wordsLong, c .before .before .before .before .before .before .pre)
 
 accepted-requires : tie.Need-accepted-requires
 accepted-requires c κs = search needs
@@ -38,7 +41,8 @@ same-length-2 c = search needs
 returns-2 : tie.Need-returns-2
 returns-2 c =
     let e = c .before .before .before .before .before .before .before .args in
-    turned-done (e .text .now) (e .words .now) _ (sound-store _ _ _ (c .before .before .before .check-store .ensures) (c .before .enum-told .given .1) .unrefused) _ (c .accepted .ensures)
+    turned-done (e .text .now) (e .words .now) _
+    (sound-store _ _ _ (c .before .before .before .check-store .ensures) (c .before .enum-told .given .1) .unrefused) _ (c .accepted .ensures)
 
 pub turn-on-spec : {M : Type 1} → statement M
 turn-on-spec =

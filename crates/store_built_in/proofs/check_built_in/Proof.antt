@@ -21,10 +21,17 @@ refusal-requires : tie.Need-refusal-requires
 refusal-requires c κs = search needs
 
 returns : tie.Need-returns
-returns c = c .refusal .ensures ∙ ap sixAt (c .before .first-error .ensures) ∙ sym (zero-alone _ _ _ (c .before .before .before .before .first-barred .ensures) (ap foundAt (c .before .before .enum-told .given .1)))
+returns c =
+    c .refusal .ensures ∙ ap sixAt (c .before .first-error .ensures)
+    ∙ sym (zero-alone _ _ _ (c .before .before .before .before .first-barred .ensures) (ap foundAt (c .before .before .enum-told .given .1)))
+
+refusal-requires-2 : tie.Need-refusal-requires-2
+refusal-requires-2 c κs = search needs
 
 returns-2 : tie.Need-returns-2
-returns-2 c = sym (zero-barred _ _ _ (c .before .before .before .first-barred .ensures) _ (ap foundAt (c .before .i .given .1)))
+unfolding sixAt
+returns-2 c =
+    c .refusal2 .ensures ∙ sym (zero-barred _ _ _ (c .before .before .before .before .first-barred .ensures) _ (ap foundAt (c .before .before .i .given .1)))
 
 pub check-built-in-spec : {M : Type 1} → statement M
 check-built-in-spec =
@@ -36,4 +43,5 @@ check-built-in-spec =
     first-error-requires
     refusal-requires
     returns
+    refusal-requires-2
     returns-2)

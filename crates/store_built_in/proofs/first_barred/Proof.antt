@@ -23,7 +23,10 @@ is-barred-requires : tie.Need-is-barred-requires Inv-loop μ-loop
 is-barred-requires c κs = search needs
 
 returns : tie.Need-returns Inv-loop μ-loop
-returns c = sym (c .before .before .before .before .loop .inv .1 ∙ barred-hit _ _ _ _ (c .before .before .before .loop-test .taken) refl (c .before .is-barred .ensures ∙ ap isBarred (c .before .before .kind-at .ensures)) (c .if1 .taken))
+returns c =
+    let turn = c .before .before .before in
+    let told = c .before .is-barred .ensures ∙ ap isBarred (c .before .before .kind-at .ensures) in
+    sym (turn .before .loop .inv .1 ∙ barred-hit _ _ _ _ (turn .loop-test .taken) refl told (c .if1 .taken))
 
 add-i : tie.Need-add-i Inv-loop μ-loop
 add-i c = search needs
@@ -32,7 +35,10 @@ loop-less : tie.Need-loop-less Inv-loop μ-loop
 loop-less c = search needs
 
 loop-again : tie.Need-loop-again Inv-loop μ-loop
-loop-again c = (search needs, c .before .before .before .before .loop .inv .1 ∙ barred-next _ _ _ _ (c .before .before .before .loop-test .taken) refl (c .before .is-barred .ensures ∙ ap isBarred (c .before .before .kind-at .ensures)) (c .if1 .left))
+loop-again c =
+    let turn = c .before .before .before in
+    let told = c .before .is-barred .ensures ∙ ap isBarred (c .before .before .kind-at .ensures) in
+    (search needs, turn .before .loop .inv .1 ∙ barred-next _ _ _ _ (turn .loop-test .taken) refl told (c .if1 .left))
 
 returns-2 : tie.Need-returns-2 Inv-loop μ-loop
 returns-2 c = sym (c .before .loop .inv .1 ∙ barred-end _ _ (c .loop-test .left))

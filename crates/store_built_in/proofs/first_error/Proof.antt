@@ -25,7 +25,10 @@ card-fails-requires : tie.Need-card-fails-requires Inv-loop μ-loop
 card-fails-requires c κs = search needs
 
 returns : tie.Need-returns Inv-loop μ-loop
-returns c = sym (c .before .before .before .before .loop .inv .2 ∙ errors-hit _ _ _ _ (c .before .before .card-at .ensures) _ _ (c .before .before .before .loop-test .taken) (c .before .card-fails .ensures) (c .if1 .taken))
+returns c =
+    let turn = c .before .before .before in
+    let hit = errors-hit _ _ _ _ (c .before .before .card-at .ensures) _ _ (turn .loop-test .taken) (c .before .card-fails .ensures) (c .if1 .taken) in
+    sym (turn .before .loop .inv .2 ∙ hit)
 
 add-next : tie.Need-add-next Inv-loop μ-loop
 add-next c = search needs
@@ -37,7 +40,16 @@ loop-less : tie.Need-loop-less Inv-loop μ-loop
 loop-less c = search needs
 
 loop-again : tie.Need-loop-again Inv-loop μ-loop
-loop-again c = (search needs, rw (c .under-after .ensures) (within-next _ _ _ (c .before .before .before .before .before .loop .inv .1)), c .before .before .before .before .before .loop .inv .2 ∙ errors-next _ _ _ _ (c .before .before .before .card-at .ensures) _ _ (c .before .before .before .before .loop-test .taken) (c .before .before .card-fails .ensures) (c .before .before .before .before .before .loop .inv .1) (c .before .if1 .left) ∙ ap (errorsFrom _ _ _) (sym (c .under-after .ensures)))
+loop-again c =
+    let turn = c .before .before .before .before in
+    let v = turn .before .loop .inv in (
+      search needs,
+      rw (c .under-after .ensures) (within-next _ _ _ (v .1)),
+      v .2
+          ∙ errors-next _ _ _ _ (c .before .before .before .card-at .ensures) _ _ (turn .loop-test .taken) (c .before .before .card-fails .ensures)
+          (v .1) (c .before .if1 .left)
+          ∙ ap (errorsFrom _ _ _) (sym (c .under-after .ensures)),
+    )
 
 returns-2 : tie.Need-returns-2 Inv-loop μ-loop
 returns-2 c = sym (c .before .loop .inv .2 ∙ errors-end _ _ _ _ (c .loop-test .left))

@@ -14,10 +14,14 @@ is-type-requires : tie.Need-is-type-requires
 is-type-requires c κs = search needs
 
 returns-2 : tie.Need-returns-2
-returns-2 c = sym (under-type _ _ _ (sym (c .before .before .before .is-part .ensures) ∙ c .before .before .if1 .left) (sym (c .before .is-type .ensures) ∙ c .if2 .taken))
+returns-2 c =
+    sym
+    (under-type _ _ _ (sym (c .before .before .before .is-part .ensures) ∙ c .before .before .if1 .left) (sym (c .before .is-type .ensures) ∙ c .if2 .taken))
 
 returns-3 : tie.Need-returns-3
-returns-3 c = sym (under-other _ _ _ (sym (c .before .before .before .is-part .ensures) ∙ c .before .before .if1 .left) (sym (c .before .is-type .ensures) ∙ c .if2 .left))
+returns-3 c =
+    sym
+    (under-other _ _ _ (sym (c .before .before .before .is-part .ensures) ∙ c .before .before .if1 .left) (sym (c .before .is-type .ensures) ∙ c .if2 .left))
 
 pub under-after-spec : {M : Type 1} → statement M
 under-after-spec =

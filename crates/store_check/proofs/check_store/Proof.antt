@@ -17,7 +17,9 @@ counts-sound-requires : tie.Need-counts-sound-requires
 counts-sound-requires c κs = search needs
 
 returns-3 : tie.Need-returns-3
-returns-3 c = counts-unsound _ _ (c .before .before .before .if1 .left) (c .before .before .if2 .left) (sym (c .before .counts-sound .ensures) ∙ not-true _ (c .if3 .taken))
+returns-3 c =
+    counts-unsound _ _ (c .before .before .before .if1 .left) (c .before .before .if2 .left)
+    (sym (c .before .counts-sound .ensures) ∙ not-true _ (c .if3 .taken))
 
 rows-sound-requires : tie.Need-rows-sound-requires
 rows-sound-requires c κs =
@@ -26,47 +28,57 @@ rows-sound-requires c κs =
 
 returns-4 : tie.Need-returns-4
 returns-4 c =
-    rows-unsound _ _ (c .before .before .before .before .before .if1 .left) (c .before .before .before .before .if2 .left)
-    (sym (c .before .before .before .counts-sound .ensures) ∙ not-false _ (c .before .before .if3 .left))
+    let counts = c .before .before .before in
+    rows-unsound _ _ (counts .before .before .if1 .left) (counts .before .if2 .left)
+    (sym (counts .counts-sound .ensures) ∙ not-false _ (c .before .before .if3 .left))
     (sym (c .before .rows-sound .ensures) ∙ not-true _ (c .if4 .taken))
 
 cards-sound-requires : tie.Need-cards-sound-requires
-cards-sound-requires c κs = (
-  c .before .before .before .before .if2 .left,
-  sym (c .before .before .before .counts-sound .ensures) ∙ not-false _ (c .before .before .if3 .left),
-  sym (c .before .rows-sound .ensures) ∙ not-false _ (c .if4 .left),
-)
+cards-sound-requires c κs = record {
+  long = c .before .before .before .before .if2 .left;
+  counts = sym (c .before .before .before .counts-sound .ensures) ∙ not-false _ (c .before .before .if3 .left);
+  rows = sym (c .before .rows-sound .ensures) ∙ not-false _ (c .if4 .left);
+}
 
 returns-5 : tie.Need-returns-5
 returns-5 c =
-    cards-unsound _ _ (c .before .before .before .before .before .before .before .if1 .left) (c .before .before .before .before .before .before .if2 .left)
-    (sym (c .before .before .before .before .before .counts-sound .ensures) ∙ not-false _ (c .before .before .before .before .if3 .left))
-    (sym (c .before .before .before .rows-sound .ensures) ∙ not-false _ (c .before .before .if4 .left))
-    (sym (c .before .cards-sound .ensures) ∙ not-true _ (c .if5 .taken))
+    let rows = c .before .before .before in
+    let counts = rows .before .before in
+    cards-unsound _ _ (counts .before .before .if1 .left) (counts .before .if2 .left)
+    (sym (counts .counts-sound .ensures) ∙ not-false _ (rows .before .if3 .left))
+    (sym (rows .rows-sound .ensures) ∙ not-false _ (c .before .before .if4 .left)) (sym (c .before .cards-sound .ensures) ∙ not-true _ (c .if5 .taken))
 
 zero-sound-requires : tie.Need-zero-sound-requires
-zero-sound-requires c κs = (
-  c .before .before .before .before .before .before .before .if1 .left,
-  c .before .before .before .before .before .before .if2 .left,
-  sym (c .before .before .before .before .before .counts-sound .ensures) ∙ not-false _ (c .before .before .before .before .if3 .left),
-  sym (c .before .before .before .rows-sound .ensures) ∙ not-false _ (c .before .before .if4 .left),
-)
+zero-sound-requires c κs =
+    let rows = c .before .before .before in
+    let counts = rows .before .before in (
+      counts .before .before .if1 .left,
+      record {
+        long = counts .before .if2 .left;
+        counts = sym (counts .counts-sound .ensures) ∙ not-false _ (rows .before .if3 .left);
+        rows = sym (rows .rows-sound .ensures) ∙ not-false _ (c .before .before .if4 .left);
+      },
+    )
 
 returns-6 : tie.Need-returns-6
 returns-6 c =
-    zero-unsound _ _ (c .before .before .before .before .before .before .before .before .before .if1 .left) (c .before .before .before .before .before .before .before .before .if2 .left)
-    (sym (c .before .before .before .before .before .before .before .counts-sound .ensures) ∙ not-false _ (c .before .before .before .before .before .before .if3 .left))
-    (sym (c .before .before .before .before .before .rows-sound .ensures) ∙ not-false _ (c .before .before .before .before .if4 .left))
-    (sym (c .before .before .before .cards-sound .ensures) ∙ not-false _ (c .before .before .if5 .left))
-    (sym (c .before .zero-sound .ensures) ∙ not-true _ (c .if6 .taken))
+    let cards = c .before .before .before in
+    let rows = cards .before .before in
+    let counts = rows .before .before in
+    zero-unsound _ _ (counts .before .before .if1 .left) (counts .before .if2 .left)
+    (sym (counts .counts-sound .ensures) ∙ not-false _ (rows .before .if3 .left))
+    (sym (rows .rows-sound .ensures) ∙ not-false _ (cards .before .if4 .left))
+    (sym (cards .cards-sound .ensures) ∙ not-false _ (c .before .before .if5 .left)) (sym (c .before .zero-sound .ensures) ∙ not-true _ (c .if6 .taken))
 
 returns-7 : tie.Need-returns-7
 returns-7 c =
-    found-sound _ _ (c .before .before .before .before .before .before .before .before .before .if1 .left) (c .before .before .before .before .before .before .before .before .if2 .left)
-    (sym (c .before .before .before .before .before .before .before .counts-sound .ensures) ∙ not-false _ (c .before .before .before .before .before .before .if3 .left))
-    (sym (c .before .before .before .before .before .rows-sound .ensures) ∙ not-false _ (c .before .before .before .before .if4 .left))
-    (sym (c .before .before .before .cards-sound .ensures) ∙ not-false _ (c .before .before .if5 .left))
-    (sym (c .before .zero-sound .ensures) ∙ not-false _ (c .if6 .left))
+    let cards = c .before .before .before in
+    let rows = cards .before .before in
+    let counts = rows .before .before in
+    found-sound _ _ (counts .before .before .if1 .left) (counts .before .if2 .left)
+    (sym (counts .counts-sound .ensures) ∙ not-false _ (rows .before .if3 .left))
+    (sym (rows .rows-sound .ensures) ∙ not-false _ (cards .before .if4 .left))
+    (sym (cards .cards-sound .ensures) ∙ not-false _ (c .before .before .if5 .left)) (sym (c .before .zero-sound .ensures) ∙ not-false _ (c .if6 .left))
 
 pub check-store-spec : {M : Type 1} → statement M
 check-store-spec =

@@ -2,32 +2,48 @@ use mathlib.Core.Path.{_≡_, sym, ap, _∙_}
 use native.Mathlib.Nat.{add-sub-cancel-left}
 use native.Mathlib.Omega.{arith}
 use lib.Seq.{length-take-le}
+use Prim.Native.Nat.{_+_}
+use Rattle.definition.specs.Store.{documentsAt}
 use Rattle.ast_check.specs.Checks.{checkOption}
 use Rattle.store_check.proofs.Zero.{zero-text, zero-cards, zero-sound, zero-faulty}
 use Rattle.store_check.proofs.zero_sound.Statement.{statement}
 use Rattle.store_check.proofs.zero_sound.Tie as tie
 use borrow.Author.Needs.{needs}
 
+add-len : tie.Need-add-len
+add-len c = search needs
+
+mul-len : tie.Need-mul-len
+mul-len c = search needs
+
 shared-slice-read-len : tie.Need-shared-slice-read-len
 shared-slice-read-len c = search needs
 
 cast-len : tie.Need-cast-len
-cast-len c = omega (arith, c .shared-slice-known3 .given 6)
+cast-len c = omega (arith, c .shared-slice-known3 .given (documentsAt + 1))
+
+add-end : tie.Need-add-end
+add-end c = search needs
+
+mul-end : tie.Need-mul-end
+mul-end c = search needs
 
 shared-slice-read-end : tie.Need-shared-slice-read-end
 shared-slice-read-end c = search needs
 
 cast-end : tie.Need-cast-end
-cast-end c = omega (arith, c .shared-slice-known4 .given 7)
+cast-end c = omega (arith, c .shared-slice-known4 .given (documentsAt + 2))
 
-mul-end : tie.Need-mul-end
-mul-end c = let p = c .before .before .before .before .pre in omega (arith, zero-cards (c .before .before .before .before .args .text .now) _ (p .2) (p .3) (p .1))
+mul-end-2 : tie.Need-mul-end-2
+mul-end-2 c = let s = c .before .before .before .before in omega (arith, zero-cards (s .args .text .now) _ (s .pre .1))
 
-add-end : tie.Need-add-end
-add-end c = let p = c .before .before .before .before .pre in omega (arith, zero-cards (c .before .before .before .before .args .text .now) _ (p .2) (p .3) (p .1))
+add-end-2 : tie.Need-add-end-2
+add-end-2 c = let s = c .before .before .before .before in omega (arith, zero-cards (s .args .text .now) _ (s .pre .1))
 
 slice-aggregate-check-built-in : tie.Need-slice-aggregate-check-built-in
-slice-aggregate-check-built-in c = let p = c .before .before .before .before .before .pre in sym (length-take-le _ _ (omega (arith, p .0, zero-text (c .before .before .before .before .before .args .text .now) _ (p .2) (p .3) (p .1))))
+slice-aggregate-check-built-in c =
+    let s = c .before .before .before .before .before in
+    sym (length-take-le _ _ (omega (arith, s .pre .0, zero-text (s .args .text .now) _ (s .pre .1))))
 
 sub-check-built-in : tie.Need-sub-check-built-in
 sub-check-built-in c = search needs
@@ -36,7 +52,9 @@ part-check-built-in-start : tie.Need-part-check-built-in-start
 part-check-built-in-start c = search needs
 
 part-check-built-in-end : tie.Need-part-check-built-in-end
-part-check-built-in-end c = let p = c .before .before .before .before .before .pre in omega (arith, p .1, zero-cards (c .before .before .before .before .before .args .text .now) _ (p .2) (p .3) (p .1))
+part-check-built-in-end c =
+    let s = c .before .before .before .before .before in
+    omega (arith, s .pre .1 .long, zero-cards (s .args .text .now) _ (s .pre .1))
 
 check-built-in-requires : tie.Need-check-built-in-requires
 check-built-in-requires c κs = search needs
@@ -48,21 +66,29 @@ enum-told-2 : tie.Need-enum-told-2
 enum-told-2 c = search needs
 
 returns : tie.Need-returns
-returns c = let p = c .before .before .before .before .before .before .before .before .before .pre in zero-faulty _ _ (p .2) (p .3) (p .1) _ (sym (simp add-sub-cancel-left at (c .before .before .check-built-in .ensures)) ∙ ap checkOption (c .enum-told2 .given .1))
+returns c =
+    zero-faulty _ _ (c .before .before .before .before .before .before .before .before .before .pre .1) _
+    (sym (simp add-sub-cancel-left at (c .before .before .check-built-in .ensures)) ∙ ap checkOption (c .enum-told2 .given .1))
 
 returns-2 : tie.Need-returns-2
-returns-2 c = let p = c .before .before .before .before .before .before .before .before .before .pre in zero-sound _ _ (p .2) (p .3) (p .1) (sym (simp add-sub-cancel-left at (c .before .before .check-built-in .ensures)) ∙ ap checkOption (c .enum-told .given .1))
+returns-2 c =
+    zero-sound _ _ (c .before .before .before .before .before .before .before .before .before .pre .1)
+    (sym (simp add-sub-cancel-left at (c .before .before .check-built-in .ensures)) ∙ ap checkOption (c .enum-told .given .1))
 
 pub zero-sound-spec : {M : Type 1} → statement M
 zero-sound-spec =
     tie.close
     (tie.spec
+    add-len
+    mul-len
     shared-slice-read-len
     cast-len
+    add-end
+    mul-end
     shared-slice-read-end
     cast-end
-    mul-end
-    add-end
+    mul-end-2
+    add-end-2
     slice-aggregate-check-built-in
     sub-check-built-in
     part-check-built-in-start

@@ -27,7 +27,10 @@ is-part-requires : tie.Need-is-part-requires Inv-loop μ-loop
 is-part-requires c κs = search needs
 
 returns : tie.Need-returns Inv-loop μ-loop
-returns c = from-here _ _ _ (c .before .before .before .before .before .cards-used .ensures) _ _ (c .before .before .kind-of .ensures) _ (c .before .is-part .ensures) (c .before .before .before .before .loop .inv) (c .before .before .before .loop-test .taken) (not-true _ (c .if1 .taken))
+returns c =
+    from-here _ _ _ (c .before .before .before .before .before .cards-used .ensures) _ _ (c .before .before .kind-of .ensures) _
+    (c .before .is-part .ensures) (c .before .before .before .before .loop .inv) (c .before .before .before .loop-test .taken)
+    (not-true _ (c .if1 .taken))
 
 add-i : tie.Need-add-i Inv-loop μ-loop
 add-i c = search needs
@@ -36,7 +39,10 @@ loop-less : tie.Need-loop-less Inv-loop μ-loop
 loop-less c = search needs
 
 loop-again : tie.Need-loop-again Inv-loop μ-loop
-loop-again c = from-step _ _ _ (c .before .before .before .before .before .cards-used .ensures) _ _ (c .before .before .kind-of .ensures) _ (c .before .is-part .ensures) (c .before .before .before .before .loop .inv) (c .before .before .before .loop-test .taken) (not-false _ (c .if1 .left))
+loop-again c =
+    from-step _ _ _ (c .before .before .before .before .before .cards-used .ensures) _ _ (c .before .before .kind-of .ensures) _
+    (c .before .is-part .ensures) (c .before .before .before .before .loop .inv) (c .before .before .before .loop-test .taken)
+    (not-false _ (c .if1 .left))
 
 returns-2 : tie.Need-returns-2 Inv-loop μ-loop
 returns-2 c = from-end _ _ _ (c .before .before .cards-used .ensures) _ (c .before .loop .inv) (c .loop-test .left)

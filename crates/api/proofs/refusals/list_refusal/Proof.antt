@@ -1,19 +1,19 @@
-use Rattle.api.proofs.RefusalsListed.{before-room, no-room, enough-room}
+use Rattle.api.proofs.ListRefusal.{before-capacity, no-capacity, enough-capacity}
 use Rattle.api.proofs.refusals.list_refusal.Statement.{statement}
 use Rattle.api.proofs.refusals.list_refusal.Tie as tie
 use borrow.Author.Needs.{needs}
 
-refusal-requires : tie.Need-refusal-requires
-refusal-requires c κs = search needs
+lookup-refusal-requires : tie.Need-lookup-refusal-requires
+lookup-refusal-requires c κs = search needs
 
 returns : tie.Need-returns
-returns c = before-room _ _ _ _ _ _ (c .before .refusal .ensures) (c .if1 .taken)
+returns c = before-capacity _ _ _ _ _ _ (c .before .lookup-refusal .ensures) (c .if1 .taken)
 
 returns-2 : tie.Need-returns-2
-returns-2 c = no-room _ _ _ _ _ _ (c .before .before .refusal .ensures) (c .before .if1 .left) (c .if2 .taken)
+returns-2 c = no-capacity _ _ _ _ _ _ (c .before .before .lookup-refusal .ensures) (c .before .if1 .left) (c .if2 .taken)
 
 returns-3 : tie.Need-returns-3
-returns-3 c = enough-room _ _ _ _ _ _ (c .before .before .refusal .ensures) (c .before .if1 .left) (c .if2 .left)
+returns-3 c = enough-capacity _ _ _ _ _ _ (c .before .before .lookup-refusal .ensures) (c .before .if1 .left) (c .if2 .left)
 
 pub list-refusal-spec : {M : Type 1} → statement M
-list-refusal-spec = tie.close (tie.spec refusal-requires returns returns-2 returns-3)
+list-refusal-spec = tie.close (tie.spec lookup-refusal-requires returns returns-2 returns-3)

@@ -1,10 +1,10 @@
 use borrow.Author.Needs.{needs}
-use Rattle.definition.specs.Outcomes.{undrawn}
+use Rattle.definition.specs.Outcomes.{unbuilt}
 use Rattle.api.proofs.refusals.refused_drawing.Statement.{statement}
 use Rattle.api.proofs.refusals.refused_drawing.Tie as tie
 
 returns : tie.Need-returns
-unfolding undrawn
+unfolding unbuilt
 returns c = search needs
 
 pub refused-drawing-spec : {M : Type 1} → statement M

@@ -23,7 +23,10 @@ item-end-requires : tie.Need-item-end-requires
 item-end-requires c κs = search needs
 
 returns-2 : tie.Need-returns-2
-returns-2 c = λ p e. after-sibling p (cardOf (c .before .before .before .before .before .args .card)) (cardOf (c .before .before .before .sibling .given .0 .0)) _ (e ∙ ap neighbourOf (c .before .before .before .sibling .given .1)) (c .item-end .ensures)
+returns-2 c =
+    λ p e. after-sibling p (cardOf (c .before .before .before .before .before .args .card))
+    (cardOf (c .before .before .before .sibling .given .0 .0)) _ (e ∙ ap neighbourOf (c .before .before .before .sibling .given .1))
+    (c .item-end .ensures)
 
 pub item-before-sibling-end-spec : {M : Type 1} → statement M
 item-before-sibling-end-spec =

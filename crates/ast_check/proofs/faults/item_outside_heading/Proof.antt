@@ -17,7 +17,11 @@ returns : tie.Need-returns
 returns c = λ p e. sym (no-heading-item p (cardOf (c .before .before .args .card)) (e ∙ ap neighbourOf (c .enum-told .given .1)))
 
 returns-2 : tie.Need-returns-2
-returns-2 c = λ p e. sym (before-heading p (cardOf (c .before .before .before .before .before .before .args .card)) (cardOf (c .before .before .before .before .heading .given .0 .0)) (e ∙ ap neighbourOf (c .before .before .before .before .heading .given .1)) (c .if1 .taken))
+returns-2 c =
+    λ p e. sym
+    (before-heading p (cardOf (c .before .before .before .before .before .before .args .card))
+    (cardOf (c .before .before .before .before .heading .given .0 .0)) (e ∙ ap neighbourOf (c .before .before .before .before .heading .given .1))
+    (c .if1 .taken))
 
 item-end-requires : tie.Need-item-end-requires
 item-end-requires c κs = search needs
@@ -26,7 +30,11 @@ item-end-requires-2 : tie.Need-item-end-requires-2
 item-end-requires-2 c κs = search needs
 
 returns-3 : tie.Need-returns-3
-returns-3 c = λ p e. past-heading p (cardOf (c .before .before .before .before .before .before .before .before .args .card)) (cardOf (c .before .before .before .before .before .before .heading .given .0 .0)) _ _ (e ∙ ap neighbourOf (c .before .before .before .before .before .before .heading .given .1)) (c .before .before .if1 .left) (c .before .item-end .ensures) (c .item-end2 .ensures)
+returns-3 c =
+    λ p e. past-heading p (cardOf (c .before .before .before .before .before .before .before .before .args .card))
+    (cardOf (c .before .before .before .before .before .before .heading .given .0 .0)) _ _
+    (e ∙ ap neighbourOf (c .before .before .before .before .before .before .heading .given .1)) (c .before .before .if1 .left)
+    (c .before .item-end .ensures) (c .item-end2 .ensures)
 
 pub item-outside-heading-spec : {M : Type 1} → statement M
 item-outside-heading-spec =

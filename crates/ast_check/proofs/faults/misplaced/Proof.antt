@@ -21,13 +21,20 @@ enum-told : tie.Need-enum-told
 enum-told c = search needs
 
 returns-2 : tie.Need-returns-2
-returns-2 c = λ p e f. sym (part-alone p (cardOf (c .before .before .before .before .args .card)) (sym (c .before .before .before .is-part .ensures) ∙ not-false _ (c .before .before .if1 .left)) (e ∙ ap neighbourOf (c .enum-told .given .1)))
+returns-2 c =
+    λ p e f. sym
+    (part-alone p (cardOf (c .before .before .before .before .args .card))
+    (sym (c .before .before .before .is-part .ensures) ∙ not-false _ (c .before .before .if1 .left)) (e ∙ ap neighbourOf (c .enum-told .given .1)))
 
 misplaced-under-requires : tie.Need-misplaced-under-requires
 misplaced-under-requires c κs = search needs
 
 returns-3 : tie.Need-returns-3
-returns-3 c = λ p e f. part-under p (cardOf (c .before .before .before .before .before .before .args .card)) (cardOf (c .before .before .heading .given .0 .0)) _ (sym (c .before .before .before .before .before .is-part .ensures) ∙ not-false _ (c .before .before .before .before .if1 .left)) (e ∙ ap neighbourOf (c .before .before .heading .given .1)) (c .misplaced-under .ensures p f)
+returns-3 c =
+    λ p e f. part-under p (cardOf (c .before .before .before .before .before .before .args .card))
+    (cardOf (c .before .before .heading .given .0 .0)) _
+    (sym (c .before .before .before .before .before .is-part .ensures) ∙ not-false _ (c .before .before .before .before .if1 .left))
+    (e ∙ ap neighbourOf (c .before .before .heading .given .1)) (c .misplaced-under .ensures p f)
 
 pub misplaced-spec : {M : Type 1} → statement M
 misplaced-spec =

@@ -15,7 +15,9 @@ is-unnamed-requires-2 : tie.Need-is-unnamed-requires-2
 is-unnamed-requires-2 c κs = search needs
 
 returns-2 : tie.Need-returns-2
-returns-2 c = λ p. amiss-schema-extension p (cardOf (c .before .before .before .args .card)) _ (c .is-unnamed2 .ensures) (c .before .before .if1 .left) (c .before .if2 .taken)
+returns-2 c =
+    λ p. amiss-schema-extension p (cardOf (c .before .before .before .args .card)) _ (c .is-unnamed2 .ensures) (c .before .before .if1 .left)
+    (c .before .if2 .taken)
 
 returns-3 : tie.Need-returns-3
 returns-3 c = λ p. sym (amiss-operation p (cardOf (c .before .before .before .args .card)) (c .if3 .taken))
@@ -24,7 +26,9 @@ is-unnamed-requires-3 : tie.Need-is-unnamed-requires-3
 is-unnamed-requires-3 c κs = search needs
 
 returns-4 : tie.Need-returns-4
-returns-4 c = λ p. amiss-other p (cardOf (c .before .before .before .before .args .card)) _ (c .is-unnamed3 .ensures) (c .before .before .before .if1 .left) (c .before .before .if2 .left) (c .before .if3 .left)
+returns-4 c =
+    λ p. amiss-other p (cardOf (c .before .before .before .before .args .card)) _ (c .is-unnamed3 .ensures) (c .before .before .before .if1 .left)
+    (c .before .before .if2 .left) (c .before .if3 .left)
 
 pub name-amiss-spec : {M : Type 1} → statement M
 name-amiss-spec =

@@ -12,7 +12,10 @@ returns : tie.Need-returns
 returns c = λ p. sym (name-absent p (cardOf (c .before .before .args .card)) (sym (c .before .is-unnamed .ensures) ∙ c .if1 .taken))
 
 returns-2 : tie.Need-returns-2
-returns-2 c = λ p. sym (name-before p (cardOf (c .before .before .before .before .args .card)) (sym (c .before .before .before .is-unnamed .ensures) ∙ c .before .before .if1 .left) (c .if2 .taken))
+returns-2 c =
+    λ p. sym
+    (name-before p (cardOf (c .before .before .before .before .args .card))
+    (sym (c .before .before .before .is-unnamed .ensures) ∙ c .before .before .if1 .left) (c .if2 .taken))
 
 item-end-requires : tie.Need-item-end-requires
 item-end-requires c κs = search needs
@@ -21,7 +24,10 @@ name-end-requires : tie.Need-name-end-requires
 name-end-requires c κs = search needs
 
 returns-3 : tie.Need-returns-3
-returns-3 c = λ p. name-past p (cardOf (c .before .before .before .before .before .before .args .card)) _ _ (sym (c .before .before .before .before .before .is-unnamed .ensures) ∙ c .before .before .before .before .if1 .left) (c .before .before .if2 .left) (c .before .item-end .ensures) (c .name-end .ensures)
+returns-3 c =
+    λ p. name-past p (cardOf (c .before .before .before .before .before .before .args .card)) _ _
+    (sym (c .before .before .before .before .before .is-unnamed .ensures) ∙ c .before .before .before .before .if1 .left)
+    (c .before .before .if2 .left) (c .before .item-end .ensures) (c .name-end .ensures)
 
 pub name-outside-item-spec : {M : Type 1} → statement M
 name-outside-item-spec =

@@ -15,7 +15,9 @@ is-part-requires : tie.Need-is-part-requires
 is-part-requires c κs = search needs
 
 returns-2 : tie.Need-returns-2
-returns-2 c = λ p. no-heading p (cardOf (c .before .before .before .args .card)) _ (sym (c .before .before .is-heading .ensures) ∙ c .before .if1 .left) (c .is-part .ensures)
+returns-2 c =
+    λ p. no-heading p (cardOf (c .before .before .before .args .card)) _ (sym (c .before .before .is-heading .ensures) ∙ c .before .if1 .left)
+    (c .is-part .ensures)
 
 pub unknown-kind-spec : {M : Type 1} → statement M
 unknown-kind-spec = tie.close (tie.spec is-heading-requires returns is-part-requires returns-2)

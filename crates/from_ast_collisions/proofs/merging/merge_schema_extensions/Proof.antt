@@ -1,27 +1,24 @@
-use Prim.Native.Nat.{_≤_, _-_}
-use native.Mathlib.Omega.{arith}
-use mathlib.Core.Path.{_≡_, _∙_, refl}
-use lib.ListN.{length, drop}
-use Rattle.definition.specs.Lists.{flatMap}
-use Rattle.from_ast_collisions.specs.Pushing.{ledger}
-use Rattle.from_ast_collisions.specs.ByCards.{schemaMergeErrors}
+use Prim.Native.Nat.{_-_}
+use lib.ListN.{length}
+use Rattle.from_ast_collisions.specs.ErrorsByCards.{schemaMergeErrors}
 use Rattle.from_ast_collisions.specs.Views.{cardView}
-use Rattle.from_ast_collisions.proofs.LawsPush.{Going, going-start, next-room, next-on, going-end, flat-next, flat-done}
+use Rattle.from_ast_collisions.proofs.Push.{Turn, turn-first, turn-fits, turn-next, turn-last}
 use Rattle.from_ast_collisions.proofs.merging.merge_schema_extensions.Statement.{statement}
 use Rattle.from_ast_collisions.proofs.merging.merge_schema_extensions.Tie as tie
 use borrow.Author.Needs.{needs}
 
 abbrev Inv-loop : tie.InvT-loop
-Inv-loop text words prints rows schema heads errors₀ from t₀ i₀ errors t i = (length errors ≡ length errors₀) × (i ≤ length heads) × Going (ledger errors₀ t₀) (ledger errors t) (flatMap (schemaMergeErrors (cardView text words) rows schema) heads) (flatMap (schemaMergeErrors (cardView text words) rows schema) (drop i heads))
+Inv-loop text words headings hashes rows schema errors₀ from t₀ i₀ errors t i =
+    Turn (schemaMergeErrors (cardView text words) rows schema) headings errors₀ t₀ errors t i
 
 abbrev μ-loop : tie.MeasureT-loop
-μ-loop text words prints rows schema heads errors₀ from t₀ i₀ errors t i = length heads - i
+μ-loop text words headings hashes rows schema errors₀ from t₀ i₀ errors t i = length headings - i
 
-find-row-requires : tie.Need-find-row-requires Inv-loop μ-loop
-find-row-requires c κs = search needs
+seek-row-requires : tie.Need-seek-row-requires Inv-loop μ-loop
+seek-row-requires c κs = search needs
 
 loop-holds : tie.Need-loop-holds Inv-loop μ-loop
-loop-holds c = (refl, omega arith, going-start _ _ (c .before .before .before .before .before .before .before .pre .1))
+loop-holds c = turn-first _ _ _ _ (c .before .before .before .before .before .before .before .pre .1)
 
 mul-merge-schema-extension : tie.Need-mul-merge-schema-extension Inv-loop μ-loop
 mul-merge-schema-extension c = search needs
@@ -31,9 +28,14 @@ shared-slice-read-merge-schema-extension c = search needs
 
 merge-schema-extension-requires : tie.Need-merge-schema-extension-requires Inv-loop μ-loop
 merge-schema-extension-requires c κs =
-    let e = c .before .before .before .before .before .before .before .before .before .before .before .args in
-    let a = c .before .before .before .loop in
-    (record { printed = c .before .before .before .before .before .before .before .before .before .before .before .pre .0; row = c .before .before .before .before .find-row .ensures }, next-room _ _ _ _ _ _ (flat-next (schemaMergeErrors (cardView (e .text .now) (e .words .now)) (e .rows .now) (e .schema)) (e .heads .now) (a .i) (c .before .before .loop-test .taken)) (a .inv .2))
+    let s = c .before .before .before .before .before .before .before .before .before .before .before in
+    let a = c .before .before .before .loop in (
+      record {
+        hashed = s .pre .0;
+        row = c .before .before .before .before .seek-row .ensures;
+      },
+      turn-fits _ _ _ _ _ _ _ (a .inv) (c .before .before .loop-test .taken),
+    )
 
 add-i : tie.Need-add-i Inv-loop μ-loop
 add-i c = search needs
@@ -43,21 +45,15 @@ loop-less c = search needs
 
 loop-again : tie.Need-loop-again Inv-loop μ-loop
 loop-again c =
-    let e = c .before .before .before .before .before .before .before .before .before .before .before .before .before .before .args in
-    let a = c .before .before .before .before .before .before .loop in (
-      c .before .before .merge-schema-extension .kept .1 .1 .1 .1 .1 .1 .1 .0 ∙ a .inv .0,
-      omega arith,
-      next-on _ _ _ _ _ _ _ (flat-next (schemaMergeErrors (cardView (e .text .now) (e .words .now)) (e .rows .now) (e .schema)) (e .heads .now) (a .i) (c .before .before .before .before .before .loop-test .taken)) (c .before .before .merge-schema-extension .ensures) (a .inv .2),
-    )
+    turn-next _ _ _ _ _ _ _ (c .before .before .before .before .before .before .loop .inv)
+    (c .before .before .before .before .before .loop-test .taken) _ _ (c .before .before .merge-schema-extension .kept .1 .1 .1 .1 .1 .1 .1 .0)
+    (c .before .before .merge-schema-extension .ensures)
 
 same-length : tie.Need-same-length Inv-loop μ-loop
 same-length c = search needs
 
 returns : tie.Need-returns Inv-loop μ-loop
-returns c =
-    let e = c .before .before .before .before .before .before .before .before .before .args in
-    let a = c .before .loop in
-    going-end _ _ _ _ (flat-done _ (e .heads .now) (a .i) (c .loop-test .left)) (a .inv .2)
+returns c = turn-last _ _ _ _ _ _ _ (c .before .loop .inv) (c .loop-test .left)
 
 pub merge-schema-extensions-spec : {M : Type 1} → statement M
 merge-schema-extensions-spec =
@@ -65,7 +61,7 @@ merge-schema-extensions-spec =
     (tie.spec
     Inv-loop
     μ-loop
-    find-row-requires
+    seek-row-requires
     loop-holds
     mul-merge-schema-extension
     shared-slice-read-merge-schema-extension

@@ -3,7 +3,7 @@ use native.Mathlib.Omega.{arith}
 use mathlib.Core.Path.{_≡_, refl}
 use lib.ListN.{length, getD, length-set}
 use borrow.Author.Needs.{needs}
-use Rattle.from_ast_collisions.proofs.LawsPlaces.{cleared-more, cleared-all}
+use Rattle.from_ast_collisions.proofs.Places.{cleared-more, cleared-all}
 use Rattle.from_ast_collisions.proofs.placing.clear.Statement.{statement}
 use Rattle.from_ast_collisions.proofs.placing.clear.Tie as tie
 

@@ -1,6 +1,6 @@
 use Prim.Native.Nat.{_+_}
 use native.Mathlib.Omega.{arith}
-use Rattle.from_ast_collisions.proofs.LawsPlaces.{placed-part, placed-past, placed-here}
+use Rattle.from_ast_collisions.proofs.Places.{placed-part, placed-past, placed-here}
 use borrow.Author.Needs.{needs}
 use Rattle.from_ast_collisions.proofs.placing.place_row.Statement.{statement}
 use Rattle.from_ast_collisions.proofs.placing.place_row.Tie as tie
@@ -31,8 +31,9 @@ cast-card c = omega (arith, c .shared-slice-known2 .given (c .before .before .be
 
 returns-2 : tie.Need-returns-2
 returns-2 c =
-    let e = c .before .before .before .before .args in
-    let p = c .before .before .before .before .pre in
+    let s = c .before .before .before .before in
+    let e = s .args in
+    let p = s .pre in
     placed-past (e .rows .now) (e .places .now) (e .i) (p .0) (p .2) (c .if2 .taken)
 
 cast-places : tie.Need-cast-places
@@ -49,8 +50,9 @@ same-length c = search needs
 
 returns-3 : tie.Need-returns-3
 returns-3 c =
-    let e = c .before .before .before .before .args in
-    let p = c .before .before .before .before .pre in
+    let s = c .before .before .before .before in
+    let e = s .args in
+    let p = s .pre in
     placed-here (e .rows .now) (e .places .now) (e .i) (p .0) (p .2) (c .if2 .left)
 
 pub place-row-spec : {M : Type 1} → statement M

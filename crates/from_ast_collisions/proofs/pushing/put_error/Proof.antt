@@ -1,6 +1,6 @@
 use native.Mathlib.Omega.{arith}
 use lib.ListN.{length-set}
-use Rattle.from_ast_collisions.proofs.LawsPush.{three-written}
+use Rattle.from_ast_collisions.proofs.Push.{three-written}
 use Rattle.from_ast_collisions.proofs.pushing.put_error.Statement.{statement}
 use Rattle.from_ast_collisions.proofs.pushing.put_error.Tie as tie
 use borrow.Author.Needs.{needs}

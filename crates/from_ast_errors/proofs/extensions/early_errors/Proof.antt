@@ -1,25 +1,22 @@
-use Prim.Native.Nat.{_≤_, _-_}
-use native.Mathlib.Omega.{arith}
-use mathlib.Core.Path.{_≡_, _∙_, refl}
-use lib.ListN.{length, drop}
-use Rattle.definition.specs.Lists.{flatMap}
-use Rattle.from_ast_collisions.specs.Pushing.{ledger}
-use Rattle.from_ast_collisions.specs.ByCards.{earlyErrors}
+use Prim.Native.Nat.{_-_}
+use lib.ListN.{length}
+use Rattle.from_ast_collisions.specs.ErrorsByCards.{earlyErrors}
 use Rattle.from_ast_collisions.specs.Views.{viewOf}
-use Rattle.from_ast_collisions.proofs.LawsPush.{Going, going-start, next-room, next-on, going-end, flat-next, flat-done}
-use Rattle.from_ast_collisions.proofs.LawsBranches.{none-early}
+use Rattle.from_ast_collisions.proofs.Push.{Turn, turn-first, turn-fits, turn-next, turn-left, turn-last}
+use Rattle.from_ast_collisions.proofs.Branches.{none-early}
 use Rattle.from_ast_errors.proofs.extensions.early_errors.Statement.{statement}
 use Rattle.from_ast_errors.proofs.extensions.early_errors.Tie as tie
 use borrow.Author.Needs.{needs}
 
 abbrev Inv-loop : tie.InvT-loop
-Inv-loop text words prints owners extensions rows from kind h errors₀ t₀ i₀ errors t i = (length errors ≡ length errors₀) × (i ≤ length extensions) × Going (ledger errors₀ t₀) (ledger errors t) (flatMap (earlyErrors (viewOf text words owners) rows h) extensions) (flatMap (earlyErrors (viewOf text words owners) rows h) (drop i extensions))
+Inv-loop text words hashes owners extensions rows from kind h errors₀ t₀ i₀ errors t i =
+    Turn (earlyErrors (viewOf text words owners) rows h) extensions errors₀ t₀ errors t i
 
 abbrev μ-loop : tie.MeasureT-loop
-μ-loop text words prints owners extensions rows from kind h errors₀ t₀ i₀ errors t i = length extensions - i
+μ-loop text words hashes owners extensions rows from kind h errors₀ t₀ i₀ errors t i = length extensions - i
 
 loop-holds : tie.Need-loop-holds Inv-loop μ-loop
-loop-holds c = (refl, omega arith, going-start _ _ (c .before .before .before .before .before .before .before .pre .3))
+loop-holds c = turn-first _ _ _ _ (c .before .before .before .before .before .before .before .pre .3)
 
 mul-card : tie.Need-mul-card Inv-loop μ-loop
 mul-card c = search needs
@@ -32,16 +29,18 @@ same-length c = search needs
 
 returns : tie.Need-returns Inv-loop μ-loop
 returns c =
-    let e = c .before .before .before .before .before .before .before .before .before .before .before .args in
+    let s = c .before .before .before .before .before .before .before .before .before .before .before in
+    let e = s .args in
     let a = c .before .before .before .loop in
-    going-end _ _ _ _ (none-early (viewOf (e .text .now) (e .words .now) (e .owners .now)) (e .rows .now) (e .h) (e .extensions .now) (a .i) (c .before .before .before .before .before .before .before .before .before .before .before .pre .2) (c .before .before .loop-test .taken) (c .if1 .taken)) (a .inv .2)
+    turn-left _ _ _ _ _ _ _ (a .inv) (none-early (viewOf _ _ (e .owners .now)) (e .rows .now) (e .h) (e .extensions .now)
+    (a .i) (s .pre .2) (c .before .before .loop-test .taken) (c .if1 .taken))
 
 early-extension-errors-requires : tie.Need-early-extension-errors-requires Inv-loop μ-loop
 early-extension-errors-requires c κs =
-    let e = c .before .before .before .before .before .before .before .before .before .before .before .before .args in
-    let p = c .before .before .before .before .before .before .before .before .before .before .before .before .pre in
+    let s = c .before .before .before .before .before .before .before .before .before .before .before .before in
+    let p = s .pre in
     let a = c .before .before .before .before .loop in
-    (p .0, p .1, c .before .if1 .left, next-room _ _ _ _ _ _ (flat-next (earlyErrors (viewOf (e .text .now) (e .words .now) (e .owners .now)) (e .rows .now) (e .h)) (e .extensions .now) (a .i) (c .before .before .before .loop-test .taken)) (a .inv .2))
+    (p .0, p .1, c .before .if1 .left, turn-fits _ _ _ _ _ _ _ (a .inv) (c .before .before .before .loop-test .taken))
 
 add-i : tie.Need-add-i Inv-loop μ-loop
 add-i c = search needs
@@ -51,21 +50,15 @@ loop-less c = search needs
 
 loop-again : tie.Need-loop-again Inv-loop μ-loop
 loop-again c =
-    let e = c .before .before .before .before .before .before .before .before .before .before .before .before .before .before .before .args in
-    let a = c .before .before .before .before .before .before .before .loop in (
-      c .before .before .early-extension-errors .kept .1 .1 .1 .1 .1 .1 .1 .1 .1 .0 ∙ a .inv .0,
-      omega arith,
-      next-on _ _ _ _ _ _ _ (flat-next (earlyErrors (viewOf (e .text .now) (e .words .now) (e .owners .now)) (e .rows .now) (e .h)) (e .extensions .now) (a .i) (c .before .before .before .before .before .before .loop-test .taken)) (c .before .before .early-extension-errors .ensures) (a .inv .2),
-    )
+    turn-next _ _ _ _ _ _ _ (c .before .before .before .before .before .before .before .loop .inv)
+    (c .before .before .before .before .before .before .loop-test .taken) _ _
+    (c .before .before .early-extension-errors .kept .1 .1 .1 .1 .1 .1 .1 .1 .1 .0) (c .before .before .early-extension-errors .ensures)
 
 same-length-2 : tie.Need-same-length-2 Inv-loop μ-loop
 same-length-2 c = search needs
 
 returns-2 : tie.Need-returns-2 Inv-loop μ-loop
-returns-2 c =
-    let e = c .before .before .before .before .before .before .before .before .before .args in
-    let a = c .before .loop in
-    going-end _ _ _ _ (flat-done _ (e .extensions .now) (a .i) (c .loop-test .left)) (a .inv .2)
+returns-2 c = turn-last _ _ _ _ _ _ _ (c .before .loop .inv) (c .loop-test .left)
 
 pub early-errors-spec : {M : Type 1} → statement M
 early-errors-spec =

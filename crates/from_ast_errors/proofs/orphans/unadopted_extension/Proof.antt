@@ -1,7 +1,7 @@
 use mathlib.Core.List.{[]}
 use borrow.Author.Tests.{not-true, not-false}
-use Rattle.from_ast_collisions.proofs.LawsPush.{none-pushed, one-pushed, one-fits}
-use Rattle.from_ast_collisions.proofs.LawsBranches.{unadopted-other, unadopted-same}
+use Rattle.from_ast_collisions.proofs.Push.{same-pushed, same-capacity, none-pushed}
+use Rattle.from_ast_collisions.proofs.Branches.{unadopted-other, unadopted-same}
 use Rattle.from_ast_errors.proofs.orphans.unadopted_extension.Statement.{statement}
 use Rattle.from_ast_errors.proofs.orphans.unadopted_extension.Tie as tie
 use borrow.Author.Needs.{needs}
@@ -12,12 +12,15 @@ is-orphan-of-requires c κs = let p = c .before .before .before .before .before 
 returns : tie.Need-returns
 returns c =
     let e = c .before .before .before .before .before .before .before .args in
-    none-pushed _ _ (unadopted-other (e .text .now) (e .words .now) (e .owners .now) [] (e .g) (e .card) _ (c .before .is-orphan-of .ensures) (not-true _ (c .if1 .taken)))
+    none-pushed _ _ (unadopted-other _ _ (e .owners .now) [] (e .g) (e .card) _ (c .before .is-orphan-of .ensures)
+    (not-true _ (c .if1 .taken)))
 
 push-error-requires : tie.Need-push-error-requires
 push-error-requires c κs =
-    let e = c .before .before .before .before .before .before .before .before .args in
-    one-fits _ _ _ (unadopted-same (e .text .now) (e .words .now) (e .owners .now) [] (e .g) (e .card) _ (c .before .before .is-orphan-of .ensures) (not-false _ (c .before .if1 .left))) (c .before .before .before .before .before .before .before .before .pre .3)
+    let s = c .before .before .before .before .before .before .before .before in
+    let e = s .args in
+    same-capacity _ _ _ (unadopted-same _ _ (e .owners .now) [] (e .g) (e .card) _
+    (c .before .before .is-orphan-of .ensures) (not-false _ (c .before .if1 .left))) (s .pre .3)
 
 same-length : tie.Need-same-length
 same-length c = search needs
@@ -25,7 +28,9 @@ same-length c = search needs
 returns-2 : tie.Need-returns-2
 returns-2 c =
     let e = c .before .before .before .before .before .before .before .before .before .before .before .args in
-    one-pushed _ _ _ _ (unadopted-same (e .text .now) (e .words .now) (e .owners .now) [] (e .g) (e .card) _ (c .before .before .before .before .before .is-orphan-of .ensures) (not-false _ (c .before .before .before .before .if1 .left))) (c .before .before .push-error .ensures)
+    same-pushed _ _ _ _ (unadopted-same _ _ (e .owners .now) [] (e .g) (e .card) _
+    (c .before .before .before .before .before .is-orphan-of .ensures) (not-false _ (c .before .before .before .before .if1 .left)))
+    (c .before .before .push-error .ensures)
 
 pub unadopted-extension-spec : {M : Type 1} → statement M
 unadopted-extension-spec =

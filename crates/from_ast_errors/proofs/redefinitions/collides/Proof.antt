@@ -1,7 +1,7 @@
 use mathlib.Core.Path.{sym, _∙_}
 use Rattle.from_ast_index.specs.Index.{sameCards}
 use Rattle.from_ast_collisions.specs.Views.{cardView}
-use Rattle.from_ast_collisions.proofs.LawsBranches.{collides-other, collides-built-in, collides-named}
+use Rattle.from_ast_collisions.proofs.Branches.{collides-other, collides-built-in, collides-named}
 use Rattle.from_ast_errors.proofs.redefinitions.collides.Statement.{statement}
 use Rattle.from_ast_errors.proofs.redefinitions.collides.Tie as tie
 use borrow.Author.Needs.{needs}
@@ -12,7 +12,7 @@ card-kind-requires c κs = search needs
 returns : tie.Need-returns
 returns c =
     let e = c .before .before .before .before .before .args in
-    sym (collides-other (cardView (e .text .now) (e .words .now)) (e .h) (e .card) (λ q. c .if1 .taken (c .before .card-kind .ensures ∙ q)))
+    sym (collides-other _ (e .h) (e .card) (λ q. c .if1 .taken (c .before .card-kind .ensures ∙ q)))
 
 built-in-at-requires : tie.Need-built-in-at-requires
 built-in-at-requires c κs = search needs
@@ -20,7 +20,8 @@ built-in-at-requires c κs = search needs
 returns-2 : tie.Need-returns-2
 returns-2 c =
     let e = c .before .before .before .before .before .before .before .args in
-    sym (collides-built-in (cardView (e .text .now) (e .words .now)) (e .h) (e .card) (sym (c .before .before .before .card-kind .ensures) ∙ c .before .before .if1 .left) (sym (c .before .built-in-at .ensures) ∙ c .if2 .taken))
+    sym (collides-built-in _ (e .h) (e .card) (sym (c .before .before .before .card-kind .ensures)
+    ∙ c .before .before .if1 .left) (sym (c .before .built-in-at .ensures) ∙ c .if2 .taken))
 
 same-cards-requires : tie.Need-same-cards-requires
 same-cards-requires c κs = c .before .before .before .before .before .before .before .pre
@@ -29,7 +30,9 @@ returns-3 : tie.Need-returns-3
 unfolding sameCards
 returns-3 c =
     let e = c .before .before .before .before .before .before .before .before .args in
-    c .same-cards .ensures ∙ sym (collides-named (cardView (e .text .now) (e .words .now)) (e .h) (e .card) (sym (c .before .before .before .before .card-kind .ensures) ∙ c .before .before .before .if1 .left) (sym (c .before .before .built-in-at .ensures) ∙ c .before .if2 .left))
+    c .same-cards .ensures
+    ∙ sym (collides-named _ (e .h) (e .card) (sym (c .before .before .before .before .card-kind .ensures)
+    ∙ c .before .before .before .if1 .left) (sym (c .before .before .built-in-at .ensures) ∙ c .before .if2 .left))
 
 pub collides-spec : {M : Type 1} → statement M
 collides-spec =

@@ -2,22 +2,24 @@ use Prim.Native.Nat.{_≤_, _<_, _-_}
 use native.Mathlib.Omega.{arith}
 use mathlib.Core.Path.{_≡_, sym, _∙_, refl, ap}
 use lib.ListN.{length, drop}
-use Rattle.definition.specs.Lists.{firstWhere}
+use Rattle.definition.specs.Lists.{find}
 use Rattle.definition.specs.Store.{cardsUsed}
 use Rattle.from_ast_collisions.specs.Pushing.{ledger}
-use Rattle.from_ast_collisions.specs.ByCards.{collides}
+use Rattle.from_ast_collisions.specs.ErrorsByCards.{collides}
 use Rattle.from_ast_collisions.specs.Views.{cardView}
-use Rattle.from_ast_collisions.proofs.LawsPush.{none-pushed, one-pushed, one-fits}
-use Rattle.from_ast_collisions.proofs.LawsBranches.{first-here, first-later, first-past, held-at, directive-found, directive-none}
+use Rattle.from_ast_collisions.proofs.Push.{same-pushed, same-capacity, none-pushed}
+use Rattle.from_ast_collisions.proofs.Branches.{first-here, first-later, first-past, held-at, directive-found, directive-none}
 use Rattle.from_ast_errors.proofs.redefinitions.directive_errors.Statement.{statement}
 use Rattle.from_ast_errors.proofs.redefinitions.directive_errors.Tie as tie
 use borrow.Author.Needs.{needs}
 
 abbrev Inv-loop : tie.InvT-loop
-Inv-loop text words prints before h errors₀ t i₀ errors i = (i ≤ length before) × (errors ≡ errors₀) × (length errors ≡ length errors₀) × (firstWhere (collides (cardView text words) h) before ≡ firstWhere (collides (cardView text words) h) (drop i before))
+Inv-loop text words hashes before h errors₀ t i₀ errors i =
+    (i ≤ length before) × (errors ≡ errors₀) × (length errors ≡ length errors₀) × (find (collides (cardView text words) h) before ≡
+    find (collides (cardView text words) h) (drop i before))
 
 abbrev μ-loop : tie.MeasureT-loop
-μ-loop text words prints before h errors₀ t i₀ errors i = length before - i
+μ-loop text words hashes before h errors₀ t i₀ errors i = length before - i
 
 loop-holds : tie.Need-loop-holds Inv-loop μ-loop
 loop-holds c = (omega arith, refl, refl, refl)
@@ -30,14 +32,22 @@ shared-slice-read-card c = search needs
 
 collides-requires : tie.Need-collides-requires Inv-loop μ-loop
 collides-requires c κs =
-    let p = c .before .before .before .before .before .before .before .before .pre in
-    (p .0, p .1, held-at (λ n. n < cardsUsed (c .before .before .before .before .before .before .before .before .args .words .now)) (c .before .before .before .before .before .before .before .before .args .before .now) (c .before .before .loop .i) (p .2) (c .before .loop-test .taken))
+    let s = c .before .before .before .before .before .before .before .before in
+    let p = s .pre in (
+      p .0,
+      p .1,
+      held-at (λ n. n < cardsUsed (s .args .words .now)) (s .args .before .now) (c .before .before .loop .i) (p .2)
+          (c .before .loop-test .taken),
+    )
 
 push-error-requires : tie.Need-push-error-requires Inv-loop μ-loop
 push-error-requires c κs =
-    let e = c .before .before .before .before .before .before .before .before .before .before .before .args in
+    let s = c .before .before .before .before .before .before .before .before .before .before .before in
+    let e = s .args in
     let a = c .before .before .before .before .before .loop in
-    rw (a .inv .1) (one-fits _ _ _ (directive-found (cardView (e .text .now) (e .words .now)) (e .before .now) (e .h) _ (a .inv .3 ∙ first-here _ (e .before .now) (a .i) (c .before .before .before .before .loop-test .taken) (sym (c .before .before .collides .ensures) ∙ c .before .if1 .taken))) (c .before .before .before .before .before .before .before .before .before .before .before .pre .3))
+    rw (a .inv .1) (same-capacity _ _ _ (directive-found _ (e .before .now) (e .h) _ (a .inv .3
+    ∙ first-here _ (e .before .now) (a .i) (c .before .before .before .before .loop-test .taken) (sym (c .before .before .collides .ensures)
+    ∙ c .before .if1 .taken))) (s .pre .3))
 
 same-length : tie.Need-same-length Inv-loop μ-loop
 same-length c = search needs
@@ -46,7 +56,10 @@ returns : tie.Need-returns Inv-loop μ-loop
 returns c =
     let e = c .before .before .before .before .before .before .before .before .before .before .before .before .before .before .args in
     let a = c .before .before .before .before .before .before .before .before .loop in
-    one-pushed _ _ _ _ (directive-found (cardView (e .text .now) (e .words .now)) (e .before .now) (e .h) _ (a .inv .3 ∙ first-here _ (e .before .now) (a .i) (c .before .before .before .before .before .before .before .loop-test .taken) (sym (c .before .before .before .before .before .collides .ensures) ∙ c .before .before .before .before .if1 .taken))) (rw (a .inv .1) at (c .before .before .push-error .ensures))
+    same-pushed _ _ _ _ (directive-found _ (e .before .now) (e .h) _ (a .inv .3
+    ∙ first-here _ (e .before .now) (a .i) (c .before .before .before .before .before .before .before .loop-test .taken)
+    (sym (c .before .before .before .before .before .collides .ensures) ∙ c .before .before .before .before .if1 .taken)))
+    (rw (a .inv .1) at (c .before .before .push-error .ensures))
 
 add-i : tie.Need-add-i Inv-loop μ-loop
 add-i c = search needs
@@ -57,8 +70,13 @@ loop-less c = search needs
 loop-again : tie.Need-loop-again Inv-loop μ-loop
 loop-again c =
     let e = c .before .before .before .before .before .before .before .before .before .before .args in
-    let a = c .before .before .before .before .loop in
-    (omega arith, a .inv .1, a .inv .2, a .inv .3 ∙ first-later _ (e .before .now) (a .i) (c .before .before .before .loop-test .taken) (sym (c .before .collides .ensures) ∙ c .if1 .left))
+    let a = c .before .before .before .before .loop in (
+      omega arith,
+      a .inv .1,
+      a .inv .2,
+      a .inv .3
+          ∙ first-later _ (e .before .now) (a .i) (c .before .before .before .loop-test .taken) (sym (c .before .collides .ensures) ∙ c .if1 .left),
+    )
 
 same-length-2 : tie.Need-same-length-2 Inv-loop μ-loop
 same-length-2 c = search needs
@@ -67,7 +85,8 @@ returns-2 : tie.Need-returns-2 Inv-loop μ-loop
 returns-2 c =
     let e = c .before .before .before .before .before .before .before .args in
     let a = c .before .loop in
-    ap (λ l. ledger l (e .t)) (a .inv .1) ∙ none-pushed _ _ (directive-none (cardView (e .text .now) (e .words .now)) (e .before .now) (e .h) (a .inv .3 ∙ first-past _ (e .before .now) (a .i) (c .loop-test .left)))
+    ap (λ l. ledger l (e .t)) (a .inv .1)
+    ∙ none-pushed _ _ (directive-none _ (e .before .now) (e .h) (a .inv .3 ∙ first-past _ (e .before .now) (a .i) (c .loop-test .left)))
 
 pub directive-errors-spec : {M : Type 1} → statement M
 directive-errors-spec =

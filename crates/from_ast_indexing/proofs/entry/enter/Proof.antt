@@ -43,11 +43,11 @@ mul-cards c = search needs
 slice-write-cards : tie.Need-slice-write-cards
 slice-write-cards c = search needs
 
-mul-prints : tie.Need-mul-prints
-mul-prints c = search needs
+mul-hashes : tie.Need-mul-hashes
+mul-hashes c = search needs
 
-slice-write-prints : tie.Need-slice-write-prints
-slice-write-prints c = search needs
+slice-write-hashes : tie.Need-slice-write-hashes
+slice-write-hashes c = search needs
 
 add-t21 : tie.Need-add-t21
 add-t21 c = search needs
@@ -61,7 +61,8 @@ same-length-2 c = search needs
 returns : tie.Need-returns
 returns c =
     let s = c .before .before .before .before .before .before .before .before .before .before .before in
-    entered-new (s .args .text .now) (s .args .words .now) (s .args .cards .now) (s .args .prints .now) (s .args .from) (s .args .count) (s .args .card) (s .args .print) (s .pre)
+    entered-new (s .args .text .now) (s .args .words .now) (s .args .cards .now) (s .args .hashes .now) (s .args .from) (s .args .count) (s .args .card)
+    (s .args .hash) (s .pre)
     (c .before .before .find .result) (c .before .before .find .ensures) (c .enum-told .given .1)
 
 same-length-3 : tie.Need-same-length-3
@@ -73,7 +74,8 @@ same-length-4 c = search needs
 returns-2 : tie.Need-returns-2
 returns-2 c =
     let s = c .before .before .before .before .before .before .before .before .before .before .before .before in
-    entered-old (s .args .text .now) (s .args .words .now) (s .args .cards .now) (s .args .prints .now) (s .args .from) (s .args .count) (s .args .card) (s .args .print) (s .pre)
+    entered-old (s .args .text .now) (s .args .words .now) (s .args .cards .now) (s .args .hashes .now) (s .args .from) (s .args .count) (s .args .card)
+    (s .args .hash) (s .pre)
     (c .before .before .before .find .result) (c .before .first .given .0 .0) (c .before .before .before .find .ensures) (c .before .first .given .1)
 
 pub enter-spec : {M : Type 1} → statement M
@@ -93,8 +95,8 @@ enter-spec =
     enum-told
     mul-cards
     slice-write-cards
-    mul-prints
-    slice-write-prints
+    mul-hashes
+    slice-write-hashes
     add-t21
     same-length
     same-length-2

@@ -4,7 +4,7 @@ use native.Mathlib.Omega.{arith}
 use mathlib.Core.Path.{_≡_, sym, _∙_, refl}
 use mathlib.Core.Logic.{⊎-elim}
 use lib.ListN.{length, drop}
-use Rattle.definition.specs.Lists.{firstWhere}
+use Rattle.definition.specs.Lists.{find}
 use Rattle.from_ast_index.specs.Index.{sameCards}
 use Rattle.from_ast_indexing.specs.Entering.{entryOf}
 use Rattle.from_ast_indexing.proofs.EntrySearch.{search-length, search-hit, search-miss, search-end, search-differ}
@@ -13,13 +13,18 @@ use Rattle.from_ast_indexing.proofs.entry.find.Tie as tie
 use borrow.Author.Needs.{needs}
 
 abbrev Inv-loop : tie.InvT-loop
-Inv-loop text words cards prints card print i₀ i = (i ≤ length cards) × (length prints ≡ length cards) × (entryOf (firstWhere (sameCards text words card) cards) ≡ entryOf (firstWhere (sameCards text words card) (drop i cards)))
+Inv-loop text words cards hashes card hash i₀ i = (i ≤ length cards) × (length hashes ≡ length cards)
+    × (entryOf (find (sameCards text words card) cards) ≡ entryOf (find (sameCards text words card) (drop i cards)))
 
 abbrev μ-loop : tie.MeasureT-loop
-μ-loop text words cards prints card print i₀ i = length cards - i
+μ-loop text words cards hashes card hash i₀ i = length cards - i
 
 loop-holds : tie.Need-loop-holds Inv-loop μ-loop
-loop-holds c = let s = c .before .before .before .before in (omega arith, search-length (s .args .text .now) (s .args .words .now) (s .args .cards .now) (s .args .prints .now) (s .args .card) (s .args .print) (s .pre), refl)
+loop-holds c = let s = c .before .before .before .before in (
+  omega arith,
+  search-length (s .args .text .now) (s .args .words .now) (s .args .cards .now) (s .args .hashes .now) (s .args .card) (s .args .hash) (s .pre),
+  refl,
+)
 
 mul-if1 : tie.Need-mul-if1 Inv-loop μ-loop
 mul-if1 c = search needs
@@ -40,7 +45,8 @@ returns : tie.Need-returns Inv-loop μ-loop
 returns c =
     let s = c .before .before .before .before .before .before .before .before .before .before .before in
     let l = c .before .before .before .before .before .before .loop in
-    sym (l .inv .2 ∙ search-hit (s .args .text .now) (s .args .words .now) (s .args .cards .now) (s .args .card) (l .i) (omega arith) (sym (c .before .same-names .ensures) ∙ c .if2 .taken))
+    sym (l .inv .2 ∙ search-hit (s .args .text .now) (s .args .words .now) (s .args .cards .now) (s .args .card) (l .i) (omega arith)
+    (sym (c .before .same-names .ensures) ∙ c .if2 .taken))
 
 add-i : tie.Need-add-i Inv-loop μ-loop
 add-i c = search needs
@@ -58,7 +64,8 @@ loop-again c =
       l .inv .2 ∙ ⊎-elim
           (λ w. search-miss (s .args .text .now) (s .args .words .now) (s .args .cards .now) (s .args .card) (l .i) h (sym (w .2 .ensures) ∙ w .3 .left))
           (λ w. search-miss (s .args .text .now) (s .args .words .now) (s .args .cards .now) (s .args .card) (l .i) h
-          (search-differ (s .args .text .now) (s .args .words .now) (s .args .cards .now) (s .args .prints .now) (s .args .card) (s .args .print) (s .pre) (l .i) h (w .left)))
+          (search-differ (s .args .text .now) (s .args .words .now) (s .args .cards .now) (s .args .hashes .now) (s .args .card) (s .args .hash) (s .pre)
+          (l .i) h (w .left)))
           (c .if1 .came),
     )
 

@@ -10,13 +10,15 @@ rem-first : tie.Need-rem-first
 rem-first c = search needs
 
 mul-first : tie.Need-mul-first
-mul-first c = let h : c .args .print % length (c .args .firsts .now) < length (c .args .firsts .now) = mod-lt _ (c .pre) in omega arith
+mul-first c =
+    let h : c .args .hash % length (c .args .buckets .now) < length (c .args .buckets .now) = mod-lt _ (c .pre) in
+    omega arith
 
 shared-slice-read-first : tie.Need-shared-slice-read-first
 shared-slice-read-first c = mod-lt _ (c .before .pre)
 
 cast-first : tie.Need-cast-first
-cast-first c = omega (arith, c .shared-slice-known .given (c .before .args .print % length (c .before .args .firsts .now)))
+cast-first c = omega (arith, c .shared-slice-known .given (c .before .args .hash % length (c .before .args .buckets .now)))
 
 returns : tie.Need-returns
 returns c = search needs

@@ -11,11 +11,14 @@ use Rattle.from_ast_indexing.proofs.extensions.index_extensions.Stateme
 use Rattle.from_ast_indexing.proofs.extensions.index_extensions.Tie as tie
 
 abbrev Inv-loop : tie.InvT-loop
-Inv-loop text words prints heads types type-prints firsts owners₀ extensions₀ count₀ k₀ owners extensions count k =
-    (k ≤ length heads) × ExtensionsAre text words heads types owners₀ owners extensions k count × (length owners ≡ length owners₀) × (length extensions ≡ length extensions₀)
+Inv-loop text words headings hashes types type-hashes buckets owners₀ extensions₀ count₀ k₀ owners extensions count k =
+    (k ≤ length headings)
+    × ExtensionsAre text words headings types owners₀ owners extensions k count
+    × (length owners ≡ length owners₀)
+    × (length extensions ≡ length extensions₀)
 
 abbrev μ-loop : tie.MeasureT-loop
-μ-loop text words prints heads types type-prints firsts owners₀ extensions₀ count₀ k₀ owners extensions count k = length heads - k
+μ-loop text words headings hashes types type-hashes buckets owners₀ extensions₀ count₀ k₀ owners extensions count k = length headings - k
 
 loop-holds : tie.Need-loop-holds Inv-loop μ-loop
 loop-holds c = (omega arith, extensions-none _ _ _ _ _ _, refl, refl)
@@ -33,11 +36,11 @@ index-extension-requires c κs =
     let i = l .inv in
     let h = c .before .before .before .loop-test .taken in (
       record {
-        printed = a .cards .printed;
+        hashed = a .cards .hashed;
         stored = a .cards .stored (l .k) h;
-        prints-are = a .prints-are;
-        owners-room = omega (arith, a .owners-room, i .2);
-        extensions-room = omega (arith, a .extensions-room, a .cards .few, i .1 .extensions-most, i .3, h);
+        hashes-are = a .hashes-are;
+        owners-capacity = omega (arith, a .owners-capacity, i .2);
+        extensions-capacity = omega (arith, a .extensions-capacity, a .cards .few, i .1 .extensions-most, i .3, h);
       },
       c .before .before .before .before .before .before .before .before .before .before .before .before .before .before .pre .1,
     )
@@ -50,15 +53,17 @@ loop-less c = search needs
 
 loop-again : tie.Need-loop-again Inv-loop μ-loop
 loop-again c =
-    let s = c .before .before .before .before .before .before .before .before .before .before .before .before .before .before .before .before .before .before .before in
+    let s = c .before .before .before .before .before .before .before .before .before .before .before .before .before .before .before .before .before .before
+    .before in
     let a = s .pre .0 in
     let l = c .before .before .before .before .before .before .before .before .before .loop in
     let i = l .inv in
     let h = c .before .before .before .before .before .before .before .before .loop-test .taken in
     let r = c .before .before .before .before .index-extension in
-    let room : cardsUsed (s .args .words .now) ≤ length (l .owners) = omega (arith, a .owners-room, i .2) in (
+    let capacity : cardsUsed (s .args .words .now) ≤ length (l .owners) = omega (arith, a .owners-capacity, i .2) in (
       omega (arith, h),
-      extensions-turn (s .args .text .now) (s .args .words .now) (s .args .prints .now) (s .args .heads .now) (a .cards) (l .k) h _ _ _ _ _ (i .1) _ _ _ room (r .ensures),
+      extensions-turn (s .args .text .now) (s .args .words .now) (s .args .hashes .now) (s .args .headings .now) (a .cards) (l .k) h _ _ _ _ _
+          (i .1) _ _ _ capacity (r .ensures),
       r .kept .1 .1 .1 .1 .1 .1 .1 .0 ∙ i .2,
       r .kept .1 .1 .1 .1 .1 .1 .1 .1 .0 ∙ i .3,
     )
@@ -71,7 +76,8 @@ same-length-2 c = c .before .loop .inv .3
 
 returns : tie.Need-returns Inv-loop μ-loop
 returns c =
-    let e : c .before .loop .k ≡ length (c .before .before .before .before .before .before .before .before .before .before .before .args .heads .now) = omega (arith, c .loop-test .left, c .before .loop .inv .0) in
+    let e : c .before .loop .k ≡ length (c .before .before .before .before .before .before .before .before .before .before .before .args .headings .now) =
+    omega (arith, c .loop-test .left, c .before .loop .inv .0) in
     rw e at (c .before .loop .inv .1)
 
 pub index-extensions-spec : {M : Type 1} → statement M

@@ -9,7 +9,9 @@ mul-if1 : tie.Need-mul-if1
 mul-if1 c = search needs
 
 shared-slice-read-if1 : tie.Need-shared-slice-read-if1
-shared-slice-read-if1 c = let a = c .before .before .before .before .before .before .before .pre in omega (arith, a .stored, a .printed .cards-most, a .owners-room)
+shared-slice-read-if1 c =
+    let a = c .before .before .before .before .before .before .before .pre in
+    omega (arith, a .stored, a .hashed .cards-most, a .owners-capacity)
 
 returns : tie.Need-returns
 returns c = orphan-skipped _ _ _ _ _ _ _ _ (c .before .before .before .before .before .before .before .before .pre) (c .if1 .taken)
@@ -18,7 +20,9 @@ mul-enter : tie.Need-mul-enter
 mul-enter c = search needs
 
 shared-slice-read-enter : tie.Need-shared-slice-read-enter
-shared-slice-read-enter c = let a = c .before .before .before .before .before .before .before .before .before .pre in omega (arith, a .stored, a .printed .cards-most, a .printed .prints-length)
+shared-slice-read-enter c =
+    let a = c .before .before .before .before .before .before .before .before .before .pre in
+    omega (arith, a .stored, a .hashed .cards-most, a .hashed .hashes-length)
 
 enter-requires : tie.Need-enter-requires
 enter-requires c κs = orphan-asks _ _ _ _ _ _ _ _ (c .before .before .before .before .before .before .before .before .before .before .before .pre)
@@ -30,7 +34,9 @@ same-length-2 : tie.Need-same-length-2
 same-length-2 c = search needs
 
 returns-2 : tie.Need-returns-2
-returns-2 c = orphan-entered _ _ _ _ _ _ _ _ (c .before .before .before .before .before .before .before .before .before .before .before .before .before .before .before .before .pre) (c .before .before .before .before .before .before .before .before .if1 .left) _ _ _ (c .before .before .before .before .enter .ensures)
+returns-2 c = orphan-entered _ _ _ _ _ _ _ _ (c .before .before .before .before .before .before .before .before .before .before .before .before .before
+    .before .before .before .pre) (c .before .before .before .before .before .before .before .before .if1 .left) _ _ _
+    (c .before .before .before .before .enter .ensures)
 
 pub index-orphan-spec : {M : Type 1} → statement M
 index-orphan-spec =

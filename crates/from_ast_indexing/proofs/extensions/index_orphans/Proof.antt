@@ -10,11 +10,14 @@ use Rattle.from_ast_indexing.proofs.extensions.index_orphans.Tie as tie
 use borrow.Author.Needs.{needs}
 
 abbrev Inv-loop : tie.InvT-loop
-Inv-loop text words prints owners extensions orphans₀ orphan-prints₀ count₀ k₀ orphans orphan-prints count k =
-    (k ≤ length extensions) × OrphansAre text words owners extensions orphans orphan-prints k count × (length orphans ≡ length orphans₀) × (length orphan-prints ≡ length orphan-prints₀)
+Inv-loop text words hashes owners extensions orphans₀ orphan-hashes₀ count₀ k₀ orphans orphan-hashes count k =
+    (k ≤ length extensions)
+    × OrphansAre text words owners extensions orphans orphan-hashes k count
+    × (length orphans ≡ length orphans₀)
+    × (length orphan-hashes ≡ length orphan-hashes₀)
 
 abbrev μ-loop : tie.MeasureT-loop
-μ-loop text words prints owners extensions orphans₀ orphan-prints₀ count₀ k₀ orphans orphan-prints count k = length extensions - k
+μ-loop text words hashes owners extensions orphans₀ orphan-hashes₀ count₀ k₀ orphans orphan-hashes count k = length extensions - k
 
 loop-holds : tie.Need-loop-holds Inv-loop μ-loop
 loop-holds c = (omega arith, orphans-none _ _ _ _ _ _, refl, refl)
@@ -32,12 +35,12 @@ index-orphan-requires c κs =
     let i = l .inv in
     let h = c .before .before .before .loop-test .taken in
     record {
-      printed = s .pre .printed;
+      hashed = s .pre .hashed;
       stored = s .pre .stored (l .k) h;
-      owners-room = s .pre .owners-room;
-      orphans-room = omega (arith, s .pre .orphans-room, s .pre .few, i .1 .orphans-most, i .2, h);
-      prints-room = omega (arith, s .pre .prints-room, s .pre .few, i .1 .orphans-most, i .3, h);
-      prints-are = i .1 .prints-are;
+      owners-capacity = s .pre .owners-capacity;
+      orphans-capacity = omega (arith, s .pre .orphans-capacity, s .pre .few, i .1 .orphans-most, i .2, h);
+      hashes-capacity = omega (arith, s .pre .hashes-capacity, s .pre .few, i .1 .orphans-most, i .3, h);
+      hashes-are = i .1 .hashes-are;
     }
 
 add-k : tie.Need-add-k Inv-loop μ-loop
@@ -67,7 +70,8 @@ same-length-2 c = c .before .loop .inv .3
 
 returns : tie.Need-returns Inv-loop μ-loop
 returns c =
-    let e : c .before .loop .k ≡ length (c .before .before .before .before .before .before .before .before .before .args .extensions .now) = omega (arith, c .loop-test .left, c .before .loop .inv .0) in
+    let e : c .before .loop .k ≡ length (c .before .before .before .before .before .before .before .before .before .args .extensions .now) =
+    omega (arith, c .loop-test .left, c .before .loop .inv .0) in
     rw e at (c .before .loop .inv .1)
 
 pub index-orphans-spec : {M : Type 1} → statement M

@@ -28,19 +28,29 @@ shared-slice-read-note : tie.Need-shared-slice-read-note Inv-loop μ-loop
 shared-slice-read-note c = search needs
 
 cast-note : tie.Need-cast-note Inv-loop μ-loop
-cast-note c = omega (arith, c .shared-slice-known3 .given (c .before .before .before .loop .i - 1))
+cast-note c = omega (arith, c .shared-slice-known3 .given (c .before .before .loop .i - 1))
 
 mul-note-2 : tie.Need-mul-note-2 Inv-loop μ-loop
-mul-note-2 c = omega (arith, c .shared-slice-known3 .given (c .before .before .before .loop .i - 1))
+mul-note-2 c = omega (arith, c .shared-slice-known3 .given (c .before .before .loop .i - 1))
 
 shared-slice-read-note-2 : tie.Need-shared-slice-read-note-2 Inv-loop μ-loop
-shared-slice-read-note-2 c = c .before .before .before .before .before .before .before .before .pre .stored (c .before .before .before .before .loop .i - 1) (omega (arith, c .before .before .before .loop-test .taken, c .before .before .before .before .loop .inv .0))
+shared-slice-read-note-2 c = c .before .before .before .before .before .before .before .pre .stored (c .before .before .before .loop .i - 1)
+    (omega (arith, c .before .before .loop-test .taken, c .before .before .before .loop .inv .0))
 
 cast-note-2 : tie.Need-cast-note-2 Inv-loop μ-loop
-cast-note-2 c = omega (arith, c .shared-slice-known4 .given (getD (c .before .before .before .before .before .before .before .before .args .extensions .now) (c .before .before .before .before .loop .i - 1) 0))
+cast-note-2 c = omega (
+  arith,
+  c .shared-slice-known4 .given (getD (c .before .before .before .before .before .before .before .args .extensions .now)
+      (c .before .before .before .loop .i - 1) 0),
+)
 
 cast-note-3 : tie.Need-cast-note-3 Inv-loop μ-loop
-cast-note-3 c = omega (arith, c .before .before .before .before .before .before .before .before .pre .few, c .before .before .before .loop-test .taken, c .before .before .before .before .loop .inv .0)
+cast-note-3 c = omega (
+  arith,
+  c .before .before .before .before .before .before .before .pre .few,
+  c .before .before .loop-test .taken,
+  c .before .before .before .loop .inv .0,
+)
 
 note-requires : tie.Need-note-requires Inv-loop μ-loop
 note-requires c κs = search needs
@@ -53,8 +63,11 @@ loop-again c =
     let s = c .before .before .before .before .before .before .before .before .before .before .before in
     let l = c .before .before .before .before .before .before .before .loop in
     let r = c .before .before .note in
-    let e : l .i ≡ l .i - 1 + 1 = omega (arith, c .before .before .before .before .before .before .loop-test .taken) in
-    (omega (arith, l .inv .0), rw (r .ensures) (starts-turn (s .args .owners .now) (s .args .extensions .now) (l .starts) (l .i - 1) (rw e at (l .inv .1))), r .kept .0 ∙ l .inv .2)
+    let e : l .i ≡ l .i - 1 + 1 = omega (arith, c .before .before .before .before .before .before .loop-test .taken) in (
+      omega (arith, l .inv .0),
+      rw (r .ensures) (starts-turn (s .args .owners .now) (s .args .extensions .now) (l .starts) (l .i - 1) (rw e at (l .inv .1))),
+      r .kept .1 .1 .0 ∙ l .inv .2,
+    )
 
 same-length : tie.Need-same-length Inv-loop μ-loop
 same-length c = c .before .loop .inv .2

@@ -16,43 +16,63 @@ is-type-requires : tie.Need-is-type-requires
 is-type-requires c κs = search needs
 
 returns : tie.Need-returns
-returns c = (type-skipped _ _ _ _ _ _ _ _ (c .before .before .before .before .before .before .before .before .before .before .pre .0) _ _ (c .before .before .card-kind .ensures) (c .before .is-type .ensures) (not-true _ (c .if1 .taken)), c .before .before .before .before .before .before .before .before .before .before .pre .1)
+returns c = (
+  type-skipped _ _ _ _ _ _ _ _ (c .before .before .before .before .before .before .before .before .before .before .pre .0) _ _
+      (c .before .before .card-kind .ensures) (c .before .is-type .ensures) (not-true _ (c .if1 .taken)),
+  c .before .before .before .before .before .before .before .before .before .before .pre .1,
+)
 
-mul-print : tie.Need-mul-print
-mul-print c = search needs
+mul-hash : tie.Need-mul-hash
+mul-hash c = search needs
 
-shared-slice-read-print : tie.Need-shared-slice-read-print
-shared-slice-read-print c = let a = c .before .before .before .before .before .before .before .before .before .before .before .pre .0 in omega (arith, a .stored, a .printed .cards-most, a .printed .prints-length)
+shared-slice-read-hash : tie.Need-shared-slice-read-hash
+shared-slice-read-hash c =
+    let a = c .before .before .before .before .before .before .before .before .before .before .before .pre .0 in
+    omega (arith, a .stored, a .hashed .cards-most, a .hashed .hashes-length)
 
 hint-requires : tie.Need-hint-requires
 hint-requires c κs = c .before .before .before .before .before .before .before .before .before .before .before .before .pre .1 .slots
 
 cast-slot : tie.Need-cast-slot
-cast-slot c = omega (arith, c .before .before .shared-slice-known4 .given (c .before .before .before .before .before .before .before .before .before .before .before .before .before .args .card))
+cast-slot c = omega (
+  arith,
+  c .before .before .shared-slice-known4 .given
+      (c .before .before .before .before .before .before .before .before .before .before .before .before .before .args .card),
+)
 
 rem-slot : tie.Need-rem-slot
 rem-slot c = omega (arith, c .before .before .before .before .before .before .before .before .before .before .before .before .before .pre .1 .slots)
 
-cast-firsts : tie.Need-cast-firsts
-cast-firsts c = omega (arith, c .hint .ensures .0, c .before .before .before .before .before .before .before .before .before .before .before .before .before .pre .0 .few)
+cast-buckets : tie.Need-cast-buckets
+cast-buckets c = omega (
+  arith,
+  c .hint .ensures .0,
+  c .before .before .before .before .before .before .before .before .before .before .before .before .before
+      .pre .0 .few,
+)
 
-mul-firsts : tie.Need-mul-firsts
-mul-firsts c =
+mul-buckets : tie.Need-mul-buckets
+mul-buckets c =
     let s = c .before .before .before .before .before .before .before .before .before .before .before .before .before in
-    let h : getD (s .args .prints .now) (s .args .card) 0 % length (s .args .firsts .now) < length (s .args .firsts .now) = mod-lt _ (s .pre .1 .slots) in
+    let h : getD (s .args .hashes .now) (s .args .card) 0 % length (s .args .buckets .now) < length (s .args .buckets .now) = mod-lt _ (s .pre .1 .slots) in
     omega arith
 
-slice-write-firsts : tie.Need-slice-write-firsts
-slice-write-firsts c = mod-lt _ (c .before .before .before .before .before .before .before .before .before .before .before .before .before .pre .1 .slots)
+slice-write-buckets : tie.Need-slice-write-buckets
+slice-write-buckets c = mod-lt _ (c .before .before .before .before .before .before .before .before .before .before .before .before .before .pre .1 .slots)
 
 enter-requires : tie.Need-enter-requires
-enter-requires c κs = type-asks _ _ _ _ _ _ _ _ (c .before .before .before .before .before .before .before .before .before .before .before .before .before .before .before .pre .0) _ (c .before .before .before .before .before .before .before .before .before .before .before .before .before .before .before .pre .1) _ (c .before .before .hint .ensures .0) (c .before .before .hint .ensures .1)
+enter-requires c κs = type-asks _ _ _ _ _ _ _ _ (c .before .before .before .before .before .before .before .before .before .before .before .before .before
+    .before .before .pre .0) _ (c .before .before .before .before .before .before .before .before .before .before .before .before .before .before .before
+    .pre .1) _ (c .before .before .hint .ensures .0) (c .before .before .hint .ensures .1)
 
 mul-owners : tie.Need-mul-owners
 mul-owners c = search needs
 
 slice-write-owners : tie.Need-slice-write-owners
-slice-write-owners c = let a = c .before .before .before .before .before .before .before .before .before .before .before .before .before .before .before .before .before .before .before .before .pre .0 in omega (arith, a .stored, a .printed .cards-most, a .owners-room)
+slice-write-owners c =
+    let a = c .before .before .before .before .before .before .before .before .before .before .before .before .before .before .before .before .before .before
+    .before .before .pre .0 in
+    omega (arith, a .stored, a .hashed .cards-most, a .owners-capacity)
 
 same-length : tie.Need-same-length
 same-length c = search needs
@@ -68,8 +88,16 @@ same-length-4 c = search needs
 
 returns-2 : tie.Need-returns-2
 returns-2 c = (
-  type-entered _ _ _ _ _ _ _ _ (c .before .before .before .before .before .before .before .before .before .before .before .before .before .before .before .before .before .before .before .before .pre .0) _ _ (c .before .before .before .before .before .before .before .before .before .before .before .before .card-kind .ensures) (c .before .before .before .before .before .before .before .before .before .before .before .is-type .ensures) (not-false _ (c .before .before .before .before .before .before .before .before .before .before .if1 .left)) _ _ _ (c .before .before .before .before .enter .ensures),
-  type-hinted _ _ _ _ _ _ _ _ (c .before .before .before .before .before .before .before .before .before .before .before .before .before .before .before .before .before .before .before .before .pre .0) _ (c .before .before .before .before .before .before .before .before .before .before .before .before .before .before .before .before .before .before .before .before .pre .1) _ (c .before .before .before .before .before .before .before .hint .ensures .0) (c .before .before .before .before .before .before .before .hint .ensures .1) _ _ _ (c .before .before .before .before .enter .ensures),
+  type-entered _ _ _ _ _ _ _ _ (c .before .before .before .before .before .before .before .before .before .before .before .before .before .before .before
+      .before .before .before .before .before .pre .0) _ _ (c .before .before .before .before .before .before .before .before .before .before .before .before
+      .card-kind .ensures) (c .before .before .before .before .before .before .before .before .before .before .before .is-type .ensures)
+      (not-false _ (c .before .before .before .before .before .before .before .before .before .before .if1 .left)) _ _ _
+      (c .before .before .before .before .enter .ensures),
+  type-hinted _ _ _ _ _ _ _ _ (c .before .before .before .before .before .before .before .before .before .before .before .before .before .before .before
+      .before .before .before .before .before .pre .0) _ (c .before .before .before .before .before .before .before .before .before .before .before .before
+      .before .before .before .before .before .before .before .before .pre .1) _
+      (c .before .before .before .before .before .before .before .hint .ensures .0)
+      (c .before .before .before .before .before .before .before .hint .ensures .1) _ _ _ (c .before .before .before .before .enter .ensures),
 )
 
 pub index-type-spec : {M : Type 1} → statement M
@@ -79,14 +107,14 @@ index-type-spec =
     card-kind-requires
     is-type-requires
     returns
-    mul-print
-    shared-slice-read-print
+    mul-hash
+    shared-slice-read-hash
     hint-requires
     cast-slot
     rem-slot
-    cast-firsts
-    mul-firsts
-    slice-write-firsts
+    cast-buckets
+    mul-buckets
+    slice-write-buckets
     enter-requires
     mul-owners
     slice-write-owners

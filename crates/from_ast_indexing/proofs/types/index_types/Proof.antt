@@ -1,4 +1,4 @@
--- The loop's invariant: the types and owners that the first `k` headings make, and where the types' fingerprints are.
+-- The loop's invariant: the types and owners that the first `k` headings make, and where the types' hashes are.
 use Prim.Native.Nat.{_≤_, _-_}
 use native.Mathlib.Omega.{arith}
 use mathlib.Core.Path.{_≡_, _∙_, refl}
@@ -13,14 +13,28 @@ use Rattle.from_ast_indexing.proofs.types.index_types.Statement.{statem
 use Rattle.from_ast_indexing.proofs.types.index_types.Tie as tie
 
 abbrev Inv-loop : tie.InvT-loop
-Inv-loop text words prints heads owners₀ types₀ type-prints₀ firsts₀ count₀ k₀ owners types type-prints firsts count k =
-    (k ≤ length heads) × TypesAre text words heads owners types type-prints k count × (length owners ≡ length owners₀) × (length types ≡ length types₀) × (length type-prints ≡ length type-prints₀) × (length firsts ≡ length firsts₀) × Hinted (take count type-prints) firsts
+Inv-loop text words headings hashes owners₀ types₀ type-hashes₀ buckets₀ count₀ k₀ owners types type-hashes buckets count k =
+    (k ≤ length headings)
+    × TypesAre text words headings owners types type-hashes k count
+    × (length owners ≡ length owners₀)
+    × (length types ≡ length types₀)
+    × (length type-hashes ≡ length type-hashes₀)
+    × (length buckets ≡ length buckets₀)
+    × Hinted (take count type-hashes) buckets
 
 abbrev μ-loop : tie.MeasureT-loop
-μ-loop text words prints heads owners₀ types₀ type-prints₀ firsts₀ count₀ k₀ owners types type-prints firsts count k = length heads - k
+μ-loop text words headings hashes owners₀ types₀ type-hashes₀ buckets₀ count₀ k₀ owners types type-hashes buckets count k = length headings - k
 
 loop-holds : tie.Need-loop-holds Inv-loop μ-loop
-loop-holds c = (omega arith, types-none _ _ _ _ _ _, refl, refl, refl, refl, hint-none _ (c .before .before .before .before .before .before .before .before .pre .1))
+loop-holds c = (
+  omega arith,
+  types-none _ _ _ _ _ _,
+  refl,
+  refl,
+  refl,
+  refl,
+  hint-none _ (c .before .before .before .before .before .before .before .before .pre .1),
+)
 
 mul-index-type : tie.Need-mul-index-type Inv-loop μ-loop
 mul-index-type c = search needs
@@ -35,13 +49,13 @@ index-type-requires c κs =
     let i = l .inv in
     let h = c .before .before .before .before .before .loop-test .taken in (
       record {
-        printed = a .cards .printed;
+        hashed = a .cards .hashed;
         stored = a .cards .stored (l .k) h;
-        owners-room = omega (arith, a .owners-room, i .2);
-        types-room = omega (arith, a .types-room, a .cards .few, i .1 .types-most, i .3, h);
-        prints-room = omega (arith, a .prints-room, a .cards .few, i .1 .types-most, i .4, h);
-        few = omega (arith, a .cards .few, a .cards .printed .cards-most, i .1 .types-most, h);
-        prints-are = i .1 .prints-are;
+        owners-capacity = omega (arith, a .owners-capacity, i .2);
+        types-capacity = omega (arith, a .types-capacity, a .cards .few, i .1 .types-most, i .3, h);
+        hashes-capacity = omega (arith, a .hashes-capacity, a .cards .few, i .1 .types-most, i .4, h);
+        few = omega (arith, a .cards .few, a .cards .hashed .cards-most, i .1 .types-most, h);
+        hashes-are = i .1 .hashes-are;
       },
       i .6,
     )
@@ -54,15 +68,17 @@ loop-less c = search needs
 
 loop-again : tie.Need-loop-again Inv-loop μ-loop
 loop-again c =
-    let s = c .before .before .before .before .before .before .before .before .before .before .before .before .before .before .before .before .before .before .before .before .before .before .before .before in
+    let s = c .before .before .before .before .before .before .before .before .before .before .before .before .before .before .before .before .before .before
+    .before .before .before .before .before .before in
     let a = s .pre .0 in
     let l = c .before .before .before .before .before .before .before .before .before .before .before .before .before .before .before .loop in
     let i = l .inv in
     let h = c .before .before .before .before .before .before .before .before .before .before .before .before .before .before .loop-test .taken in
     let r = c .before .before .before .before .before .before .before .before .index-type in
-    let room : cardsUsed (s .args .words .now) ≤ length (l .owners) = omega (arith, a .owners-room, i .2) in (
+    let capacity : cardsUsed (s .args .words .now) ≤ length (l .owners) = omega (arith, a .owners-capacity, i .2) in (
       omega (arith, h),
-      types-turn (s .args .text .now) (s .args .words .now) (s .args .prints .now) (s .args .heads .now) (a .cards) (l .k) h _ _ _ _ (i .1) _ _ _ _ room (r .ensures .0),
+      types-turn (s .args .text .now) (s .args .words .now) (s .args .hashes .now) (s .args .headings .now) (a .cards) (l .k) h _ _ _ _
+          (i .1) _ _ _ _ capacity (r .ensures .0),
       r .kept .1 .1 .1 .1 .0 ∙ i .2,
       r .kept .1 .1 .1 .1 .1 .0 ∙ i .3,
       r .kept .1 .1 .1 .1 .1 .1 .0 ∙ i .4,
@@ -84,7 +100,8 @@ same-length-4 c = c .before .loop .inv .5
 
 returns : tie.Need-returns Inv-loop μ-loop
 returns c =
-    let e : c .before .loop .k ≡ length (c .before .before .before .before .before .before .before .before .before .before .args .heads .now) = omega (arith, c .loop-test .left, c .before .loop .inv .0) in
+    let e : c .before .loop .k ≡ length (c .before .before .before .before .before .before .before .before .before .before .args .headings .now) =
+    omega (arith, c .loop-test .left, c .before .loop .inv .0) in
     (rw e at (c .before .loop .inv .1), c .before .loop .inv .6)
 
 pub index-types-spec : {M : Type 1} → statement M

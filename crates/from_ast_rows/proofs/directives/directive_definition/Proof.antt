@@ -1,10 +1,11 @@
+-- A heading that is no directive definition adds nothing; one that is adds the row of the one that stands.
 use mathlib.Core.Path.{sym, ap, _∙_}
 use mathlib.Core.List.{List}
+use Prim.Native.Nat.{ℕ}
 use native.Mathlib.Omega.{arith}
-use lib.ListN.{take}
 use Rattle.definition.specs.Catalogue.{Row}
-use Rattle.component.specs.Pushed.{filled, extended}
-use Rattle.component.specs.Drawn.{sameStored}
+use Rattle.component.specs.Pushed.{Filled, filled, extendSticky}
+use Rattle.component.specs.RowsByCards.{sameStored}
 use Rattle.component.proofs.Turns.{no-directive, directive-row, extended-nothing}
 use Rattle.from_ast_rows.proofs.directives.directive_definition.Statement.{statement}
 use Rattle.from_ast_rows.proofs.directives.directive_definition.Tie as tie
@@ -21,19 +22,20 @@ card-kind-requires c κs = search needs
 returns : tie.Need-returns
 returns c =
     let e = c .before .before .before .before .before .before .before .args in
-    extended-nothing (sameStored (e .text .now) (e .words .now)) (e .start) _ (filled (e .rows .now) (e .used))
-    (no-directive (e .text .now) (e .words .now) (take (e .m) (e .heads .now)) (e .card) (λ q. c .if1 .taken (c .before .card-kind .ensures ∙ q)))
+    let none = no-directive (e .text .now) (e .words .now) (e .headings .now) (e .card) (λ q. c .if1 .taken (c .before .card-kind .ensures ∙ q)) in
+    extended-nothing (sameStored (e .text .now) (e .words .now)) (e .start) _ (filled (e .rows .now) (e .used)) none
 
 standing-directive-requires : tie.Need-standing-directive-requires
 standing-directive-requires c κs = search needs
 
 extend-sticky-requires : tie.Need-extend-sticky-requires
 extend-sticky-requires c κs =
-    let e = c .before .before .before .before .before .before .before .before .before .args in
-    let is = directive-row (e .text .now) (e .words .now) (take (e .m) (e .heads .now)) (e .card) (c .before .standing-directive .result) (sym (c .before .before .before .card-kind .ensures) ∙ c .before .before .if1 .left) (c .before .standing-directive .ensures) in
-    let u = ap (λ (l : List Row). extended (sameStored (e .text .now) (e .words .now)) (e .start) l (filled (e .rows .now) (e .used)) .used) is in
-    let p = c .before .before .before .before .before .before .before .before .before .pre .3 in
-    (c .before .before .before .before .before .before .before .before .before .pre .0, omega arith, omega arith)
+    let s = c .before .before .before .before .before .before .before .before .before in
+    let e = s .args in
+    let is = directive-row (e .text .now) (e .words .now) (e .headings .now) (e .card) _
+    (sym (c .before .before .before .card-kind .ensures) ∙ c .before .before .if1 .left) (c .before .standing-directive .ensures) in
+    let made : List Row → ℕ = λ l. extendSticky (sameStored (e .text .now) (e .words .now)) (e .start) l (filled (e .rows .now) (e .used)) .used in
+    (s .pre .0, omega (arith, s .pre .3, ap made is))
 
 same-length : tie.Need-same-length
 same-length c = search needs
@@ -41,8 +43,11 @@ same-length c = search needs
 returns-2 : tie.Need-returns-2
 returns-2 c =
     let e = c .before .before .before .before .before .before .before .before .before .before .before .before .args in
-    let is = directive-row (e .text .now) (e .words .now) (take (e .m) (e .heads .now)) (e .card) (c .before .before .before .before .standing-directive .result) (sym (c .before .before .before .before .before .before .card-kind .ensures) ∙ c .before .before .before .before .before .if1 .left) (c .before .before .before .before .standing-directive .ensures) in
-    c .before .before .extend-sticky .ensures ∙ sym (ap (λ (l : List Row). extended (sameStored (e .text .now) (e .words .now)) (e .start) l (filled (e .rows .now) (e .used))) is)
+    let is = directive-row (e .text .now) (e .words .now) (e .headings .now) (e .card) _
+    (sym (c .before .before .before .before .before .before .card-kind .ensures) ∙ c .before .before .before .before .before .if1 .left)
+    (c .before .before .before .before .standing-directive .ensures) in
+    let made : List Row → Filled = λ l. extendSticky (sameStored (e .text .now) (e .words .now)) (e .start) l (filled (e .rows .now) (e .used)) in
+    c .before .before .extend-sticky .ensures ∙ sym (ap made is)
 
 pub directive-definition-spec : {M : Type 1} → statement M
 directive-definition-spec =

@@ -1,11 +1,12 @@
+-- The loop's invariant: the extensions from `i` on are left to extend the list by.
 use mathlib.Core.Path.{_≡_, refl, _∙_}
-use Prim.Native.Nat.{_-_, _≤_}
-use native.Mathlib.Omega.{arith}
+use Prim.Native.Nat.{_-_}
 use lib.ListN.{length, drop}
-use Rattle.component.specs.Pushed.{filled, extended}
-use Rattle.component.specs.Drawn.{sameStored, extensionRows}
-use Rattle.component.proofs.Sticky.{walk-room, walk-next, walk-start, walk-end}
-use Rattle.component.proofs.Turns.{extensions-next, extensions-end}
+use Rattle.from_ast_index.proofs.Lists.{drop-next, drop-end}
+use Rattle.component.specs.Pushed.{filled}
+use Rattle.component.specs.RowsByCards.{sameStored, extensionRowsAt, extensionRows, extendByExtensions}
+use Rattle.component.proofs.Sticky.{Extending, extending-capacity, extending-next, extending-end}
+use Rattle.component.proofs.Sticky.{extending}
 use Rattle.from_ast_rows.proofs.extensions.type_extensions.Statement.{statement}
 use Rattle.from_ast_rows.proofs.extensions.type_extensions.Tie as tie
 use borrow.Author.Needs.{needs}
@@ -14,16 +15,17 @@ use Rattle.from_ast_rows.proofs.extensions.type_extensions.Lts as lts
 use Rattle.component.proofs.extend_ast.Reads as extend-ast-reads
 
 abbrev Inv-loop : tie.InvT-loop
-Inv-loop text words prints mine kind rows₀ start used t₀ i₀ rows t i =
-    (start ≤ t)
-    × (length rows ≡ length rows₀)
-    × (extended (sameStored text words) start (extensionRows text words kind (drop i mine)) (filled rows t) ≡ extended (sameStored text words) start (extensionRows text words kind mine) (filled rows₀ t₀))
+Inv-loop text words hashes mine kind rows₀ start used next₀ i₀ rows next i =
+    (length rows ≡ length rows₀)
+    × Extending (sameStored text words) start (extensionRowsAt text words kind) (drop i mine) (filled rows next)
+    (extendByExtensions text words kind mine start (filled rows₀ next₀))
 
 abbrev μ-loop : tie.MeasureT-loop
-μ-loop text words prints mine kind rows₀ start used t₀ i₀ rows t i = length mine - i
+μ-loop text words hashes mine kind rows₀ start used next₀ i₀ rows next i = length mine - i
 
 loop-holds : tie.Need-loop-holds Inv-loop μ-loop
-loop-holds c = (c .before .before .before .before .before .pre .3, refl, refl)
+unfolding extensionRows
+loop-holds c = (refl, extending _ _ _ _ _ _ refl (c .before .before .before .before .before .pre .3) (c .before .before .before .before .before .pre .2))
 
 mul-card : tie.Need-mul-card Inv-loop μ-loop
 mul-card c = search needs
@@ -32,19 +34,12 @@ shared-slice-read-card : tie.Need-shared-slice-read-card Inv-loop μ-loop
 shared-slice-read-card c = search needs
 
 extend-ast-requires : tie.Need-extend-ast-requires Inv-loop μ-loop
+unfolding extensionRowsAt
 extend-ast-requires c κs =
-    let e = c .before .before .before .before .before .before .before .before .before .args in
+    let s = c .before .before .before .before .before .before .before .before .before in
     let l = c .before .before .before .loop in
     let h = c .before .before .loop-test .taken in
-    let same = sameStored (e .text .now) (e .words .now) in (
-      c .before .before .before .before .before .before .before .before .before .pre .0,
-      c .before .before .before .before .before .before .before .before .before .pre .2,
-      c .before .before .before .before .before .before .before .before .before .pre .1 .stored (l .i) h,
-      l .inv .0,
-      walk-room same (e .start) _ _ _ (filled (l .rows) (l .t)) _
-          (extensions-next (e .text .now) (e .words .now) (e .kind) (e .mine .now) (l .i) h) (l .inv .2) (length (l .rows))
-          (let p = c .before .before .before .before .before .before .before .before .before .pre .4 in let q = l .inv .1 in omega arith),
-    )
+    (s .pre .0, s .pre .1 .stored (l .i) h, l .inv .1 .begun, extending-capacity _ _ _ _ _ _ (l .inv .1) _ _ (drop-next _ (l .i) h))
 
 add-i : tie.Need-add-i Inv-loop μ-loop
 add-i c = search needs
@@ -53,17 +48,13 @@ loop-less : tie.Need-loop-less Inv-loop μ-loop
 loop-less c = search needs
 
 loop-again : tie.Need-loop-again Inv-loop μ-loop
+unfolding extensionRowsAt
 loop-again c =
-    let e = c .before .before .before .before .before .before .before .before .before .before .before .before .args in
     let l = c .before .before .before .before .before .before .loop in
-    let h = c .before .before .before .before .before .loop-test .taken in
-    let r = c .before .before .extend-ast in
-    let same = sameStored (e .text .now) (e .words .now) in (
-      walk-start same (e .start) _ (filled (l .rows) (l .t)) _ (r .ensures) (l .inv .0),
-      r .kept .1 .1 .1 .1 .1 .1 .0 ∙ l .inv .1,
-      walk-next same (e .start) _ _ _ (filled (l .rows) (l .t)) _
-          (extensions-next (e .text .now) (e .words .now) (e .kind) (e .mine .now) (l .i) h) (l .inv .2) _ (r .ensures) (l .inv .0)
-          (let p = c .before .before .before .before .before .before .before .before .before .before .before .before .pre .4 in let q = l .inv .1 in omega arith),
+    let r = c .before .before .extend-ast in (
+      r .kept .1 .1 .1 .1 .1 .1 .0 ∙ l .inv .0,
+      extending-next _ _ _ _ _ _ (l .inv .1) _ _
+          (drop-next _ (l .i) (c .before .before .before .before .before .loop-test .taken)) _ (r .ensures),
     )
 
 same-length : tie.Need-same-length Inv-loop μ-loop
@@ -71,10 +62,8 @@ same-length c = search needs
 
 returns : tie.Need-returns Inv-loop μ-loop
 returns c =
-    let e = c .before .before .before .before .before .before .before .args in
     let l = c .before .loop in
-    walk-end (sameStored (e .text .now) (e .words .now)) (e .start) _ (filled (l .rows) (l .t)) _
-    (extensions-end (e .text .now) (e .words .now) (e .kind) (e .mine .now) (l .i) (c .loop-test .left)) (l .inv .2)
+    extending-end _ _ _ _ _ _ (l .inv .1) (drop-end _ (l .i) (c .loop-test .left))
 
 pub type-extensions-spec : {M : Type 1} → statement M
 type-extensions-spec =

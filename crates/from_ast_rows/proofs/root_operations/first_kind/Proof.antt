@@ -1,13 +1,15 @@
+-- The loop's invariant: the first of all headings is the first of those left.
 use mathlib.Core.Path.{_≡_, refl, sym, ap, _∙_}
 use mathlib.Core.Option.{Option}
 use Prim.Native.Nat.{ℕ, _-_}
 use native.Mathlib.Omega.{arith}
-use lib.ListN.{take, drop, getD}
-use Rattle.definition.specs.Lists.{found, firstWhere}
+use borrow.Author.Tests.{not-true, not-false}
+use lib.ListN.{length, drop}
+use Rattle.definition.specs.Lists.{found, find}
 use Rattle.definition.specs.Names.{sameName}
 use Rattle.store_reader.specs.Stored.{cardKind}
-use Rattle.component.specs.Drawn.{isRanged, firstKind}
-use Rattle.from_ast_rows.proofs.SchemaTurns.{first-hit, first-miss, first-end, ranged-low, ranged-high, ranged-named}
+use Rattle.component.specs.RowsByCards.{isTypeKind, isTypeNamed, firstKind}
+use Rattle.from_ast_rows.proofs.SchemaTurns.{first-hit, first-miss, first-end, named-other, named-is}
 use Rattle.from_ast_rows.proofs.root_operations.first_kind.Statement.{statement}
 use Rattle.from_ast_rows.proofs.root_operations.first_kind.Tie as tie
 use borrow.Author.Needs.{needs}
@@ -16,12 +18,14 @@ use Rattle.from_ast_rows.proofs.root_operations.first_kind.Lts as lts
 use Rattle.name.proofs.same_name.Reads as same-name-reads
 use Rattle.store_reader.proofs.card_kind.Reads as card-kind-reads
 use Rattle.store_reader.proofs.card_name.Reads as card-name-reads
+use Rattle.from_ast_rows.proofs.root_operations.is_type_kind.Reads as is-type-kind-reads
 
 abbrev Inv-loop : tie.InvT-loop
-Inv-loop text words heads m low high name i₀ i = firstWhere (isRanged text words low high name) (take m heads) ≡ firstWhere (isRanged text words low high name) (drop i (take m heads))
+Inv-loop text words headings extending name i₀ i =
+    find (isTypeNamed text words extending name) headings ≡ find (isTypeNamed text words extending name) (drop i headings)
 
 abbrev μ-loop : tie.MeasureT-loop
-μ-loop text words heads m low high name i₀ i = m - i
+μ-loop text words headings extending name i₀ i = length headings - i
 
 loop-holds : tie.Need-loop-holds Inv-loop μ-loop
 loop-holds c = refl
@@ -30,7 +34,7 @@ mul-card : tie.Need-mul-card Inv-loop μ-loop
 mul-card c = search needs
 
 shared-slice-read-card : tie.Need-shared-slice-read-card Inv-loop μ-loop
-shared-slice-read-card c = let h = c .before .before .before .before .before .before .before .pre in omega arith
+shared-slice-read-card c = search needs
 
 add-i : tie.Need-add-i Inv-loop μ-loop
 add-i c = search needs
@@ -41,28 +45,19 @@ cast-card-kind c = omega (arith, c .shared-slice-known5 .given (c .before .befor
 card-kind-requires : tie.Need-card-kind-requires Inv-loop μ-loop
 card-kind-requires c κs = search needs
 
+is-type-kind-requires : tie.Need-is-type-kind-requires Inv-loop μ-loop
+is-type-kind-requires c κs = search needs
+
 loop-less : tie.Need-loop-less Inv-loop μ-loop
 loop-less c = search needs
 
 loop-again : tie.Need-loop-again Inv-loop μ-loop
 loop-again c =
-    let e = c .before .before .before .before .before .before .before .before .before .args in
-    let l = c .before .before .before .before .loop in
-    let q = c .before .card-kind .ensures in
-    let h = c .if1 .taken in
-    l .inv ∙ first-miss (isRanged (e .text .now) (e .words .now) (e .low) (e .high) (e .name .now)) (e .heads .now) (e .m) (l .i) (c .before .before .before .loop-test .taken) (c .before .before .before .before .before .before .before .before .before .pre) (ranged-low (e .text .now) (e .words .now) (e .name .now) (e .low) (e .high) (getD (e .heads .now) (l .i) 0) (omega arith))
-
-loop-less-2 : tie.Need-loop-less-2 Inv-loop μ-loop
-loop-less-2 c = search needs
-
-loop-again-2 : tie.Need-loop-again-2 Inv-loop μ-loop
-loop-again-2 c =
     let e = c .before .before .before .before .before .before .before .before .before .before .args in
-    let l = c .before .before .before .before .before .loop in
-    let q = c .before .before .card-kind .ensures in
-    let h = c .before .if1 .left in
-    let m = c .if2 .taken in
-    l .inv ∙ first-miss (isRanged (e .text .now) (e .words .now) (e .low) (e .high) (e .name .now)) (e .heads .now) (e .m) (l .i) (c .before .before .before .before .loop-test .taken) (c .before .before .before .before .before .before .before .before .before .before .pre) (ranged-high (e .text .now) (e .words .now) (e .name .now) (e .low) (e .high) (getD (e .heads .now) (l .i) 0) (omega arith) (omega arith))
+    let other = ap (isTypeKind (e .extending)) (sym (c .before .before .card-kind .ensures)) ∙ sym (c .before .is-type-kind .ensures)
+    ∙ not-true _ (c .if1 .taken) in
+    c .before .before .before .before .before .loop .inv ∙ first-miss _ _ (c .before .before .before .before .before .loop .i)
+    (c .before .before .before .before .loop-test .taken) (named-other _ _ _ _ _ other)
 
 cast-card-name : tie.Need-cast-card-name Inv-loop μ-loop
 cast-card-name c = omega (arith, c .before .before .before .shared-slice-known5 .given (c .before .before .before .before .before .loop .i))
@@ -77,34 +72,32 @@ returns : tie.Need-returns Inv-loop μ-loop
 unfolding firstKind
 returns c =
     let e = c .before .before .before .before .before .before .before .before .before .before .before .before .before .args in
-    let l = c .before .before .before .before .before .before .before .before .loop in
-    let q = c .before .before .before .before .before .card-kind .ensures in
-    let h = c .before .before .before .before .if1 .left in
-    let m = c .before .before .before .if2 .left in (
-      c .before .before .before .before .before .card-kind .ensures ∙ sym (ap (λ (o : Option ℕ). found o (cardKind (e .words .now)) 0) (l .inv ∙ first-hit (isRanged (e .text .now) (e .words .now) (e .low) (e .high) (e .name .now)) (e .heads .now) (e .m) (l .i) (c .before .before .before .before .before .before .before .loop-test .taken) (c .before .before .before .before .before .before .before .before .before .before .before .before .before .pre)
-          (ranged-named (e .text .now) (e .words .now) (e .name .now) (e .low) (e .high) (getD (e .heads .now) (l .i) 0) (omega arith) (omega arith) ∙ ap (sameName (e .name .now)) (sym (c .before .before .card-name .ensures)) ∙ sym (c .before .same-name .ensures) ∙ c .if3 .taken))),
-      λ z. omega arith,
-    )
+    let is = ap (isTypeKind (e .extending)) (sym (c .before .before .before .before .before .card-kind .ensures))
+    ∙ sym (c .before .before .before .before .is-type-kind .ensures) ∙ not-false _ (c .before .before .before .if1 .left) in
+    let same = ap (sameName (e .name .now)) (sym (c .before .before .card-name .ensures)) ∙ sym (c .before .same-name .ensures) ∙ c .if2 .taken in
+    c .before .before .before .before .before .card-kind .ensures
+    ∙ sym (ap (λ (o : Option ℕ). found o (cardKind (e .words .now)) 0)
+    (c .before .before .before .before .before .before .before .before .loop .inv
+    ∙ first-hit _ _ (c .before .before .before .before .before .before .before .before .loop .i)
+    (c .before .before .before .before .before .before .before .loop-test .taken) (named-is _ _ _ _ _ is ∙ same)))
 
-loop-less-3 : tie.Need-loop-less-3 Inv-loop μ-loop
-loop-less-3 c = search needs
+loop-less-2 : tie.Need-loop-less-2 Inv-loop μ-loop
+loop-less-2 c = search needs
 
-loop-again-3 : tie.Need-loop-again-3 Inv-loop μ-loop
-loop-again-3 c =
+loop-again-2 : tie.Need-loop-again-2 Inv-loop μ-loop
+loop-again-2 c =
     let e = c .before .before .before .before .before .before .before .before .before .before .before .before .before .args in
-    let l = c .before .before .before .before .before .before .before .before .loop in
-    let q = c .before .before .before .before .before .card-kind .ensures in
-    let h = c .before .before .before .before .if1 .left in
-    let m = c .before .before .before .if2 .left in
-    l .inv ∙ first-miss (isRanged (e .text .now) (e .words .now) (e .low) (e .high) (e .name .now)) (e .heads .now) (e .m) (l .i) (c .before .before .before .before .before .before .before .loop-test .taken) (c .before .before .before .before .before .before .before .before .before .before .before .before .before .pre)
-    (ranged-named (e .text .now) (e .words .now) (e .name .now) (e .low) (e .high) (getD (e .heads .now) (l .i) 0) (omega arith) (omega arith) ∙ ap (sameName (e .name .now)) (sym (c .before .before .card-name .ensures)) ∙ sym (c .before .same-name .ensures) ∙ c .if3 .left)
+    let is = ap (isTypeKind (e .extending)) (sym (c .before .before .before .before .before .card-kind .ensures))
+    ∙ sym (c .before .before .before .before .is-type-kind .ensures) ∙ not-false _ (c .before .before .before .if1 .left) in
+    let other = ap (sameName (e .name .now)) (sym (c .before .before .card-name .ensures)) ∙ sym (c .before .same-name .ensures) ∙ c .if2 .left in
+    c .before .before .before .before .before .before .before .before .loop .inv
+    ∙ first-miss _ _ (c .before .before .before .before .before .before .before .before .loop .i)
+    (c .before .before .before .before .before .before .before .loop-test .taken) (named-is _ _ _ _ _ is ∙ other)
 
 returns-2 : tie.Need-returns-2 Inv-loop μ-loop
 unfolding firstKind
-returns-2 c =
-    let e = c .before .before .before .before .before .before .args in
-    let l = c .before .loop in
-    (sym (ap (λ (o : Option ℕ). found o (cardKind (e .words .now)) 0) (l .inv ∙ first-end (isRanged (e .text .now) (e .words .now) (e .low) (e .high) (e .name .now)) (e .heads .now) (e .m) (l .i) (c .loop-test .left))), λ z. omega arith)
+returns-2 c = sym (ap (λ (o : Option ℕ). found o (cardKind (c .before .before .before .before .before .before .args .words .now)) 0)
+    (c .before .loop .inv ∙ first-end _ _ (c .before .loop .i) (c .loop-test .left)))
 
 pub first-kind-spec : {M : Type 1} → statement M
 first-kind-spec =
@@ -118,14 +111,13 @@ first-kind-spec =
     add-i
     cast-card-kind
     card-kind-requires
+    is-type-kind-requires
     loop-less
     loop-again
-    loop-less-2
-    loop-again-2
     cast-card-name
     card-name-requires
     same-name-requires
     returns
-    loop-less-3
-    loop-again-3
+    loop-less-2
+    loop-again-2
     returns-2)

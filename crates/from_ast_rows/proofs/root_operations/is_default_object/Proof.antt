@@ -1,9 +1,8 @@
-use mathlib.Core.Path.{_≡_, sym, ap}
-use native.Mathlib.Omega.{arith}
-use lib.ListN.{take}
+-- Each root operation with its default name.
+use mathlib.Core.Path.{sym, ap}
 use Rattle.definition.specs.Names.{bytes}
 use Rattle.definition.specs.Catalogue.{defaultName}
-use Rattle.from_ast_rows.proofs.SchemaTurns.{default-is}
+use Rattle.from_ast_rows.proofs.SchemaTurns.{default-is, last-root}
 use Rattle.from_ast_rows.proofs.root_operations.is_default_object.Statement.{statement}
 use Rattle.from_ast_rows.proofs.root_operations.is_default_object.Tie as tie
 use borrow.Author.Needs.{needs}
@@ -19,9 +18,8 @@ kind-named-requires c κs = search needs
 
 returns : tie.Need-returns
 unfolding defaultName bytes
-returns c =
-    let e = c .before .before .before .before .before .before .args in
-    default-is (e .text .now) (e .words .now) (take (e .m) (e .heads .now)) (e .adopt) (e .kind) _ _ (ap defaultName (sym (c .before .before .if1 .taken))) (c .kind-named .ensures)
+returns c = default-is _ _ _ _ (c .before .before .before .before .before .before .args .kind) _ _ (ap defaultName (sym (c .before .before .if1 .taken)))
+    (c .kind-named .ensures)
 
 slice-aggregate-kind-named-2 : tie.Need-slice-aggregate-kind-named-2
 slice-aggregate-kind-named-2 c = search needs
@@ -31,9 +29,8 @@ kind-named-requires-2 c κs = search needs
 
 returns-2 : tie.Need-returns-2
 unfolding defaultName bytes
-returns-2 c =
-    let e = c .before .before .before .before .before .before .before .args in
-    default-is (e .text .now) (e .words .now) (take (e .m) (e .heads .now)) (e .adopt) (e .kind) _ _ (ap defaultName (sym (c .before .before .if2 .taken))) (c .kind-named2 .ensures)
+returns-2 c = default-is _ _ _ _ (c .before .before .before .before .before .before .before .args .kind) _ _
+    (ap defaultName (sym (c .before .before .if2 .taken))) (c .kind-named2 .ensures)
 
 slice-aggregate-kind-named-3 : tie.Need-slice-aggregate-kind-named-3
 slice-aggregate-kind-named-3 c = search needs
@@ -44,12 +41,9 @@ kind-named-requires-3 c κs = search needs
 returns-3 : tie.Need-returns-3
 unfolding defaultName bytes
 returns-3 c =
-    let e = c .before .before .before .before .before .before .before .args in
-    let a = c .before .before .if2 .left in
-    let b = c .before .before .before .if1 .left in
-    let p = c .before .before .before .before .before .before .before .pre in
-    let q : e .kind ≡ 28 = omega arith in
-    default-is (e .text .now) (e .words .now) (take (e .m) (e .heads .now)) (e .adopt) (e .kind) _ _ (ap defaultName (sym q)) (c .kind-named3 .ensures)
+    let q = last-root (c .before .before .before .before .before .before .before .args .kind)
+    (c .before .before .before .before .before .before .before .pre) (c .before .before .before .if1 .left) (c .before .before .if2 .left) in
+    default-is _ _ _ _ (c .before .before .before .before .before .before .before .args .kind) _ _ (ap defaultName (sym q)) (c .kind-named3 .ensures)
 
 pub is-default-object-spec : {M : Type 1} → statement M
 is-default-object-spec =

@@ -1,7 +1,7 @@
+-- Adopting and not adopting.
 use mathlib.Core.Path.{sym, ap, _∙_}
 use mathlib.Core.Bool.{Bool, not}
-use lib.ListN.{take}
-use Rattle.component.specs.Drawn.{isImplicit}
+use Rattle.component.specs.RowsByCards.{isImplicit}
 use Rattle.from_ast_rows.proofs.SchemaTurns.{implicit-adopting, implicit-unadopting}
 use Rattle.from_ast_rows.proofs.root_operations.is_implicit.Statement.{statement}
 use Rattle.from_ast_rows.proofs.root_operations.is_implicit.Tie as tie
@@ -17,15 +17,17 @@ any-root-requires c κs = search needs
 returns : tie.Need-returns
 returns c =
     let e = c .before .before .before .before .before .args in
-    ap not (c .any-root .ensures) ∙ sym (ap (λ (b : Bool). isImplicit (e .text .now) (e .words .now) b (take (e .m) (e .heads .now))) (c .before .if1 .taken) ∙ implicit-adopting (e .text .now) (e .words .now) (take (e .m) (e .heads .now)))
+    let adopted = ap (λ (b : Bool). isImplicit (e .text .now) (e .words .now) b (e .headings .now)) (c .before .if1 .taken) in
+    ap not (c .any-root .ensures) ∙ sym (adopted ∙ implicit-adopting _ _ _)
 
 has-implicit-root-operation-requires : tie.Need-has-implicit-root-operation-requires
-has-implicit-root-operation-requires c κs = c .before .before .before .before .pre .0 .inside
+has-implicit-root-operation-requires c κs = search needs
 
 returns-2 : tie.Need-returns-2
 returns-2 c =
     let e = c .before .before .before .before .before .args in
-    c .has-implicit-root-operation .ensures ∙ sym (ap (λ (b : Bool). isImplicit (e .text .now) (e .words .now) b (take (e .m) (e .heads .now))) (c .before .if1 .left) ∙ implicit-unadopting (e .text .now) (e .words .now) (take (e .m) (e .heads .now)))
+    let unadopted = ap (λ (b : Bool). isImplicit (e .text .now) (e .words .now) b (e .headings .now)) (c .before .if1 .left) in
+    c .has-implicit-root-operation .ensures ∙ sym (unadopted ∙ implicit-unadopting _ _ _)
 
 pub is-implicit-spec : {M : Type 1} → statement M
 is-implicit-spec =

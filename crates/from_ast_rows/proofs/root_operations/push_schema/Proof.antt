@@ -1,17 +1,15 @@
-use mathlib.Core.Path.{refl, ap, _∙_}
-use native.Mathlib.Omega.{arith}
-use lib.ListN.{length, take}
-use Rattle.component.specs.Pushed.{Filled, filled}
-use Rattle.component.proofs.Pushing.{push-room, push-next}
-use Rattle.component.proofs.Turns.{one-room}
+-- The schema's row, and then its lists.
+use mathlib.Core.Path.{refl, _∙_}
+use Rattle.component.proofs.Pushing.{rest-begin, rest-capacity, rest-next, rest-fits}
+use Rattle.component.proofs.Turns.{one-capacity}
 use Rattle.from_ast_rows.proofs.SchemaTurns.{schema-cut}
 use Rattle.from_ast_rows.proofs.root_operations.push_schema.Statement.{statement}
 use Rattle.from_ast_rows.proofs.root_operations.push_schema.Tie as tie
 use borrow.Author.Needs.{needs}
 use Rattle.from_ast_rows.proofs.root_operations.push_schema.Reads as reads
 use Rattle.from_ast_rows.proofs.root_operations.push_schema.Lts as lts
-use Rattle.from_ast_rows.proofs.root_operations.is_implicit.Reads as is-implicit-reads
 use Rattle.component.proofs.push_row.Reads as push-row-reads
+use Rattle.from_ast_rows.proofs.root_operations.is_implicit.Reads as is-implicit-reads
 use Rattle.from_ast_rows.proofs.root_operations.schema_definition.Reads as schema-definition-reads
 use Rattle.from_ast_rows.proofs.root_operations.schema_lists.Reads as schema-lists-reads
 
@@ -19,33 +17,35 @@ schema-definition-requires : tie.Need-schema-definition-requires
 schema-definition-requires c κs = search needs
 
 is-implicit-requires : tie.Need-is-implicit-requires
-is-implicit-requires c κs = (c .before .before .before .before .before .before .pre .1, c .before .before .before .before .before .before .pre .0 .cards-most)
+is-implicit-requires c κs =
+    let s = c .before .before .before .before .before .before in
+    (s .pre .1, s .pre .0 .cards-most)
 
 push-row-requires : tie.Need-push-row-requires
 push-row-requires c κs =
-    let e = c .before .before .before .before .before .before .before .before .args in
-    let s = filled (e .rows .now) (e .used) in
-    one-room _ s _ (push-room _ _ _ s _ (schema-cut (e .text .now) (e .words .now) (e .adopt) (take (e .m) (e .heads .now)) _ _ (c .before .before .schema-definition .ensures .0) (c .before .is-implicit .ensures)) refl (length (e .rows .now)) (c .before .before .before .before .before .before .before .before .pre .2))
+    let rest = rest-begin _ _ _ refl (c .before .before .before .before .before .before .before .before .pre .2) in
+    let cut = schema-cut _ _ _ _ _ _ (c .before .before .schema-definition .ensures .0) (c .before .is-implicit .ensures) in
+    one-capacity _ _ _ (rest-capacity _ _ _ rest _ _ cut)
 
 schema-lists-requires : tie.Need-schema-lists-requires
 schema-lists-requires c κs =
-    let e = c .before .before .before .before .before .before .before .before .before .before .before .before .args in
-    let s = filled (e .rows .now) (e .used) in
-    let r = c .before .before .before .push-row in
-    let next = push-next _ _ _ s _ (schema-cut (e .text .now) (e .words .now) (e .adopt) (take (e .m) (e .heads .now)) _ _ (c .before .before .before .before .before .before .schema-definition .ensures .0) (c .before .before .before .before .before .is-implicit .ensures)) refl _ (r .ensures) (c .before .before .before .before .before .before .before .before .before .before .before .before .pre .2) in
-    let u = ap (λ (t : Filled). t .used) next in
-    let p = c .before .before .before .before .before .before .before .before .before .before .before .before .pre .2 in
-    let k = r .kept .0 in
-    (c .before .before .before .before .before .before .before .before .before .before .before .before .pre .0, c .before .before .before .before .before .before .before .before .before .before .before .before .pre .1, c .before .before .before .before .before .before .schema-definition .ensures .1, omega arith)
+    let s = c .before .before .before .before .before .before .before .before .before .before .before .before in
+    let rest = rest-begin _ _ _ refl (s .pre .2) in
+    let cut = schema-cut _ _ _ _ _ _ (c .before .before .before .before .before .before .schema-definition .ensures .0)
+    (c .before .before .before .before .before .is-implicit .ensures) in
+    let n = rest-next _ _ _ rest _ _ cut _ (c .before .before .before .push-row .ensures) in
+    (s .pre .0, s .pre .1, c .before .before .before .before .before .before .schema-definition .ensures .1, rest-fits _ _ _ n)
 
 same-length : tie.Need-same-length
 same-length c = search needs
 
 returns : tie.Need-returns
 returns c =
-    let e = c .before .before .before .before .before .before .before .before .before .before .before .before .before .before .before .args in
-    let s = filled (e .rows .now) (e .used) in
-    c .before .before .schema-lists .ensures ∙ push-next _ _ _ s _ (schema-cut (e .text .now) (e .words .now) (e .adopt) (take (e .m) (e .heads .now)) _ _ (c .before .before .before .before .before .before .before .before .before .schema-definition .ensures .0) (c .before .before .before .before .before .before .before .before .is-implicit .ensures)) refl _ (c .before .before .before .before .before .before .push-row .ensures) (c .before .before .before .before .before .before .before .before .before .before .before .before .before .before .before .pre .2)
+    let rest = rest-begin _ _ _ refl (c .before .before .before .before .before .before .before .before .before .before .before .before .before .before
+    .before .pre .2) in
+    let cut = schema-cut _ _ _ _ _ _ (c .before .before .before .before .before .before .before .before .before .schema-definition .ensures .0)
+    (c .before .before .before .before .before .before .before .before .is-implicit .ensures) in
+    c .before .before .schema-lists .ensures ∙ rest-next _ _ _ rest _ _ cut _ (c .before .before .before .before .before .before .push-row .ensures) .whole
 
 pub push-schema-spec : {M : Type 1} → statement M
 push-schema-spec =

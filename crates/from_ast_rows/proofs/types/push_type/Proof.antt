@@ -1,8 +1,7 @@
+-- The type's row, and then its lists.
 use mathlib.Core.Path.{refl, _∙_}
-use lib.ListN.{length}
-use Rattle.component.specs.Pushed.{filled}
-use Rattle.component.proofs.Pushing.{push-room, push-next, rest-begin, rest-next, rest-fits}
-use Rattle.component.proofs.Turns.{one-room}
+use Rattle.component.proofs.Pushing.{rest-begin, rest-capacity, rest-next, rest-fits}
+use Rattle.component.proofs.Turns.{one-capacity}
 use Rattle.component.proofs.Matching.{matching-stored, type-cut}
 use Rattle.from_ast_rows.proofs.types.push_type.Statement.{statement}
 use Rattle.from_ast_rows.proofs.types.push_type.Tie as tie
@@ -18,9 +17,8 @@ matching-extensions-requires c κs = search needs
 
 push-type-row-requires : tie.Need-push-type-row-requires
 push-type-row-requires c κs =
-    let e = c .before .before .before .before .before .before .before .before .before .before .before .args in
-    let s = filled (e .rows .now) (e .used) in
-    one-room _ s _ (push-room _ _ _ s _ (type-cut (c .before .before .before .matching-extensions .ensures)) refl (length (e .rows .now)) (c .before .before .before .before .before .before .before .before .before .before .before .pre .4))
+    let rest = rest-begin _ _ _ refl (c .before .before .before .before .before .before .before .before .before .before .before .pre .4) in
+    one-capacity _ _ _ (rest-capacity _ _ _ rest _ _ (type-cut (c .before .before .before .matching-extensions .ensures)))
 
 sub-collect-lists : tie.Need-sub-collect-lists
 sub-collect-lists c = search needs
@@ -33,12 +31,11 @@ part-collect-lists-end c = search needs
 
 collect-lists-requires : tie.Need-collect-lists-requires
 collect-lists-requires c κs =
-    let e = c .before .before .before .before .before .before .before .before .before .before .before .before .before .before .before .before .before .args in
-    let s = filled (e .rows .now) (e .used) in
+    let s = c .before .before .before .before .before .before .before .before .before .before .before .before .before .before .before .before .before in
     let m = c .before .before .before .before .before .before .before .before .before .matching-extensions .ensures in
-    let l0 = rest-begin _ s _ refl (c .before .before .before .before .before .before .before .before .before .before .before .before .before .before .before .before .before .pre .4) in
-    let l1 = rest-next _ _ _ l0 _ _ (type-cut m) _ (c .before .before .before .before .before .push-type-row .ensures) in
-    (c .before .before .before .before .before .before .before .before .before .before .before .before .before .before .before .before .before .pre .0, matching-stored m (c .before .before .before .before .before .before .before .before .before .before .before .before .before .before .before .before .before .pre .1), c .before .before .before .before .before .before .before .before .before .before .before .before .before .before .before .before .before .pre .2, rest-fits _ _ _ l1)
+    let rest = rest-begin _ _ _ refl (s .pre .4) in
+    let n = rest-next _ _ _ rest _ _ (type-cut m) _ (c .before .before .before .before .before .push-type-row .ensures) in
+    (s .pre .0, matching-stored m (s .pre .1), s .pre .2, rest-fits _ _ _ n)
 
 same-length : tie.Need-same-length
 same-length c = search needs
@@ -48,9 +45,11 @@ same-length-2 c = search needs
 
 returns : tie.Need-returns
 returns c =
-    let e = c .before .before .before .before .before .before .before .before .before .before .before .before .before .before .before .before .before .before .before .before .args in
-    let s = filled (e .rows .now) (e .used) in
-    c .before .before .collect-lists .ensures ∙ push-next _ _ _ s _ (type-cut (c .before .before .before .before .before .before .before .before .before .before .before .before .matching-extensions .ensures)) refl _ (c .before .before .before .before .before .before .before .before .push-type-row .ensures) (c .before .before .before .before .before .before .before .before .before .before .before .before .before .before .before .before .before .before .before .before .pre .4)
+    let rest = rest-begin _ _ _ refl (c .before .before .before .before .before .before .before .before .before .before .before .before .before .before
+    .before .before .before .before .before .before .pre .4) in
+    c .before .before .collect-lists .ensures ∙ rest-next _ _ _ rest _ _
+    (type-cut (c .before .before .before .before .before .before .before .before .before .before .before .before .matching-extensions .ensures)) _
+    (c .before .before .before .before .before .before .before .before .push-type-row .ensures) .whole
 
 pub push-type-spec : {M : Type 1} → statement M
 push-type-spec =

@@ -1,12 +1,12 @@
+-- The loop's invariant: the types from `i` on are left to push.
 use mathlib.Core.Path.{_≡_, refl, _∙_}
 use Prim.Native.Nat.{_-_}
 use native.Mathlib.Omega.{arith}
-use lib.ListN.{length, take, drop}
-use Rattle.definition.specs.Lists.{flatMap}
+use lib.ListN.{length, drop}
+use Rattle.from_ast_index.proofs.Lists.{drop-next, drop-end}
 use Rattle.component.specs.Pushed.{filled, pushed}
-use Rattle.component.specs.Drawn.{typeRowsAt}
-use Rattle.component.proofs.Pushing.{Left, left-begin, left-room, left-next, left-end}
-use Rattle.component.proofs.Turns.{taken-next, taken-end}
+use Rattle.component.specs.RowsByCards.{typeRowsAt, typesRowsAt}
+use Rattle.component.proofs.Pushing.{Left, left-begin, left-capacity, left-next, left-end}
 use Rattle.from_ast_rows.proofs.types.push_types.Statement.{statement}
 use Rattle.from_ast_rows.proofs.types.push_types.Tie as tie
 use borrow.Author.Needs.{needs}
@@ -15,13 +15,13 @@ use Rattle.from_ast_rows.proofs.types.push_types.Lts as lts
 use Rattle.from_ast_rows.proofs.types.push_type.Reads as push-type-reads
 
 abbrev Inv-loop : tie.InvT-loop
-Inv-loop text words prints exts n types t mine₀ rows₀ used next₀ i₀ mine rows next i =
+Inv-loop text words hashes types extensions mine₀ rows₀ used next₀ i₀ mine rows next i =
     (length mine ≡ length mine₀)
     × (length rows ≡ length rows₀)
-    × Left (typeRowsAt text words (take n exts)) (drop i (take t types)) (filled rows next) (pushed (flatMap (typeRowsAt text words (take n exts)) (take t types)) (filled rows₀ next₀))
+    × Left (typeRowsAt text words extensions) (drop i types) (filled rows next) (pushed (typesRowsAt text words types extensions) (filled rows₀ next₀))
 
 abbrev μ-loop : tie.MeasureT-loop
-μ-loop text words prints exts n types t mine₀ rows₀ used next₀ i₀ mine rows next i = t - i
+μ-loop text words hashes types extensions mine₀ rows₀ used next₀ i₀ mine rows next i = length types - i
 
 loop-holds : tie.Need-loop-holds Inv-loop μ-loop
 loop-holds c = (refl, refl, left-begin _ _ _ _ refl (c .before .before .before .before .before .before .before .pre .4))
@@ -30,19 +30,14 @@ mul-card : tie.Need-mul-card Inv-loop μ-loop
 mul-card c = search needs
 
 shared-slice-read-card : tie.Need-shared-slice-read-card Inv-loop μ-loop
-shared-slice-read-card c = let h = c .before .before .before .before .before .before .before .before .before .before .pre .2 .inside in omega arith
+shared-slice-read-card c = search needs
 
 push-type-requires : tie.Need-push-type-requires Inv-loop μ-loop
 push-type-requires c κs =
     let s = c .before .before .before .before .before .before .before .before .before .before .before .before in
     let l = c .before .before .before .before .loop in
-    let h = c .before .before .before .loop-test .taken in (
-      s .pre .0,
-      s .pre .1,
-      s .pre .2 .stored (l .i) h,
-      omega (arith, s .pre .3, l .inv .0),
-      left-room _ _ _ _ (l .inv .2) _ _ (taken-next (s .args .types .now) (s .args .t) (l .i) h (s .pre .2 .inside)),
-    )
+    let h = c .before .before .before .loop-test .taken in
+    (s .pre .0, s .pre .2, s .pre .1 .stored (l .i) h, omega (arith, s .pre .3, l .inv .0), left-capacity _ _ _ _ (l .inv .2) _ _ (drop-next _ (l .i) h))
 
 add-i : tie.Need-add-i Inv-loop μ-loop
 add-i c = search needs
@@ -52,13 +47,12 @@ loop-less c = search needs
 
 loop-again : tie.Need-loop-again Inv-loop μ-loop
 loop-again c =
-    let s = c .before .before .before .before .before .before .before .before .before .before .before .before .before .before .before .before .before in
     let l = c .before .before .before .before .before .before .before .before .before .loop in
-    let h = c .before .before .before .before .before .before .before .before .loop-test .taken in
     let r = c .before .before .before .before .push-type in (
-      r .kept .1 .1 .1 .1 .1 .1 .0 ∙ l .inv .0,
-      r .kept .1 .1 .1 .1 .1 .1 .1 .0 ∙ l .inv .1,
-      left-next _ _ _ _ (l .inv .2) _ _ (taken-next (s .args .types .now) (s .args .t) (l .i) h (s .pre .2 .inside)) _ (r .ensures),
+      r .kept .1 .1 .1 .1 .1 .0 ∙ l .inv .0,
+      r .kept .1 .1 .1 .1 .1 .1 .0 ∙ l .inv .1,
+      left-next _ _ _ _ (l .inv .2) _ _ (drop-next _ (l .i) (c .before .before .before .before .before .before .before .before .loop-test .taken)) _
+          (r .ensures),
     )
 
 same-length : tie.Need-same-length Inv-loop μ-loop
@@ -69,9 +63,8 @@ same-length-2 c = c .before .loop .inv .1
 
 returns : tie.Need-returns Inv-loop μ-loop
 returns c =
-    let s = c .before .before .before .before .before .before .before .before .before in
     let l = c .before .loop in
-    left-end _ _ _ _ (l .inv .2) (taken-end (s .args .types .now) (s .args .t) (l .i) (c .loop-test .left))
+    left-end _ _ _ _ (l .inv .2) (drop-end _ (l .i) (c .loop-test .left))
 
 pub push-types-spec : {M : Type 1} → statement M
 push-types-spec =

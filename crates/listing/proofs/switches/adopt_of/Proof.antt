@@ -13,7 +13,11 @@ ignore-of-requires-2 : tie.Need-ignore-of-requires-2
 ignore-of-requires-2 c κs = search needs
 
 returns-2 : tie.Need-returns-2
-returns-2 c = rw (ne-eqb (c .before .before .before .args .adopt) 48 (c .before .before .if1 .left), eq-eqb (c .before .before .before .args .adopt) 49 (c .before .if2 .taken)) (c .ignore-of2 .ensures)
+returns-2 c =
+    rw (
+      ne-eqb (c .before .before .before .args .adopt) 48 (c .before .before .if1 .left),
+      eq-eqb (c .before .before .before .args .adopt) 49 (c .before .if2 .taken),
+    ) (c .ignore-of2 .ensures)
 
 returns-3 : tie.Need-returns-3
 returns-3 c = rw (ne-eqb (c .before .before .args .adopt) 48 (c .before .if1 .left), ne-eqb (c .before .before .args .adopt) 49 (c .if2 .left))

@@ -31,7 +31,9 @@ array-share-prefix-buffer : tie.Need-array-share-prefix-buffer
 array-share-prefix-buffer c = let w = within (c .before .n .given .1) (c .before .before .before .before .read-file .ensures) in omega arith
 
 slice-aggregate-switches-of : tie.Need-slice-aggregate-switches-of
-slice-aggregate-switches-of c = let w = within (c .before .before .n .given .1) (c .before .before .before .before .before .read-file .ensures) in sym (length-take-le (c .before .before .n .given .0 .0) (c .before .before .before .before .before .read-file .last .1 .1 .0) (omega arith))
+slice-aggregate-switches-of c =
+    let w = within (c .before .before .n .given .1) (c .before .before .before .before .before .read-file .ensures) in
+    sym (length-take-le (c .before .before .n .given .0 .0) (c .before .before .before .before .before .read-file .last .1 .1 .0) (omega arith))
 
 switches-of-requires : tie.Need-switches-of-requires
 switches-of-requires c κs = search needs

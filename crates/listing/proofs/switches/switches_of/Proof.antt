@@ -35,7 +35,9 @@ adopt-of-requires-2 : tie.Need-adopt-of-requires-2
 adopt-of-requires-2 c κs = search needs
 
 returns-4 : tie.Need-returns-4
-returns-4 c = c .adopt-of2 .ensures ∙ sym (three-bytes (c .before .before .before .before .before .before .before .before .args .bytes .now) (c .before .before .before .before .before .if2 .left) (c .before .before .before .if3 .left))
+returns-4 c =
+    c .adopt-of2 .ensures ∙ sym (three-bytes (c .before .before .before .before .before .before .before .before .args .bytes .now)
+    (c .before .before .before .before .before .if2 .left) (c .before .before .before .if3 .left))
 
 pub switches-of-spec : {M : Type 1} → statement M
 switches-of-spec =

@@ -5,12 +5,6 @@ use Rattle.program_io.proofs.InputLaws.{lies}
 use borrow.Author.Needs.{needs}
 use Rattle.program_io.proofs.filing.file_document.Statement.{statement}
 use Rattle.program_io.proofs.filing.file_document.Tie as tie
-use Rattle.program_io.proofs.filing.file_document.Reads as reads
-use Rattle.program_io.proofs.filing.file_document.Lts as lts
-use Rattle.program_io.proofs.filing.file.Reads as file-reads
-use Rattle.program_io.proofs.input.buffers.card_words.Reads as card-words-reads
-use Rattle.program_io.proofs.input.buffers.file_bytes.Reads as file-bytes-reads
-use Rattle.program_io.proofs.input.documents.read_document.Reads as read-document-reads
 
 file-bytes-requires : tie.Need-file-bytes-requires
 file-bytes-requires c κs = search needs
@@ -37,16 +31,29 @@ enum-known-size : tie.Need-enum-known-size
 enum-known-size c = search needs
 
 array-share-prefix-lent : tie.Need-array-share-prefix-lent
-array-share-prefix-lent c = let w = lies (c .before .before .before .size .given .1) (c .before .before .before .before .before .before .before .before .read-document .ensures) in let k = c .before .before .before .before .before .before .before .before .read-document .kept in omega arith
+array-share-prefix-lent c =
+    let w = lies (c .before .before .before .size .given .1) (c .before .before .before .before .before .before .before .before .read-document .ensures) in
+    let k = c .before .before .before .before .before .before .before .before .read-document .kept in omega arith
 
 slice-aggregate-file : tie.Need-slice-aggregate-file
-slice-aggregate-file c = let w = lies (c .before .before .before .before .size .given .1) (c .before .before .before .before .before .before .before .before .before .read-document .ensures) in let k = c .before .before .before .before .before .before .before .before .before .read-document .kept in sym (length-take-le (c .before .before .before .before .size .given .0 .0) _ (omega arith))
+slice-aggregate-file c =
+    let w = lies (c .before .before .before .before .size .given .1)
+    (c .before .before .before .before .before .before .before .before .before .read-document .ensures) in
+    let k = c .before .before .before .before .before .before .before .before .before .read-document .kept in
+    sym (length-take-le (c .before .before .before .before .size .given .0 .0) _ (omega arith))
 
 array-share-prefix-cards : tie.Need-array-share-prefix-cards
-array-share-prefix-cards c = let w = lies (c .before .before .before .before .size .given .1) (c .before .before .before .before .before .before .before .before .before .read-document .ensures) in let k = c .before .before .before .before .before .before .before .before .before .read-document .kept in omega arith
+array-share-prefix-cards c =
+    let w = lies (c .before .before .before .before .size .given .1)
+    (c .before .before .before .before .before .before .before .before .before .read-document .ensures) in
+    let k = c .before .before .before .before .before .before .before .before .before .read-document .kept in omega arith
 
 slice-aggregate-file-2 : tie.Need-slice-aggregate-file-2
-slice-aggregate-file-2 c = let w = lies (c .before .before .before .before .before .size .given .1) (c .before .before .before .before .before .before .before .before .before .before .read-document .ensures) in let k = c .before .before .before .before .before .before .before .before .before .before .read-document .kept in sym (length-take-le (c .before .before .before .before .before .size .given .0 .1 .0) _ (omega arith))
+slice-aggregate-file-2 c =
+    let w = lies (c .before .before .before .before .before .size .given .1)
+    (c .before .before .before .before .before .before .before .before .before .before .read-document .ensures) in
+    let k = c .before .before .before .before .before .before .before .before .before .before .read-document .kept in
+    sym (length-take-le (c .before .before .before .before .before .size .given .0 .1 .0) _ (omega arith))
 
 file-requires : tie.Need-file-requires
 file-requires c κs = search needs

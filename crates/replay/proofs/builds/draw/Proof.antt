@@ -3,21 +3,20 @@ use lib.Seq.{length-take-le}
 use borrow.Author.Needs.{needs}
 use Rattle.replay.proofs.builds.draw.Statement.{statement}
 use Rattle.replay.proofs.builds.draw.Tie as tie
-use Rattle.replay.proofs.builds.draw.Reads as reads
-use Rattle.replay.proofs.builds.draw.Lts as lts
-use Rattle.api.proofs.build.Reads as build-reads
 
 slice-relend-prefix-build : tie.Need-slice-relend-prefix-build
 slice-relend-prefix-build c = search needs
 
 slice-aggregate-build : tie.Need-slice-aggregate-build
-slice-aggregate-build c = sym (length-take-le _ (c .before .before .before .before .before .args .rows .now) (c .before .before .before .before .before .pre .0))
+slice-aggregate-build c =
+    sym (length-take-le _ (c .before .before .before .before .before .args .rows .now) (c .before .before .before .before .before .pre .0))
 
 slice-relend-prefix-build-2 : tie.Need-slice-relend-prefix-build-2
 slice-relend-prefix-build-2 c = search needs
 
 slice-aggregate-build-2 : tie.Need-slice-aggregate-build-2
-slice-aggregate-build-2 c = sym (length-take-le _ (c .before .before .before .before .before .before .args .errors .now) (c .before .before .before .before .before .before .pre .1))
+slice-aggregate-build-2 c =
+    sym (length-take-le _ (c .before .before .before .before .before .before .args .errors .now) (c .before .before .before .before .before .before .pre .1))
 
 build-requires : tie.Need-build-requires
 build-requires c κs = search needs

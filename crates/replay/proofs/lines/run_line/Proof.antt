@@ -3,14 +3,6 @@ use lib.Seq.{length-take-le}
 use borrow.Author.Needs.{needs}
 use Rattle.replay.proofs.lines.run_line.Statement.{statement}
 use Rattle.replay.proofs.lines.run_line.Tie as tie
-use Rattle.replay.proofs.lines.run_line.Reads as reads
-use Rattle.replay.proofs.lines.run_line.Lts as lts
-use Rattle.replay.proofs.expected.hold.hold_tallies.Reads as hold-tallies-reads
-use Rattle.replay.proofs.lines.run_call.Reads as run-call-reads
-use Rattle.replay_calls.proofs.steps.change.run_change.Reads as run-change-reads
-use Rattle.replay_calls.proofs.steps.command.command_of.Reads as command-of-reads
-use Rattle.replay_calls.proofs.steps.compare.least.Reads as least-reads
-use Rattle.replay_calls.proofs.steps.step.told.Reads as told-reads
 
 command-of-requires : tie.Need-command-of-requires
 command-of-requires c κs = search needs
@@ -28,13 +20,17 @@ slice-relend-prefix-run-call : tie.Need-slice-relend-prefix-run-call
 slice-relend-prefix-run-call c = search needs
 
 slice-aggregate-run-call : tie.Need-slice-aggregate-run-call
-slice-aggregate-run-call c = sym (length-take-le _ (c .before .before .before .before .before .before .before .before .before .before .before .before .args .text .now) (c .before .before .least .ensures .1))
+slice-aggregate-run-call c =
+    let start = c .before .before .before .before .before .before .before .before .before .before .before .before .before .before in
+    sym (length-take-le _ (start .args .text .now) (c .before .before .least .ensures .1))
 
 slice-relend-prefix-run-call-2 : tie.Need-slice-relend-prefix-run-call-2
 slice-relend-prefix-run-call-2 c = search needs
 
 slice-aggregate-run-call-2 : tie.Need-slice-aggregate-run-call-2
-slice-aggregate-run-call-2 c = sym (length-take-le _ (c .before .before .before .before .before .before .before .before .before .before .before .before .before .args .words .now) (c .before .before .least2 .ensures .1))
+slice-aggregate-run-call-2 c =
+    let start = c .before .before .before .before .before .before .before .before .before .before .before .before .before .before .before in
+    sym (length-take-le _ (start .args .words .now) (c .before .before .least2 .ensures .1))
 
 run-call-requires : tie.Need-run-call-requires
 run-call-requires c κs = search needs
@@ -90,6 +86,12 @@ same-length-5 c = search needs
 same-length-6 : tie.Need-same-length-6
 same-length-6 c = search needs
 
+same-length-7 : tie.Need-same-length-7
+same-length-7 c = search needs
+
+same-length-8 : tie.Need-same-length-8
+same-length-8 c = search needs
+
 returns-3 : tie.Need-returns-3
 returns-3 c = search needs
 
@@ -129,6 +131,8 @@ run-line-spec =
     same-length-4
     same-length-5
     same-length-6
+    same-length-7
+    same-length-8
     returns-3
     returns-4
     returns-5)

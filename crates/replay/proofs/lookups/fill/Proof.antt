@@ -11,7 +11,8 @@ slice-relend-prefix-ask : tie.Need-slice-relend-prefix-ask
 slice-relend-prefix-ask c = search needs
 
 slice-aggregate-ask : tie.Need-slice-aggregate-ask
-slice-aggregate-ask c = sym (length-take-le (c .before .least .result) (c .before .before .before .before .before .before .args .list .now) (c .before .least .ensures .1))
+slice-aggregate-ask c =
+    sym (length-take-le (c .before .least .result) (c .before .before .before .before .before .before .args .list .now) (c .before .least .ensures .1))
 
 ask-requires : tie.Need-ask-requires
 ask-requires c κs = search needs

@@ -1,7 +1,7 @@
 -- What was found is the row itself exactly where no interface before it under the type has the name.
 use Prim.Native.Nat.{_+_, _*_}
 use native.Mathlib.Omega.{arith}
-use Rattle.schema.proofs.Firsts.{interface-none, interface-some}
+use Rattle.schema.proofs.SearchStops.{interface-none, interface-some}
 use Rattle.schema.proofs.first_interface.is_first_interface.Statement.{statement}
 use Rattle.schema.proofs.first_interface.is_first_interface.Tie as tie
 use borrow.Author.Needs.{needs}
@@ -52,10 +52,16 @@ enum-told : tie.Need-enum-told
 enum-told c = search needs
 
 returns : tie.Need-returns
-returns c = let p = c .before .before .before .before .before .before .before .before .before .before .pre in interface-none _ _ _ _ _ (p .0) (p .1) _ _ (c .before .before .before .before .before .card-name .ensures) (c .before .before .before .card-name2 .ensures) _ (c .before .before .find-part .ensures) (p .2) (c .enum-told .given .1)
+returns c =
+    let p = c .before .before .before .before .before .before .before .before .before .before .pre in
+    interface-none _ _ _ _ _ (p .0) (p .1) _ _ (c .before .before .before .before .before .card-name .ensures) (c .before .before .before .card-name2 .ensures)
+    _ (c .before .before .find-part .ensures) (p .2) (c .enum-told .given .1)
 
 returns-2 : tie.Need-returns-2
-returns-2 c = let p = c .before .before .before .before .before .before .before .before .before .before .before .pre in interface-some _ _ _ _ _ (p .0) (p .1) _ _ (c .before .before .before .before .before .before .card-name .ensures) (c .before .before .before .before .card-name2 .ensures) _ (c .before .before .before .find-part .ensures) (p .2) _ (c .before .part .given .1)
+returns-2 c =
+    let p = c .before .before .before .before .before .before .before .before .before .before .before .pre in
+    interface-some _ _ _ _ _ (p .0) (p .1) _ _ (c .before .before .before .before .before .before .card-name .ensures)
+    (c .before .before .before .before .card-name2 .ensures) _ (c .before .before .before .find-part .ensures) (p .2) _ (c .before .part .given .1)
 
 pub is-first-interface-spec : {M : Type 1} → statement M
 is-first-interface-spec =

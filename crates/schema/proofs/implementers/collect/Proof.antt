@@ -12,7 +12,7 @@ use Rattle.schema_rows.proofs.Listing.{Listing, listing-start, listing-same, li
 use Rattle.schema.specs.Owners.{ownerOf, LastType}
 use Rattle.schema.specs.Gather.{pairWords, pairsLeft}
 use Rattle.schema.proofs.Pairs.{last-start, pairs-start, pairs-end, type-last, type-left, last-next, left-other, left-again, left-new}
-use Rattle.schema.proofs.Three.{three-room, three-pushed}
+use Rattle.schema.proofs.ThreeWords.{three-capacity, three-pushed}
 use Rattle.schema.proofs.implementers.collect.Statement.{statement}
 use Rattle.schema.proofs.implementers.collect.Tie as tie
 use borrow.Author.Needs.{needs}
@@ -29,14 +29,31 @@ abbrev μ-loop : tie.MeasureT-loop
 
 -- An interface that counts is the first of those left.
 at-hand : (c : tie.Else3 Inv-loop μ-loop) →
-    Listing (c .before .before .before .before .before .before .before .before .before .before .before .before .args .pairs .now) (c .before .before .before .before .before .before .before .loop .pairs) (c .before .before .before .before .before .before .before .loop .n)
-    (getD (c .before .before .before .before .before .before .before .before .before .before .before .before .args .rows .now) (3 * c .before .before .before .before .before .before .before .loop .owner) 0 ∷ (getD (c .before .before .before .before .before .before .before .before .before .before .before .before .args .rows .now) (3 * c .before .before .before .before .before .before .before .loop .i + 1) 0
-    ∷ (getD (c .before .before .before .before .before .before .before .before .before .before .before .before .args .rows .now) (3 * c .before .before .before .before .before .before .before .loop .owner + 1) 0
-    ∷ pairsLeft (storedParts (c .before .before .before .before .before .before .before .before .before .before .before .before .args .text .now) (c .before .before .before .before .before .before .before .before .before .before .before .before .args .words .now)) (c .before .before .before .before .before .before .before .before .before .before .before .before .args .rows .now) (ownerOf (storedParts (c .before .before .before .before .before .before .before .before .before .before .before .before .args .text .now) (c .before .before .before .before .before .before .before .before .before .before .before .before .args .words .now)) (c .before .before .before .before .before .before .before .before .before .before .before .before .args .rows .now) (c .before .before .before .before .before .before .before .loop .owner) (c .before .before .before .before .before .before .before .loop .i + 1)) (c .before .before .before .before .before .before .before .loop .i + 1))))
-    (pairWords (allImplementing (storedParts (c .before .before .before .before .before .before .before .before .before .before .before .before .args .text .now) (c .before .before .before .before .before .before .before .before .before .before .before .before .args .words .now)) (lentRows (c .before .before .before .before .before .before .before .before .before .before .before .before .args .rows .now))))
+    Listing (c .before .before .before .before .before .before .before .before .before .before .before .before .args .pairs .now)
+    (c .before .before .before .before .before .before .before .loop .pairs) (c .before .before .before .before .before .before .before .loop .n)
+    (getD (c .before .before .before .before .before .before .before .before .before .before .before .before .args .rows .now)
+    (3 * c .before .before .before .before .before .before .before .loop .owner)
+    0 ∷ (getD (c .before .before .before .before .before .before .before .before .before .before .before .before .args .rows .now)
+    (3 * c .before .before .before .before .before .before .before .loop .i + 1) 0
+    ∷ (getD (c .before .before .before .before .before .before .before .before .before .before .before .before .args .rows .now)
+    (3 * c .before .before .before .before .before .before .before .loop .owner + 1) 0
+    ∷ pairsLeft (storedParts (c .before .before .before .before .before .before .before .before .before .before .before .before .args .text .now)
+    (c .before .before .before .before .before .before .before .before .before .before .before .before .args .words .now))
+    (c .before .before .before .before .before .before .before .before .before .before .before .before .args .rows .now)
+    (ownerOf (storedParts (c .before .before .before .before .before .before .before .before .before .before .before .before .args .text .now)
+    (c .before .before .before .before .before .before .before .before .before .before .before .before .args .words .now))
+    (c .before .before .before .before .before .before .before .before .before .before .before .before .args .rows .now)
+    (c .before .before .before .before .before .before .before .loop .owner) (c .before .before .before .before .before .before .before .loop .i + 1))
+    (c .before .before .before .before .before .before .before .loop .i + 1))))
+    (pairWords (allImplementing (storedParts
+    (c .before .before .before .before .before .before .before .before .before .before .before .before .args .text .now)
+    (c .before .before .before .before .before .before .before .before .before .before .before .before .args .words .now))
+    (lentRows (c .before .before .before .before .before .before .before .before .before .before .before .before .args .rows .now))))
 at-hand c =
     listing-same _ _ _ _ _ _ (c .before .before .before .before .before .before .before .loop .inv .2)
-    (left-new _ _ _ (c .before .before .before .before .before .before .loop-test .taken) (sym (c .before .before .before .before .is-type .ensures) ∙ c .before .before .before .if1 .left) _ (c .before .before .before .before .before .before .before .loop .inv .1) (c .before .before .if2 .left)
+    (left-new _ _ _ (c .before .before .before .before .before .before .loop-test .taken)
+    (sym (c .before .before .before .before .is-type .ensures) ∙ c .before .before .before .if1 .left) _
+    (c .before .before .before .before .before .before .before .loop .inv .1) (c .before .before .if2 .left)
     (sym (not-false _ (c .if3 .left)) ∙ c .before .is-first-interface .ensures))
 
 loop-holds : tie.Need-loop-holds Inv-loop μ-loop
@@ -79,7 +96,9 @@ loop-again-2 c =
     let e = sym (c .before .before .is-type .ensures) ∙ c .before .if1 .left in (
       omega arith,
       last-next _ _ (c .before .before .before .before .loop-test .taken) e _ (c .before .before .before .before .before .loop .inv .1),
-      listing-same _ _ _ _ _ _ (c .before .before .before .before .before .loop .inv .2) (left-other _ _ _ (c .before .before .before .before .loop-test .taken) e _ (c .before .before .before .before .before .loop .inv .1) (c .if2 .taken)),
+      listing-same _ _ _ _ _ _ (c .before .before .before .before .before .loop .inv .2)
+          (left-other _ _ _ (c .before .before .before .before .loop-test .taken) e _ (c .before .before .before .before .before .loop .inv .1)
+          (c .if2 .taken)),
     )
 
 is-first-interface-requires : tie.Need-is-first-interface-requires Inv-loop μ-loop
@@ -95,9 +114,11 @@ loop-again-3 : tie.Need-loop-again-3 Inv-loop μ-loop
 loop-again-3 c =
     let e = sym (c .before .before .before .before .is-type .ensures) ∙ c .before .before .before .if1 .left in (
       omega arith,
-      last-next _ _ (c .before .before .before .before .before .before .loop-test .taken) e _ (c .before .before .before .before .before .before .before .loop .inv .1),
+      last-next _ _ (c .before .before .before .before .before .before .loop-test .taken) e _
+          (c .before .before .before .before .before .before .before .loop .inv .1),
       listing-same _ _ _ _ _ _ (c .before .before .before .before .before .before .before .loop .inv .2)
-          (left-again _ _ _ (c .before .before .before .before .before .before .loop-test .taken) e _ (c .before .before .before .before .before .before .before .loop .inv .1) (c .before .before .if2 .left)
+          (left-again _ _ _ (c .before .before .before .before .before .before .loop-test .taken) e _
+          (c .before .before .before .before .before .before .before .loop .inv .1) (c .before .before .if2 .left)
           (sym (not-true _ (c .if3 .taken)) ∙ c .before .is-first-interface .ensures)),
     )
 
@@ -135,7 +156,9 @@ shared-slice-read-put-words-3 : tie.Need-shared-slice-read-put-words-3 Inv-loop 
 shared-slice-read-put-words-3 c = omega (arith, c .before .before .before .before .before .before .before .before .before .before .before .loop .inv .1 .before)
 
 put-words-requires : tie.Need-put-words-requires Inv-loop μ-loop
-put-words-requires c κs = three-room _ _ _ _ _ _ _ _ (at-hand (c .before .before .before .before)) (c .before .before .before .before .before .before .before .before .before .before .before .before .before .before .before .before .pre)
+put-words-requires c κs =
+    three-capacity _ _ _ _ _ _ _ _ (at-hand (c .before .before .before .before))
+    (c .before .before .before .before .before .before .before .before .before .before .before .before .before .before .before .before .pre)
 
 add-i-4 : tie.Need-add-i-4 Inv-loop μ-loop
 add-i-4 c = search needs
@@ -144,11 +167,17 @@ loop-less-4 : tie.Need-loop-less-4 Inv-loop μ-loop
 loop-less-4 c = search needs
 
 loop-again-4 : tie.Need-loop-again-4 Inv-loop μ-loop
-loop-again-4 c = (
-  omega arith,
-  last-next _ _ (c .before .before .before .before .before .before .before .before .before .before .before .before .before .loop-test .taken) (sym (c .before .before .before .before .before .before .before .before .before .before .before .is-type .ensures) ∙ c .before .before .before .before .before .before .before .before .before .before .if1 .left) _ (c .before .before .before .before .before .before .before .before .before .before .before .before .before .before .loop .inv .1),
-  three-pushed _ _ _ _ _ _ _ _ (at-hand (c .before .before .before .before .before .before .before)) (c .before .before .before .before .before .before .before .before .before .before .before .before .before .before .before .before .before .before .before .pre) _ _ (c .before .before .put-words .ensures .0) (c .before .before .put-words .ensures .1),
-)
+loop-again-4 c =
+    let far = c .before .before .before .before .before .before .before .before .before .before in (
+      omega arith,
+      last-next _ _ (far .before .before .before .loop-test .taken)
+          (sym (far .before .is-type .ensures)
+          ∙ far .if1 .left) _
+          (far .before .before .before .before .loop .inv .1),
+      three-pushed _ _ _ _ _ _ _ _ (at-hand (c .before .before .before .before .before .before .before))
+          (far .before .before .before .before .before .before .before .before .before .pre) _ _ (c .before .before .put-words .ensures .0)
+          (c .before .before .put-words .ensures .1),
+    )
 
 same-length : tie.Need-same-length Inv-loop μ-loop
 same-length c = c .before .loop .inv .2 .kept

@@ -4,12 +4,12 @@ use Prim.Native.Nat.{_+_, _-_, _≤_}
 use native.Mathlib.Omega.{arith}
 use borrow.Author.Tests.{not-true, not-false}
 use lib.ListN.{length, drop}
-use Rattle.definition.specs.Lists.{keep}
+use Rattle.definition.specs.Lists.{filter}
 use Rattle.definition.specs.LentRows.{lentRows}
 use Rattle.definition.specs.Lookups.{isPartNamed}
 use Rattle.store_reader.specs.Stored.{storedParts}
 use Rattle.schema_rows.proofs.SearchLaws.{part-any}
-use Rattle.schema.proofs.Groups.{keep-here, keep-over, counted}
+use Rattle.schema.proofs.Groups.{filter-here, filter-over, counted}
 use Rattle.schema.proofs.implementers.count_kind.Statement.{statement}
 use Rattle.schema.proofs.implementers.count_kind.Tie as tie
 use borrow.Author.Needs.{needs}
@@ -18,7 +18,8 @@ abbrev Inv-loop : tie.InvT-loop
 Inv-loop text words pairs name kind count n₀ i₀ n i =
     (i ≤ count)
     × (n ≤ i)
-    × (length (keep (isPartNamed (storedParts text words) kind name) (lentRows pairs)) ≡ n + length (keep (isPartNamed (storedParts text words) kind name) (drop i (lentRows pairs))))
+    × (length (filter (isPartNamed (storedParts text words) kind name) (lentRows pairs))
+    ≡ n + length (filter (isPartNamed (storedParts text words) kind name) (drop i (lentRows pairs))))
 
 abbrev μ-loop : tie.MeasureT-loop
 μ-loop text words pairs name kind count n₀ i₀ n i = count - i
@@ -59,7 +60,8 @@ loop-less c = search needs
 loop-again : tie.Need-loop-again Inv-loop μ-loop
 loop-again c =
     let e = c .before .before .before .before .before .before .before .before .before .before .args in
-    let k = keep-over (isPartNamed (storedParts (e .text .now) (e .words .now)) (e .kind) (e .name .now)) (e .pairs .now) (c .before .before .before .before .before .loop .i) (c .before .before .before .before .loop-test .taken)
+    let k = filter-over (isPartNamed (storedParts (e .text .now) (e .words .now)) (e .kind) (e .name .now)) (e .pairs .now)
+    (c .before .before .before .before .before .loop .i) (c .before .before .before .before .loop-test .taken)
     (sym (part-any _ _ _ _ _ _ _) ∙ sym (c .before .is-part-named .ensures) ∙ not-true _ (c .if1 .taken)) in
     (omega arith, omega arith, c .before .before .before .before .before .loop .inv .2 ∙ (let l = ap length k in omega arith))
 
@@ -75,7 +77,8 @@ loop-less-2 c = search needs
 loop-again-2 : tie.Need-loop-again-2 Inv-loop μ-loop
 loop-again-2 c =
     let e = c .before .before .before .before .before .before .before .before .before .before .args in
-    let k = keep-here (isPartNamed (storedParts (e .text .now) (e .words .now)) (e .kind) (e .name .now)) (e .pairs .now) (c .before .before .before .before .before .loop .i) (c .before .before .before .before .loop-test .taken)
+    let k = filter-here (isPartNamed (storedParts (e .text .now) (e .words .now)) (e .kind) (e .name .now)) (e .pairs .now)
+    (c .before .before .before .before .before .loop .i) (c .before .before .before .before .loop-test .taken)
     (sym (part-any _ _ _ _ _ _ _) ∙ sym (c .before .is-part-named .ensures) ∙ not-false _ (c .if1 .left)) in
     (omega arith, omega arith, c .before .before .before .before .before .loop .inv .2 ∙ (let l = ap length k in omega arith))
 

@@ -4,7 +4,7 @@ use Prim.Native.Nat.{ℕ}
 use native.Mathlib.Nat.{sub-zero}
 use native.Mathlib.Omega.{arith}
 use lib.ListN.{take}
-use Rattle.schema.proofs.ImplementersAll.{pairs-fit, lent-fits, lent-room, lent-groups}
+use Rattle.schema.proofs.AllGroups.{pairs-fit, lent-fits, lent-capacity, lent-groups}
 use Rattle.schema.proofs.implementers.implementers_map.Statement.{statement}
 use Rattle.schema.proofs.implementers.implementers_map.Tie as tie
 use borrow.Author.Needs.{needs}
@@ -25,14 +25,22 @@ part-write-groups-end : tie.Need-part-write-groups-end
 part-write-groups-end c =
     let e = c .before .before .before .before .before .before .before .before .args in
     let p = c .before .before .before .before .before .before .before .before .pre in
-    omega (arith, pairs-fit (e .text .now) (e .words .now) (e .rows .now) (p .0) (p .1), c .before .before .collect .ensures .0, c .before .before .collect .kept .1 .1 .1 .0)
+    omega (
+      arith,
+      pairs-fit (e .text .now) (e .words .now) (e .rows .now) (p .0) (p .1),
+      c .before .before .collect .ensures .0,
+      c .before .before .collect .kept .1 .1 .1 .0,
+    )
 
 write-groups-requires : tie.Need-write-groups-requires
 write-groups-requires c κs =
     let p = c .before .before .before .before .before .before .before .before .before .before .pre in
     let r = c .before .before .before .before .collect in
-    let l = ap (λ (k : ℕ). take k (r .last .1 .1 .1 .0)) (sub-zero (r .result)) in
-    (lent-fits _ _ _ (p .0) (p .1) _ _ _ _ (r .ensures .0) (r .ensures .1) l, lent-room _ _ _ (p .0) (p .1) _ _ _ _ (r .ensures .0) (r .ensures .1) l (c .before .before .before .before .before .before .before .before .before .before .args .list .now) (p .2))
+    let l = ap (λ (k : ℕ). take k (r .last .1 .1 .1 .0)) (sub-zero (r .result)) in (
+      lent-fits _ _ _ (p .0) (p .1) _ _ _ _ (r .ensures .0) (r .ensures .1) l,
+      lent-capacity _ _ _ (p .0) (p .1) _ _ _ _ (r .ensures .0) (r .ensures .1) l
+          (c .before .before .before .before .before .before .before .before .before .before .args .list .now) (p .2),
+    )
 
 same-length : tie.Need-same-length
 same-length c = search needs
@@ -42,7 +50,8 @@ returns c =
     let p = c .before .before .before .before .before .before .before .before .before .before .before .before .before .pre in
     let r = c .before .before .before .before .before .before .before .collect in
     let l = ap (λ (k : ℕ). take k (r .last .1 .1 .1 .0)) (sub-zero (r .result)) in
-    lent-groups _ _ _ (p .0) (p .1) _ _ _ _ (r .ensures .0) (r .ensures .1) l _ _ _ (c .before .before .write-groups .ensures .0) (c .before .before .write-groups .ensures .1)
+    lent-groups _ _ _ (p .0) (p .1) _ _ _ _ (r .ensures .0) (r .ensures .1) l _ _ _ (c .before .before .write-groups .ensures .0)
+    (c .before .before .write-groups .ensures .1)
 
 pub implementers-map-spec : {M : Type 1} → statement M
 implementers-map-spec =

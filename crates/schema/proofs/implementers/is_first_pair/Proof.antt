@@ -35,10 +35,14 @@ enum-told : tie.Need-enum-told
 enum-told c = search needs
 
 returns : tie.Need-returns
-returns c = pair-none _ _ _ _ _ (c .before .before .before .card-name .ensures) (c .before .before .before .before .before .before .before .before .pre) (sym (c .before .before .find-interface .ensures) ∙ c .enum-told .given .1)
+returns c =
+    pair-none _ _ _ _ _ (c .before .before .before .card-name .ensures) (c .before .before .before .before .before .before .before .before .pre)
+    (sym (c .before .before .find-interface .ensures) ∙ c .enum-told .given .1)
 
 returns-2 : tie.Need-returns-2
-returns-2 c = pair-some _ _ _ _ _ (c .before .before .before .before .card-name .ensures) (c .before .before .before .before .before .before .before .before .before .pre) _ (sym (c .before .before .before .find-interface .ensures) ∙ c .before .first .given .1)
+returns-2 c =
+    pair-some _ _ _ _ _ (c .before .before .before .before .card-name .ensures) (c .before .before .before .before .before .before .before .before .before .pre)
+    _ (sym (c .before .before .before .find-interface .ensures) ∙ c .before .first .given .1)
 
 pub is-first-pair-spec : {M : Type 1} → statement M
 is-first-pair-spec =

@@ -8,9 +8,9 @@ use lib.ListN.{take, drop}
 use Rattle.definition.specs.LentRows.{lentRows}
 use Rattle.store_reader.specs.Stored.{storedParts}
 use Rattle.schema_rows.proofs.Rows.{row-named}
-use Rattle.schema_rows.proofs.Listing.{Listing, listing-push, listing-same, listing-room}
+use Rattle.schema_rows.proofs.Listing.{Listing, listing-push, listing-same, listing-capacity}
 use Rattle.schema.specs.Groups.{implementersNamed}
-use Rattle.schema.proofs.Groups.{from-start, from-room, from-done, implementers-end, implementers-here, implementers-over}
+use Rattle.schema.proofs.Groups.{from-start, from-capacity, from-done, implementers-end, implementers-here, implementers-over}
 use Rattle.schema.proofs.implementers.push_implementers.Statement.{statement}
 use Rattle.schema.proofs.implementers.push_implementers.Tie as tie
 use borrow.Author.Needs.{needs}
@@ -52,7 +52,8 @@ loop-again : tie.Need-loop-again Inv-loop μ-loop
 loop-again c = (
   omega arith,
   listing-same _ _ _ _ _ _ (c .before .before .before .before .loop .inv .1)
-      (implementers-over _ _ _ _ (c .before .before .before .loop-test .taken) (row-named _ _ _ _ _ _ ∙ sym (c .before .is-named .ensures) ∙ not-true _ (c .if1 .taken))),
+      (implementers-over _ _ _ _ (c .before .before .before .loop-test .taken)
+      (row-named _ _ _ _ _ _ ∙ sym (c .before .is-named .ensures) ∙ not-true _ (c .if1 .taken))),
 )
 
 mul-list : tie.Need-mul-list Inv-loop μ-loop
@@ -72,9 +73,10 @@ mul-list-3 c = search needs
 
 slice-write-list : tie.Need-slice-write-list Inv-loop μ-loop
 slice-write-list c =
-    listing-room _ _ _ _ _ (c .before .before .before .before .before .loop .inv .1) _ _
-    (implementers-here _ _ _ _ (c .before .before .before .before .loop-test .taken) (row-named _ _ _ _ _ _ ∙ sym (c .before .before .is-named .ensures) ∙ not-false _ (c .before .if1 .left)))
-    (from-room _ _ _ (c .before .before .before .before .before .before .before .before .before .before .before .pre))
+    listing-capacity _ _ _ _ _ (c .before .before .before .before .before .loop .inv .1) _ _
+    (implementers-here _ _ _ _ (c .before .before .before .before .loop-test .taken)
+    (row-named _ _ _ _ _ _ ∙ sym (c .before .before .is-named .ensures) ∙ not-false _ (c .before .if1 .left)))
+    (from-capacity _ _ _ (c .before .before .before .before .before .before .before .before .before .before .before .pre))
 
 add-n : tie.Need-add-n Inv-loop μ-loop
 add-n c = search needs
@@ -88,15 +90,20 @@ loop-less-2 c = search needs
 loop-again-2 : tie.Need-loop-again-2 Inv-loop μ-loop
 loop-again-2 c = (
   omega arith,
-  (let e = implementers-here _ _ _ _ (c .before .before .before .before .loop-test .taken) (row-named _ _ _ _ _ _ ∙ sym (c .before .before .is-named .ensures) ∙ not-false _ (c .before .if1 .left)) in
-      listing-push _ _ _ _ _ _ (listing-same _ _ _ _ _ _ (c .before .before .before .before .before .loop .inv .1) e) (listing-room _ _ _ _ _ (c .before .before .before .before .before .loop .inv .1) _ _ e (from-room _ _ _ (c .before .before .before .before .before .before .before .before .before .before .before .pre)))),
+  (let e = implementers-here _ _ _ _ (c .before .before .before .before .loop-test .taken)
+      (row-named _ _ _ _ _ _ ∙ sym (c .before .before .is-named .ensures) ∙ not-false _ (c .before .if1 .left)) in
+      listing-push _ _ _ _ _ _ (listing-same _ _ _ _ _ _ (c .before .before .before .before .before .loop .inv .1) e)
+      (listing-capacity _ _ _ _ _ (c .before .before .before .before .before .loop .inv .1) _ _ e
+      (from-capacity _ _ _ (c .before .before .before .before .before .before .before .before .before .before .before .pre)))),
 )
 
 same-length : tie.Need-same-length Inv-loop μ-loop
 same-length c = c .before .loop .inv .1 .kept
 
 returns : tie.Need-returns Inv-loop μ-loop
-returns c = from-done _ _ _ _ _ _ (c .before .before .before .before .before .before .before .pre) (c .before .loop .inv .1) (implementers-end _ _ _ _ (c .loop-test .left))
+returns c =
+    from-done _ _ _ _ _ _ (c .before .before .before .before .before .before .before .pre) (c .before .loop .inv .1)
+    (implementers-end _ _ _ _ (c .loop-test .left))
 
 pub push-implementers-spec : {M : Type 1} → statement M
 push-implementers-spec =

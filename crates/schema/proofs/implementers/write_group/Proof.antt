@@ -1,7 +1,7 @@
 -- Three words, then the types.
 use Prim.Native.Nat.{_+_, _*_}
 use native.Mathlib.Omega.{arith}
-use Rattle.schema.proofs.Groups.{group-words, group-room, types-room, group-done}
+use Rattle.schema.proofs.Groups.{group-words, group-capacity, types-capacity, group-done}
 use Rattle.schema.proofs.implementers.write_group.Statement.{statement}
 use Rattle.schema.proofs.implementers.write_group.Tie as tie
 use borrow.Author.Needs.{needs}
@@ -33,12 +33,18 @@ count-kind-requires-2 c κs = c .before .before .before .before .before .before 
 put-words-requires : tie.Need-put-words-requires
 put-words-requires c κs =
     let e = c .before .before .before .before .before .before .before .before .before .args in
-    group-room (e .list .now) (e .start) _ _ _ _ _ (group-words (e .text .now) (e .words .now) (e .pairs .now) (e .i) _ (c .before .before .before .card-name .ensures) _ _ (c .before .before .count-kind .ensures) (c .before .count-kind2 .ensures)) (c .before .before .before .before .before .before .before .before .before .pre .2)
+    group-capacity (e .list .now) (e .start) _ _ _ _ _
+    (group-words (e .text .now) (e .words .now) (e .pairs .now) (e .i) _ (c .before .before .before .card-name .ensures) _ _
+    (c .before .before .count-kind .ensures) (c .before .count-kind2 .ensures))
+    (c .before .before .before .before .before .before .before .before .before .pre .2)
 
 push-implementers-requires : tie.Need-push-implementers-requires
 push-implementers-requires c κs =
     let e = c .before .before .before .before .before .before .before .before .before .before .before .before .before .args in
-    types-room (e .list .now) (e .start) _ _ _ _ _ (group-words (e .text .now) (e .words .now) (e .pairs .now) (e .i) _ (c .before .before .before .before .before .before .before .card-name .ensures) _ _ (c .before .before .before .before .before .before .count-kind .ensures) (c .before .before .before .before .before .count-kind2 .ensures)) (c .before .before .before .before .before .before .before .before .before .before .before .before .before .pre .2) _ _
+    types-capacity (e .list .now) (e .start) _ _ _ _ _
+    (group-words (e .text .now) (e .words .now) (e .pairs .now) (e .i) _ (c .before .before .before .before .before .before .before .card-name .ensures) _ _
+    (c .before .before .before .before .before .before .count-kind .ensures) (c .before .before .before .before .before .count-kind2 .ensures))
+    (c .before .before .before .before .before .before .before .before .before .before .before .before .before .pre .2) _ _
     (c .before .before .before .put-words .ensures .0) (c .before .before .before .put-words .ensures .1)
 
 same-length : tie.Need-same-length
@@ -47,8 +53,14 @@ same-length c = search needs
 returns : tie.Need-returns
 returns c =
     let e = c .before .before .before .before .before .before .before .before .before .before .before .before .before .before .before .before .args in
-    group-done (e .list .now) (e .start) _ _ _ _ _ (group-words (e .text .now) (e .words .now) (e .pairs .now) (e .i) _ (c .before .before .before .before .before .before .before .before .before .before .card-name .ensures) _ _ (c .before .before .before .before .before .before .before .before .before .count-kind .ensures) (c .before .before .before .before .before .before .before .before .count-kind2 .ensures)) (c .before .before .before .before .before .before .before .before .before .before .before .before .before .before .before .before .pre .2) _ _
-    (c .before .before .before .before .before .before .put-words .ensures .0) (c .before .before .before .before .before .before .put-words .ensures .1) _ _ (c .before .before .push-implementers .ensures .0) (c .before .before .push-implementers .ensures .1)
+    group-done (e .list .now) (e .start) _ _ _ _ _
+    (group-words (e .text .now) (e .words .now) (e .pairs .now) (e .i) _
+    (c .before .before .before .before .before .before .before .before .before .before .card-name .ensures) _ _
+    (c .before .before .before .before .before .before .before .before .before .count-kind .ensures)
+    (c .before .before .before .before .before .before .before .before .count-kind2 .ensures))
+    (c .before .before .before .before .before .before .before .before .before .before .before .before .before .before .before .before .pre .2) _ _
+    (c .before .before .before .before .before .before .put-words .ensures .0) (c .before .before .before .before .before .before .put-words .ensures .1) _ _
+    (c .before .before .push-implementers .ensures .0) (c .before .before .push-implementers .ensures .1)
 
 pub write-group-spec : {M : Type 1} → statement M
 write-group-spec =

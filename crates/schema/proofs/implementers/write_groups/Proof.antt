@@ -12,8 +12,8 @@ use Rattle.schema_rows.specs.Rows.{rowAt}
 use Rattle.schema_rows.proofs.Listing.{Listing, listing-start, listing-same, listing-done}
 use Rattle.schema.specs.Gather.{news}
 use Rattle.schema.specs.Groups.{pairGroup, pairGroups}
-use Rattle.schema.proofs.Groups.{part-room, part-written}
-use Rattle.schema.proofs.ImplementersAll.{groupsLeft, countLeft, left-start, left-end, left-over, left-here}
+use Rattle.schema.proofs.Groups.{part-capacity, part-written}
+use Rattle.schema.proofs.AllGroups.{groupsLeft, countLeft, left-start, left-end, left-over, left-here}
 use Rattle.schema.proofs.implementers.write_groups.Statement.{statement}
 use Rattle.schema.proofs.implementers.write_groups.Tie as tie
 use borrow.Author.Needs.{needs}
@@ -46,15 +46,27 @@ loop-less c = search needs
 loop-again : tie.Need-loop-again Inv-loop μ-loop
 loop-again c =
     let e = c .before .before .before .before .before .before .before .before .args in
-    let s = left-over (storedParts (e .text .now) (e .words .now)) (e .pairs .now) (c .before .before .before .loop .i) (c .before .before .loop-test .taken) (sym (not-true _ (c .if1 .taken)) ∙ c .before .is-first-pair .ensures) in
-    (omega arith, omega arith, (let k = s .1 in let j = c .before .before .before .loop .inv .2 in omega arith), listing-same _ _ _ _ _ _ (c .before .before .before .loop .inv .3) (s .0))
+    let s = left-over (storedParts (e .text .now) (e .words .now)) (e .pairs .now) (c .before .before .before .loop .i) (c .before .before .loop-test .taken)
+    (sym (not-true _ (c .if1 .taken)) ∙ c .before .is-first-pair .ensures) in (
+      omega arith,
+      omega arith,
+      (let k = s .1 in let j = c .before .before .before .loop .inv .2 in omega arith),
+      listing-same _ _ _ _ _ _ (c .before .before .before .loop .inv .3) (s .0),
+    )
 
 write-group-requires : tie.Need-write-group-requires Inv-loop μ-loop
 write-group-requires c κs =
     let e = c .before .before .before .before .before .before .before .before .before .args in
-    let s = left-here (storedParts (e .text .now) (e .words .now)) (e .pairs .now) (c .before .before .before .before .loop .i) (c .before .before .before .loop-test .taken) (sym (not-false _ (c .before .if1 .left)) ∙ c .before .before .is-first-pair .ensures) in
-    let cs = storedParts (e .text .now) (e .words .now) in
-    (c .before .before .before .loop-test .taken, c .before .before .before .before .before .before .before .before .before .pre .0, part-room _ _ _ (pairGroup cs (lentRows (e .pairs .now)) (rowAt (e .pairs .now) (c .before .before .before .before .loop .i))) (groupsLeft cs (e .pairs .now) (c .before .before .before .before .loop .i + 1)) _ (listing-same _ _ _ _ _ _ (c .before .before .before .before .loop .inv .3) (s .0)) (c .before .before .before .before .before .before .before .before .before .pre .1))
+    let s = left-here (storedParts (e .text .now) (e .words .now)) (e .pairs .now) (c .before .before .before .before .loop .i)
+    (c .before .before .before .loop-test .taken) (sym (not-false _ (c .before .if1 .left)) ∙ c .before .before .is-first-pair .ensures) in
+    let cs = storedParts (e .text .now) (e .words .now) in (
+      c .before .before .before .loop-test .taken,
+      c .before .before .before .before .before .before .before .before .before .pre .0,
+      part-capacity _ _ _ (pairGroup cs (lentRows (e .pairs .now)) (rowAt (e .pairs .now) (c .before .before .before .before .loop .i)))
+          (groupsLeft cs (e .pairs .now) (c .before .before .before .before .loop .i + 1)) _
+          (listing-same _ _ _ _ _ _ (c .before .before .before .before .loop .inv .3) (s .0))
+          (c .before .before .before .before .before .before .before .before .before .pre .1),
+    )
 
 add-groups : tie.Need-add-groups Inv-loop μ-loop
 add-groups c = search needs
@@ -68,11 +80,15 @@ loop-less-2 c = search needs
 loop-again-2 : tie.Need-loop-again-2 Inv-loop μ-loop
 loop-again-2 c =
     let e = c .before .before .before .before .before .before .before .before .before .before .before .before .args in
-    let s = left-here (storedParts (e .text .now) (e .words .now)) (e .pairs .now) (c .before .before .before .before .before .before .before .loop .i) (c .before .before .before .before .before .before .loop-test .taken) (sym (not-false _ (c .before .before .before .before .if1 .left)) ∙ c .before .before .before .before .before .is-first-pair .ensures) in (
+    let s = left-here (storedParts (e .text .now) (e .words .now)) (e .pairs .now) (c .before .before .before .before .before .before .before .loop .i)
+    (c .before .before .before .before .before .before .loop-test .taken)
+    (sym (not-false _ (c .before .before .before .before .if1 .left)) ∙ c .before .before .before .before .before .is-first-pair .ensures) in (
       omega arith,
       omega arith,
       (let k = s .1 in let j = c .before .before .before .before .before .before .before .loop .inv .2 in omega arith),
-      part-written _ _ _ _ _ _ (listing-same _ _ _ _ _ _ (c .before .before .before .before .before .before .before .loop .inv .3) (s .0)) (c .before .before .before .before .before .before .before .before .before .before .before .before .pre .1) _ _ (c .before .before .write-group .ensures .0) (c .before .before .write-group .ensures .1),
+      part-written _ _ _ _ _ _ (listing-same _ _ _ _ _ _ (c .before .before .before .before .before .before .before .loop .inv .3) (s .0))
+          (c .before .before .before .before .before .before .before .before .before .before .before .before .pre .1) _ _
+          (c .before .before .write-group .ensures .0) (c .before .before .write-group .ensures .1),
     )
 
 same-length : tie.Need-same-length Inv-loop μ-loop

@@ -15,16 +15,24 @@ returns : tie.Need-returns
 returns c = explicit-none _ _ _ (c .enum-told .given .1)
 
 mul-t5 : tie.Need-mul-t5
-mul-t5 c = let e = c .before .before .before .args in omega (arith, explicit-inside (e .rows .now) (e .part) 0 _ (c .before .part .given .1) (c .before .before .before .pre))
+mul-t5 c =
+    let e = c .before .before .before .args in
+    omega (arith, explicit-inside (e .rows .now) (e .part) 0 _ (c .before .part .given .1) (c .before .before .before .pre))
 
 add-t6 : tie.Need-add-t6
-add-t6 c = let e = c .before .before .before .args in omega (arith, explicit-inside (e .rows .now) (e .part) 0 _ (c .before .part .given .1) (c .before .before .before .pre))
+add-t6 c =
+    let e = c .before .before .before .args in
+    omega (arith, explicit-inside (e .rows .now) (e .part) 0 _ (c .before .part .given .1) (c .before .before .before .pre))
 
 mul-t7 : tie.Need-mul-t7
-mul-t7 c = let e = c .before .before .before .args in omega (arith, explicit-inside (e .rows .now) (e .part) 0 _ (c .before .part .given .1) (c .before .before .before .pre))
+mul-t7 c =
+    let e = c .before .before .before .args in
+    omega (arith, explicit-inside (e .rows .now) (e .part) 0 _ (c .before .part .given .1) (c .before .before .before .pre))
 
 shared-slice-read-t9 : tie.Need-shared-slice-read-t9
-shared-slice-read-t9 c = let e = c .before .before .before .before .args in omega (arith, explicit-inside (e .rows .now) (e .part) 0 _ (c .before .before .part .given .1) (c .before .before .before .before .pre))
+shared-slice-read-t9 c =
+    let e = c .before .before .before .before .args in
+    omega (arith, explicit-inside (e .rows .now) (e .part) 0 _ (c .before .before .part .given .1) (c .before .before .before .before .pre))
 
 returns-2 : tie.Need-returns-2
 returns-2 c = explicit-some _ _ _ _ (c .before .before .part .given .1)

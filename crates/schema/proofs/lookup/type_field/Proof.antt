@@ -13,7 +13,8 @@ use borrow.Author.Needs.{needs}
 owned : (c : tie.After-owner) → c .owner .given .0 .0 < length (now (c .before .before .before .before .before .before .before .before .args .rows)) / 3
 owned c =
     let e = c .before .before .before .before .before .before .before .before .args in
-    field-type-inside (e .text .now) (e .words .now) (e .rows .now) (e .type-name .now) (e .field .now) (c .before .before .before .before .before .before .before .before .pre) _ (c .before .before .find-part .ensures) _ (c .owner .given .1)
+    field-type-inside (e .text .now) (e .words .now) (e .rows .now) (e .type-name .now) (e .field .now)
+    (c .before .before .before .before .before .before .before .before .pre) _ (c .before .before .find-part .ensures) _ (c .owner .given .1)
 
 find-part-requires : tie.Need-find-part-requires
 find-part-requires c κs = search needs
@@ -25,7 +26,9 @@ enum-told : tie.Need-enum-told
 enum-told c = search needs
 
 returns : tie.Need-returns
-returns c = field-no-type _ _ _ _ _ (c .before .before .before .before .before .before .before .before .pre) _ (c .before .before .find-part .ensures) (c .enum-told .given .1)
+returns c =
+    field-no-type _ _ _ _ _ (c .before .before .before .before .before .before .before .before .pre) _ (c .before .before .find-part .ensures)
+    (c .enum-told .given .1)
 
 mul-card : tie.Need-mul-card
 mul-card c = omega (arith, owned (c .before))
@@ -42,16 +45,18 @@ shared-slice-read-card c = omega (arith, owned (c .before .before))
 explicit-field-requires : tie.Need-explicit-field-requires
 explicit-field-requires c κs =
     let e = c .before .before .before .before .before .before .before .before .before .before .args in
-    part-inside (e .text .now) (e .words .now) (e .rows .now) (e .type-name .now) (e .field .now) (c .before .before .before .before .before .before .before .before .before .before .pre) _ (c .before .before .before .before .find-part .ensures) _ (c .before .before .owner .given .1)
+    part-inside (e .text .now) (e .words .now) (e .rows .now) (e .type-name .now) (e .field .now)
+    (c .before .before .before .before .before .before .before .before .before .before .pre) _ (c .before .before .before .before .find-part .ensures) _
+    (c .before .before .owner .given .1)
 
-mul-meta-field : tie.Need-mul-meta-field
-mul-meta-field c = omega (arith, owned (c .before .before .before))
+mul-what : tie.Need-mul-what
+mul-what c = omega (arith, owned (c .before .before .before))
 
-mul-meta-field-2 : tie.Need-mul-meta-field-2
-mul-meta-field-2 c = omega (arith, owned (c .before .before .before))
+mul-what-2 : tie.Need-mul-what-2
+mul-what-2 c = omega (arith, owned (c .before .before .before))
 
-shared-slice-read-meta-field : tie.Need-shared-slice-read-meta-field
-shared-slice-read-meta-field c = omega (arith, owned (c .before .before .before .before))
+shared-slice-read-what : tie.Need-shared-slice-read-what
+shared-slice-read-what c = omega (arith, owned (c .before .before .before .before))
 
 meta-field-requires : tie.Need-meta-field-requires
 meta-field-requires c κs = search needs
@@ -63,7 +68,9 @@ returns-2 : tie.Need-returns-2
 returns-2 c =
     c .first-found .ensures
     ∙ (λ j. firstFound (c .before .before .before .explicit-field .ensures j) (c .before .meta-field .ensures j))
-    ∙ field-answer _ _ _ _ _ (c .before .before .before .before .before .before .before .before .before .before .before .before .before .before .pre) _ (c .before .before .before .before .before .before .before .before .find-part .ensures) _ (c .before .before .before .before .before .before .owner .given .1)
+    ∙ field-answer _ _ _ _ _ (c .before .before .before .before .before .before .before .before .before .before .before .before .before .before .pre) _
+    (c .before .before .before .before .before .before .before .before .find-part .ensures) _
+    (c .before .before .before .before .before .before .owner .given .1)
 
 pub type-field-spec : {M : Type 1} → statement M
 type-field-spec =
@@ -78,9 +85,9 @@ type-field-spec =
     mul-card-2
     shared-slice-read-card
     explicit-field-requires
-    mul-meta-field
-    mul-meta-field-2
-    shared-slice-read-meta-field
+    mul-what
+    mul-what-2
+    shared-slice-read-what
     meta-field-requires
     first-found-requires
     returns-2)

@@ -32,7 +32,9 @@ mul-list : tie.Need-mul-list
 mul-list c = search needs
 
 slice-write-list : tie.Need-slice-write-list
-slice-write-list c = c .before .before .before .before .before .before .pre .1 (new-fresh _ _ (c .before .before .before .before .if1 .left) (sym (simp sub-zero at (c .before .contains .ensures)) ∙ c .if2 .left))
+slice-write-list c =
+    c .before .before .before .before .before .before .pre .1
+    (new-fresh _ _ (c .before .before .before .before .if1 .left) (sym (simp sub-zero at (c .before .contains .ensures)) ∙ c .if2 .left))
 
 add-result : tie.Need-add-result
 add-result c = search needs
@@ -41,7 +43,9 @@ same-length-2 : tie.Need-same-length-2
 same-length-2 c = simp length-set
 
 returns-3 : tie.Need-returns-3
-returns-3 c = extension-added _ _ (c .before .before .before .before .before .before .args .list .now) _ (new-fresh _ _ (c .before .before .before .before .if1 .left) (sym (simp sub-zero at (c .before .contains .ensures)) ∙ c .if2 .left))
+returns-3 c =
+    extension-added _ _ (c .before .before .before .before .before .before .args .list .now) _
+    (new-fresh _ _ (c .before .before .before .before .if1 .left) (sym (simp sub-zero at (c .before .contains .ensures)) ∙ c .if2 .left))
 
 pub add-extension-spec : {M : Type 1} → statement M
 add-extension-spec =

@@ -5,7 +5,7 @@ use native.Mathlib.Omega.{arith}
 use lib.ListN.{length, drop}
 use Rattle.definition.specs.LentRows.{lentRows}
 use Rattle.definition.specs.Lookups.{originList}
-use Rattle.schema_rows.proofs.Listing.{Listing, listing-start, listing-push, listing-done, listing-same, listing-room}
+use Rattle.schema_rows.proofs.Listing.{Listing, listing-start, listing-push, listing-done, listing-same, listing-capacity}
 use Rattle.schema.proofs.OriginsLaws.{origins-none, next-after, next-inside, origins-next}
 use Rattle.schema.proofs.origins.iter_origins.Statement.{statement}
 use Rattle.schema.proofs.origins.iter_origins.Tie as tie
@@ -18,7 +18,8 @@ abbrev μ-loop : tie.MeasureT-loop
 μ-loop rows list₀ n₀ i₀ list n i = length rows / 3 - i
 
 -- The part that was found is one of the rows that are left.
-inside : (c : tie.After-k Inv-loop μ-loop) → (c .before .before .before .loop .i ≤ c .k .given .0 .0) × (c .k .given .0 .0 < length (c .before .before .before .before .before .before .args .rows .now) / 3)
+inside : (c : tie.After-k Inv-loop μ-loop) → (c .before .before .before .loop .i ≤ c .k .given .0 .0)
+    × (c .k .given .0 .0 < length (c .before .before .before .before .before .before .args .rows .now) / 3)
 inside c = let f = sym (c .before .before .next-part .ensures) ∙ c .k .given .1 in (next-after _ _ _ f, next-inside _ _ _ f)
 
 loop-holds : tie.Need-loop-holds Inv-loop μ-loop
@@ -37,7 +38,8 @@ same-length : tie.Need-same-length Inv-loop μ-loop
 same-length c = c .before .before .before .loop .inv .kept
 
 returns : tie.Need-returns Inv-loop μ-loop
-returns c = listing-done _ _ _ _ _ (c .before .before .before .loop .inv) (origins-none _ _ (sym (c .before .before .next-part .ensures) ∙ c .enum-told .given .1))
+returns c =
+    listing-done _ _ _ _ _ (c .before .before .before .loop .inv) (origins-none _ _ (sym (c .before .before .next-part .ensures) ∙ c .enum-told .given .1))
 
 mul-list : tie.Need-mul-list Inv-loop μ-loop
 mul-list c = let h = inside (c .before) in omega (arith, h .0, h .1)
@@ -55,7 +57,10 @@ mul-list-3 : tie.Need-mul-list-3 Inv-loop μ-loop
 mul-list-3 c = search needs
 
 slice-write-list : tie.Need-slice-write-list Inv-loop μ-loop
-slice-write-list c = listing-room _ _ _ _ _ (c .before .before .before .before .before .loop .inv) _ _ (origins-next _ _ _ (sym (c .before .before .before .before .next-part .ensures) ∙ c .before .before .k .given .1)) (c .before .before .before .before .before .before .before .before .pre)
+slice-write-list c =
+    listing-capacity _ _ _ _ _ (c .before .before .before .before .before .loop .inv) _ _
+    (origins-next _ _ _ (sym (c .before .before .before .before .next-part .ensures) ∙ c .before .before .k .given .1))
+    (c .before .before .before .before .before .before .before .before .pre)
 
 add-n : tie.Need-add-n Inv-loop μ-loop
 add-n c = search needs
@@ -69,7 +74,9 @@ loop-less c = let h = inside (c .before .before) in omega (arith, h .0, h .1)
 loop-again : tie.Need-loop-again Inv-loop μ-loop
 loop-again c =
     let e = origins-next _ _ _ (sym (c .before .before .before .before .next-part .ensures) ∙ c .before .before .k .given .1) in
-    listing-push _ _ _ _ _ _ (listing-same _ _ _ _ _ _ (c .before .before .before .before .before .loop .inv) e) (listing-room _ _ _ _ _ (c .before .before .before .before .before .loop .inv) _ _ e (c .before .before .before .before .before .before .before .before .pre))
+    listing-push _ _ _ _ _ _ (listing-same _ _ _ _ _ _ (c .before .before .before .before .before .loop .inv) e)
+    (listing-capacity _ _ _ _ _ (c .before .before .before .before .before .loop .inv) _ _ e
+    (c .before .before .before .before .before .before .before .before .pre))
 
 pub iter-origins-spec : {M : Type 1} → statement M
 iter-origins-spec =

@@ -1,11 +1,10 @@
 -- The loop's invariant: what is sought from the start on is what is sought from row i on.
 use mathlib.Core.Path.{_≡_, _∙_, sym, refl}
 use Prim.Native.Nat.{_-_}
-use native.Mathlib.Omega.{arith}
 use lib.ListN.{drop}
 use Rattle.definition.specs.LentRows.{lentRows}
 use Rattle.definition.specs.Lookups.{isSchemaPart}
-use Rattle.schema_rows.specs.SearchLaws.{partFrom}
+use Rattle.schema_rows.specs.Search.{partFrom}
 use Rattle.schema_rows.proofs.SearchLaws.{part-stop, part-hit, part-miss, part-end}
 use Rattle.schema.proofs.OriginsLaws.{schema-any}
 use Rattle.schema.proofs.origins.next_part.Statement.{statement}
@@ -34,7 +33,9 @@ is-type-requires : tie.Need-is-type-requires Inv-loop μ-loop
 is-type-requires c κs = search needs
 
 returns : tie.Need-returns Inv-loop μ-loop
-returns c = sym (c .before .before .before .before .loop .inv ∙ part-stop _ _ _ (c .before .before .before .loop-test .taken) (sym (c .before .is-type .ensures) ∙ c .if1 .taken))
+returns c =
+    sym (c .before .before .before .before .loop .inv
+    ∙ part-stop _ _ _ (c .before .before .before .loop-test .taken) (sym (c .before .is-type .ensures) ∙ c .if1 .taken))
 
 is-schema-part-requires : tie.Need-is-schema-part-requires Inv-loop μ-loop
 is-schema-part-requires c κs = search needs
@@ -42,7 +43,9 @@ is-schema-part-requires c κs = search needs
 returns-2 : tie.Need-returns-2 Inv-loop μ-loop
 returns-2 c =
     sym (c .before .before .before .before .before .before .loop .inv
-    ∙ part-hit _ _ _ (c .before .before .before .before .before .loop-test .taken) (sym (c .before .before .before .is-type .ensures) ∙ c .before .before .if1 .left) (sym (schema-any _ _ _) ∙ sym (c .before .is-schema-part .ensures) ∙ c .if2 .taken))
+    ∙ part-hit _ _ _ (c .before .before .before .before .before .loop-test .taken)
+    (sym (c .before .before .before .is-type .ensures) ∙ c .before .before .if1 .left)
+    (sym (schema-any _ _ _) ∙ sym (c .before .is-schema-part .ensures) ∙ c .if2 .taken))
 
 add-i : tie.Need-add-i Inv-loop μ-loop
 add-i c = search needs
@@ -53,7 +56,9 @@ loop-less c = search needs
 loop-again : tie.Need-loop-again Inv-loop μ-loop
 loop-again c =
     c .before .before .before .before .before .before .loop .inv
-    ∙ part-miss _ _ _ (c .before .before .before .before .before .loop-test .taken) (sym (c .before .before .before .is-type .ensures) ∙ c .before .before .if1 .left) (sym (schema-any _ _ _) ∙ sym (c .before .is-schema-part .ensures) ∙ c .if2 .left)
+    ∙ part-miss _ _ _ (c .before .before .before .before .before .loop-test .taken)
+    (sym (c .before .before .before .is-type .ensures) ∙ c .before .before .if1 .left)
+    (sym (schema-any _ _ _) ∙ sym (c .before .is-schema-part .ensures) ∙ c .if2 .left)
 
 returns-3 : tie.Need-returns-3 Inv-loop μ-loop
 returns-3 c = sym (c .before .loop .inv ∙ part-end _ _ _ (c .loop-test .left))

@@ -22,7 +22,8 @@ returns : tie.Need-returns
 returns c = query-none _ _ _ _ (root-none _ Query 26 refl (sym (c .before .before .find-row .ensures) ∙ c .enum-told .given .1))
 
 root-card-requires : tie.Need-root-card-requires
-root-card-requires c κs = let f = sym (c .before .before .before .find-row .ensures) ∙ c .before .i .given .1 in (root-inside _ Query 26 refl _ f, root-what _ Query 26 refl _ f)
+root-card-requires c κs =
+    let f = sym (c .before .before .before .find-row .ensures) ∙ c .before .i .given .1 in (root-inside _ Query 26 refl _ f, root-what _ Query 26 refl _ f)
 
 is-named-requires : tie.Need-is-named-requires
 is-named-requires c κs = search needs
@@ -32,7 +33,8 @@ returns-2 c =
     let e = c .before .before .before .before .before .before .before .before .before .before .args in
     c .is-named .ensures
     ∙ ap (λ (k : ℕ). sameName (e .name .now) (cardName (e .text .now) (e .words .now) k)) (c .before .root-card .ensures)
-    ∙ query-named _ _ _ _ _ (root-some _ Query 26 refl _ (sym (c .before .before .before .before .before .find-row .ensures) ∙ c .before .before .before .i .given .1))
+    ∙ query-named _ _ _ _ _ (root-some _ Query 26 refl _
+    (sym (c .before .before .before .before .before .find-row .ensures) ∙ c .before .before .before .i .given .1))
 
 pub is-query-root-spec : {M : Type 1} → statement M
 is-query-root-spec =

@@ -17,7 +17,9 @@ is-query-root-requires : tie.Need-is-query-root-requires
 is-query-root-requires c κs = search needs
 
 returns-2 : tie.Need-returns-2
-returns-2 c = meta-plain _ _ _ _ _ _ (sym (c .before .before .before .is-typename .ensures) ∙ c .before .before .if1 .left) (sym (c .before .is-query-root .ensures) ∙ not-true _ (c .if2 .taken))
+returns-2 c =
+    meta-plain _ _ _ _ _ _ (sym (c .before .before .before .is-typename .ensures) ∙ c .before .before .if1 .left)
+    (sym (c .before .is-query-root .ensures) ∙ not-true _ (c .if2 .taken))
 
 slice-aggregate-same-name : tie.Need-slice-aggregate-same-name
 slice-aggregate-same-name c = search needs
@@ -27,7 +29,11 @@ same-name-requires c κs = search needs
 
 returns-3 : tie.Need-returns-3
 unfolding bytes
-returns-3 c = meta-schema _ _ _ _ _ _ (sym (c .before .before .before .before .before .before .is-typename .ensures) ∙ c .before .before .before .before .before .if1 .left) (sym (c .before .before .before .before .is-query-root .ensures) ∙ not-false _ (c .before .before .before .if2 .left)) (sym (c .before .same-name .ensures) ∙ c .if3 .taken)
+returns-3 c =
+    meta-schema _ _ _ _ _ _ (sym (c .before .before .before .before .before .before .is-typename .ensures)
+    ∙ c .before .before .before .before .before .if1 .left)
+    (sym (c .before .before .before .before .is-query-root .ensures) ∙ not-false _ (c .before .before .before .if2 .left))
+    (sym (c .before .same-name .ensures) ∙ c .if3 .taken)
 
 slice-aggregate-same-name-2 : tie.Need-slice-aggregate-same-name-2
 slice-aggregate-same-name-2 c = search needs
@@ -37,11 +43,21 @@ same-name-requires-2 c κs = search needs
 
 returns-4 : tie.Need-returns-4
 unfolding bytes
-returns-4 c = meta-type _ _ _ _ _ _ (sym (c .before .before .before .before .before .before .before .before .before .is-typename .ensures) ∙ c .before .before .before .before .before .before .before .before .if1 .left) (sym (c .before .before .before .before .before .before .before .is-query-root .ensures) ∙ not-false _ (c .before .before .before .before .before .before .if2 .left)) (sym (c .before .before .before .before .same-name .ensures) ∙ c .before .before .before .if3 .left) (sym (c .before .same-name2 .ensures) ∙ c .if4 .taken)
+returns-4 c =
+    meta-type _ _ _ _ _ _ (sym (c .before .before .before .before .before .before .before .before .before .is-typename .ensures)
+    ∙ c .before .before .before .before .before .before .before .before .if1 .left)
+    (sym (c .before .before .before .before .before .before .before .is-query-root .ensures)
+    ∙ not-false _ (c .before .before .before .before .before .before .if2 .left))
+    (sym (c .before .before .before .before .same-name .ensures) ∙ c .before .before .before .if3 .left) (sym (c .before .same-name2 .ensures) ∙ c .if4 .taken)
 
 returns-5 : tie.Need-returns-5
 unfolding bytes
-returns-5 c = meta-none _ _ _ _ _ _ (sym (c .before .before .before .before .before .before .before .before .before .is-typename .ensures) ∙ c .before .before .before .before .before .before .before .before .if1 .left) (sym (c .before .before .before .before .before .before .before .is-query-root .ensures) ∙ not-false _ (c .before .before .before .before .before .before .if2 .left)) (sym (c .before .before .before .before .same-name .ensures) ∙ c .before .before .before .if3 .left) (sym (c .before .same-name2 .ensures) ∙ c .if4 .left)
+returns-5 c =
+    meta-none _ _ _ _ _ _ (sym (c .before .before .before .before .before .before .before .before .before .is-typename .ensures)
+    ∙ c .before .before .before .before .before .before .before .before .if1 .left)
+    (sym (c .before .before .before .before .before .before .before .is-query-root .ensures)
+    ∙ not-false _ (c .before .before .before .before .before .before .if2 .left))
+    (sym (c .before .before .before .before .same-name .ensures) ∙ c .before .before .before .if3 .left) (sym (c .before .same-name2 .ensures) ∙ c .if4 .left)
 
 pub meta-field-spec : {M : Type 1} → statement M
 meta-field-spec =

@@ -11,7 +11,12 @@ use Rattle.schema.proofs.roots.root_card.Tie as tie
 use borrow.Author.Needs.{needs}
 
 inside : (c : tie.After-t) → c .t .given .0 .0 < length (now (c .before .before .before .before .before .before .before .before .before .args .rows)) / 3
-inside c = default-inside (storedParts (c .before .before .before .before .before .before .before .before .before .args .text .now) (c .before .before .before .before .before .before .before .before .before .args .words .now)) (c .before .before .before .before .before .before .before .before .before .args .rows .now) (c .before .before .before .before .before .before .before .before .before .args .i) (c .before .before .before .before .if1 .left) _ (sym (c .before .before .find-default-root .ensures) ∙ c .t .given .1)
+inside c =
+    default-inside (storedParts (c .before .before .before .before .before .before .before .before .before .args .text .now)
+    (c .before .before .before .before .before .before .before .before .before .args .words .now))
+    (c .before .before .before .before .before .before .before .before .before .args .rows .now)
+    (c .before .before .before .before .before .before .before .before .before .args .i) (c .before .before .before .before .if1 .left) _
+    (sym (c .before .before .find-default-root .ensures) ∙ c .t .given .1)
 
 mul-card : tie.Need-mul-card
 mul-card c = search needs
@@ -62,7 +67,9 @@ shared-slice-read-result : tie.Need-shared-slice-read-result
 shared-slice-read-result c = omega (arith, inside (c .before .before))
 
 returns-3 : tie.Need-returns-3
-returns-3 c = card-object _ _ _ (c .before .before .before .before .before .before .if1 .left) _ (sym (c .before .before .before .before .find-default-root .ensures) ∙ c .before .before .t .given .1)
+returns-3 c =
+    card-object _ _ _ (c .before .before .before .before .before .before .if1 .left) _
+    (sym (c .before .before .before .before .find-default-root .ensures) ∙ c .before .before .t .given .1)
 
 pub root-card-spec : {M : Type 1} → statement M
 root-card-spec =

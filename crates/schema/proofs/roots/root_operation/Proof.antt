@@ -28,13 +28,19 @@ part-result-end : tie.Need-part-result-end
 part-result-end c = search needs
 
 returns : tie.Need-returns
-returns c = root-empty _ _ _ _ (c .before .before .before .before .before .before .before .before .pre .0) (c .before .before .before .before .before .before .before .before .pre .1) (root-none _ _ _ (c .before .before .before .before .root-kind .ensures) (sym (c .before .before .before .find-row .ensures) ∙ c .before .enum-told .given .1))
+returns c =
+    root-empty _ _ _ _ (c .before .before .before .before .before .before .before .before .pre .0)
+    (c .before .before .before .before .before .before .before .before .pre .1)
+    (root-none _ _ _ (c .before .before .before .before .root-kind .ensures)
+    (sym (c .before .before .before .find-row .ensures) ∙ c .before .enum-told .given .1))
 
 root-card-requires : tie.Need-root-card-requires
 root-card-requires c κs =
     let f = sym (c .before .before .before .find-row .ensures) ∙ c .before .i .given .1 in
-    let k = c .before .before .before .before .root-kind .ensures in
-    (root-inside _ (c .before .before .before .before .before .before .before .before .args .op) _ k _ f, root-what _ (c .before .before .before .before .before .before .before .before .args .op) _ k _ f)
+    let k = c .before .before .before .before .root-kind .ensures in (
+      root-inside _ (c .before .before .before .before .before .before .before .before .args .op) _ k _ f,
+      root-what _ (c .before .before .before .before .before .before .before .before .args .op) _ k _ f,
+    )
 
 cast-card-name : tie.Need-cast-card-name
 cast-card-name c = search needs
@@ -47,7 +53,10 @@ returns-2 c =
     let e = c .before .before .before .before .before .before .before .before .before .before .args in
     c .card-name .ensures
     ∙ ap (cardName (e .text .now) (e .words .now)) (c .before .root-card .ensures)
-    ∙ root-named _ _ _ _ (c .before .before .before .before .before .before .before .before .before .before .pre .0) (c .before .before .before .before .before .before .before .before .before .before .pre .1) _ (root-some _ _ _ (c .before .before .before .before .before .before .root-kind .ensures) _ (sym (c .before .before .before .before .before .find-row .ensures) ∙ c .before .before .before .i .given .1))
+    ∙ root-named _ _ _ _ (c .before .before .before .before .before .before .before .before .before .before .pre .0)
+    (c .before .before .before .before .before .before .before .before .before .before .pre .1) _
+    (root-some _ _ _ (c .before .before .before .before .before .before .root-kind .ensures) _
+    (sym (c .before .before .before .before .before .find-row .ensures) ∙ c .before .before .before .i .given .1))
 
 pub root-operation-spec : {M : Type 1} → statement M
 root-operation-spec =

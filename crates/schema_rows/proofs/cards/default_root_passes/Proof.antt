@@ -15,7 +15,8 @@ use borrow.Author.Needs.{needs}
 inside : (c : tie.After-t) → c .t .given .0 .0 < length (now (c .before .before .before .before .before .before .before .before .args .rows)) / 3
 inside c =
     let e = c .before .before .before .before .before .before .before .before .args in
-    root-inside (storedParts (e .text .now) (e .words .now)) (e .rows .now) (row (e .what) (e .card) (e .origin)) (sym (c .before .before .before .before .is-default-root .ensures) ∙ not-false _ (c .before .before .before .if1 .left)) _
+    root-inside (storedParts (e .text .now) (e .words .now)) (e .rows .now) (row (e .what) (e .card) (e .origin))
+    (sym (c .before .before .before .before .is-default-root .ensures) ∙ not-false _ (c .before .before .before .if1 .left)) _
     (sym (c .before .before .find-default-root .ensures) ∙ c .t .given .1)
 
 is-default-root-requires : tie.Need-is-default-root-requires
@@ -25,7 +26,9 @@ returns : tie.Need-returns
 returns c = root-plain _ _ _ (sym (c .before .is-default-root .ensures) ∙ not-true _ (c .if1 .taken))
 
 find-default-root-requires : tie.Need-find-default-root-requires
-find-default-root-requires c κs = default-root _ (c .before .before .before .before .before .args .card) (c .before .before .before .before .before .args .origin) (sym (c .before .is-default-root .ensures) ∙ not-false _ (c .if1 .left))
+find-default-root-requires c κs =
+    default-root _ (c .before .before .before .before .before .args .card) (c .before .before .before .before .before .args .origin)
+    (sym (c .before .is-default-root .ensures) ∙ not-false _ (c .if1 .left))
 
 enum-known-t : tie.Need-enum-known-t
 enum-known-t c = search needs
@@ -36,7 +39,8 @@ enum-told c = search needs
 returns-2 : tie.Need-returns-2
 returns-2 c =
     let e = c .before .before .before .before .before .before .before .before .args in
-    root-missing (storedParts (e .text .now) (e .words .now)) (e .rows .now) (row (e .what) (e .card) (e .origin)) (sym (c .before .before .before .before .is-default-root .ensures) ∙ not-false _ (c .before .before .before .if1 .left))
+    root-missing (storedParts (e .text .now) (e .words .now)) (e .rows .now) (row (e .what) (e .card) (e .origin))
+    (sym (c .before .before .before .before .is-default-root .ensures) ∙ not-false _ (c .before .before .before .if1 .left))
     (sym (c .before .before .find-default-root .ensures) ∙ c .enum-told .given .1)
 
 mul-result : tie.Need-mul-result
@@ -51,7 +55,8 @@ shared-slice-read-result c = omega (arith, inside (c .before .before))
 returns-3 : tie.Need-returns-3
 returns-3 c =
     let e = c .before .before .before .before .before .before .before .before .before .before .args in
-    root-object (storedParts (e .text .now) (e .words .now)) (e .rows .now) (row (e .what) (e .card) (e .origin)) (sym (c .before .before .before .before .before .before .is-default-root .ensures) ∙ not-false _ (c .before .before .before .before .before .if1 .left)) _
+    root-object (storedParts (e .text .now) (e .words .now)) (e .rows .now) (row (e .what) (e .card) (e .origin))
+    (sym (c .before .before .before .before .before .before .is-default-root .ensures) ∙ not-false _ (c .before .before .before .before .before .if1 .left)) _
     (sym (c .before .before .before .before .find-default-root .ensures) ∙ c .before .before .t .given .1)
 
 pub default-root-passes-spec : {M : Type 1} → statement M

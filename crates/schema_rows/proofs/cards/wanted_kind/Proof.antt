@@ -16,11 +16,14 @@ returns c = wanted-other _ _ _ (sym (c .before .is-type .ensures) ∙ not-true _
 returns-2 : tie.Need-returns-2
 returns-2 c = wanted-defined _ _ _ (sym (c .before .before .is-type .ensures) ∙ not-false _ (c .before .if1 .left)) (c .if2 .taken)
 
-add-result : tie.Need-add-result
-add-result c = omega (arith, type-most (c .before .before .before .args .what) (sym (c .before .before .is-type .ensures) ∙ not-false _ (c .before .if1 .left)))
+extension-of-requires : tie.Need-extension-of-requires
+extension-of-requires c κs =
+    omega (arith, type-most (c .before .before .before .args .what) (sym (c .before .before .is-type .ensures) ∙ not-false _ (c .before .if1 .left)))
 
 returns-3 : tie.Need-returns-3
-returns-3 c = wanted-adopted _ _ _ (sym (c .before .before .is-type .ensures) ∙ not-false _ (c .before .if1 .left)) (c .if2 .left)
+returns-3 c =
+    c .extension-of .ensures
+    ∙ wanted-adopted _ _ _ (sym (c .before .before .before .is-type .ensures) ∙ not-false _ (c .before .before .if1 .left)) (c .before .if2 .left)
 
 pub wanted-kind-spec : {M : Type 1} → statement M
-wanted-kind-spec = tie.close (tie.spec is-type-requires returns returns-2 add-result returns-3)
+wanted-kind-spec = tie.close (tie.spec is-type-requires returns returns-2 extension-of-requires returns-3)

@@ -33,7 +33,8 @@ find-type-requires-2 c κs = search needs
 
 returns-2 : tie.Need-returns-2
 unfolding bytes first
-returns-2 c = c .find-type2 .ensures ∙ ap (first (c .before .before .before .before .before .before .before)) (default-mutation _ (c .before .before .if2 .taken))
+returns-2 c =
+    c .find-type2 .ensures ∙ ap (first (c .before .before .before .before .before .before .before)) (default-mutation _ (c .before .before .if2 .taken))
 
 slice-aggregate-find-type-3 : tie.Need-slice-aggregate-find-type-3
 slice-aggregate-find-type-3 c = search needs
@@ -43,7 +44,10 @@ find-type-requires-3 c κs = search needs
 
 returns-3 : tie.Need-returns-3
 unfolding bytes first
-returns-3 c = c .find-type3 .ensures ∙ ap (first (c .before .before .before .before .before .before .before)) (default-subscription _ (c .before .before .before .before .before .before .before .pre) (c .before .before .before .if1 .left) (c .before .before .if2 .left))
+returns-3 c =
+    c .find-type3 .ensures ∙ ap (first (c .before .before .before .before .before .before .before))
+    (default-subscription _ (c .before .before .before .before .before .before .before .pre) (c .before .before .before .if1 .left)
+    (c .before .before .if2 .left))
 
 pub find-default-root-spec : {M : Type 1} → statement M
 find-default-root-spec =

@@ -8,7 +8,7 @@ use Rattle.definition.specs.Lookups.{isPartNamed}
 use Rattle.store_reader.specs.Stored.{storedParts}
 use Rattle.schema_rows.specs.declared.search.Found.the-variants.{Nothing}
 use Rattle.schema_rows.proofs.Rows.{type-any}
-use Rattle.schema_rows.specs.SearchLaws.{partFrom, locatedFrom}
+use Rattle.schema_rows.specs.Search.{partFrom, locatedFrom}
 use Rattle.schema_rows.proofs.SearchLaws.{part-any, part-stop, part-hit, part-miss, part-end, owner-hit, owner-miss, owner-end, located}
 use Rattle.schema_rows.proofs.search.find_part.Statement.{statement}
 use Rattle.schema_rows.proofs.search.find_part.Tie as tie
@@ -69,7 +69,9 @@ loop-holds : tie.Need-loop-holds Inv-loop μ-loop Inv-search μ-search
 loop-holds c = (
   omega arith,
   c .before .before .before .before .before .search .inv .2,
-  c .before .before .before .before .before .search .inv .3 ∙ owner-hit _ _ _ _ (c .before .before .before .before .search-test .taken) (sym (type-any _ _ _ _ _ _) ∙ sym (c .before .is-type-named .ensures) ∙ c .if1 .taken),
+  c .before .before .before .before .before .search .inv .3
+      ∙ owner-hit _ _ _ _ (c .before .before .before .before .search-test .taken)
+      (sym (type-any _ _ _ _ _ _) ∙ sym (c .before .is-type-named .ensures) ∙ c .if1 .taken),
 )
 
 mul-is-type : tie.Need-mul-is-type Inv-loop μ-loop Inv-search μ-search
@@ -118,7 +120,10 @@ loop-again : tie.Need-loop-again Inv-loop μ-loop Inv-search μ-search
 loop-again c = (
   omega arith,
   c .before .before .before .before .before .before .before .before .loop .inv .1,
-  c .before .before .before .before .before .before .before .before .loop .inv .2 ∙ ap (located _) (part-miss _ _ _ (c .before .before .before .before .before .before .before .loop-test .taken) (sym (c .before .before .before .before .before .is-type .ensures) ∙ c .before .before .before .before .if2 .left) (sym (part-any _ _ _ _ _ _ _) ∙ sym (c .before .is-part-named .ensures) ∙ c .if3 .left)),
+  c .before .before .before .before .before .before .before .before .loop .inv .2
+      ∙ ap (located _) (part-miss _ _ _ (c .before .before .before .before .before .before .before .loop-test .taken)
+      (sym (c .before .before .before .before .before .is-type .ensures) ∙ c .before .before .before .before .if2 .left)
+      (sym (part-any _ _ _ _ _ _ _) ∙ sym (c .before .is-part-named .ensures) ∙ c .if3 .left)),
 )
 
 add-i : tie.Need-add-i Inv-loop μ-loop Inv-search μ-search
@@ -132,17 +137,27 @@ search-again c = (
   omega arith,
   c .before .before .before .before .before .search .inv .1,
   c .before .before .before .before .before .search .inv .2,
-  c .before .before .before .before .before .search .inv .3 ∙ owner-miss _ _ _ _ (c .before .before .before .before .search-test .taken) (sym (type-any _ _ _ _ _ _) ∙ sym (c .before .is-type-named .ensures) ∙ c .if1 .left),
+  c .before .before .before .before .before .search .inv .3
+      ∙ owner-miss _ _ _ _ (c .before .before .before .before .search-test .taken)
+      (sym (type-any _ _ _ _ _ _) ∙ sym (c .before .is-type-named .ensures) ∙ c .if1 .left),
 )
 
 returns : tie.Need-returns Inv-loop μ-loop Inv-search μ-search
-returns c = (λ j. located (c .before .search .inv .1 j) (c .before .search .inv .2 j)) ∙ sym (c .before .search .inv .3 ∙ owner-end _ _ _ _ (c .search-test .left))
+returns c =
+    (λ j. located (c .before .search .inv .1 j) (c .before .search .inv .2 j)) ∙ sym (c .before .search .inv .3 ∙ owner-end _ _ _ _ (c .search-test .left))
 
 returns-2 : tie.Need-returns-2 Inv-loop μ-loop Inv-search μ-search
-returns-2 c = ap (located _) (c .before .before .before .before .loop .inv .1) ∙ sym (c .before .before .before .before .loop .inv .2 ∙ ap (located _) (part-stop _ _ _ (c .before .before .before .loop-test .taken) (sym (c .before .is-type .ensures) ∙ c .if2 .taken)))
+returns-2 c =
+    ap (located _) (c .before .before .before .before .loop .inv .1)
+    ∙ sym (c .before .before .before .before .loop .inv .2
+    ∙ ap (located _) (part-stop _ _ _ (c .before .before .before .loop-test .taken) (sym (c .before .is-type .ensures) ∙ c .if2 .taken)))
 
 returns-3 : tie.Need-returns-3 Inv-loop μ-loop Inv-search μ-search
-returns-3 c = sym (c .before .before .before .before .before .before .before .before .loop .inv .2 ∙ ap (located _) (part-hit _ _ _ (c .before .before .before .before .before .before .before .loop-test .taken) (sym (c .before .before .before .before .before .is-type .ensures) ∙ c .before .before .before .before .if2 .left) (sym (part-any _ _ _ _ _ _ _) ∙ sym (c .before .is-part-named .ensures) ∙ c .if3 .taken)))
+returns-3 c =
+    sym (c .before .before .before .before .before .before .before .before .loop .inv .2
+    ∙ ap (located _) (part-hit _ _ _ (c .before .before .before .before .before .before .before .loop-test .taken)
+    (sym (c .before .before .before .before .before .is-type .ensures) ∙ c .before .before .before .before .if2 .left)
+    (sym (part-any _ _ _ _ _ _ _) ∙ sym (c .before .is-part-named .ensures) ∙ c .if3 .taken)))
 
 returns-4 : tie.Need-returns-4 Inv-loop μ-loop Inv-search μ-search
 returns-4 c = ap (located _) (c .before .loop .inv .1) ∙ sym (c .before .loop .inv .2 ∙ ap (located _) (part-end _ _ _ (c .loop-test .left)))

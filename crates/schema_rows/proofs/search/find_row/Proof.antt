@@ -40,7 +40,8 @@ loop-less : tie.Need-loop-less Inv-loop μ-loop
 loop-less c = search needs
 
 loop-again : tie.Need-loop-again Inv-loop μ-loop
-loop-again c = (omega arith, c .before .before .before .loop .inv .1 ∙ found-miss _ _ _ (c .before .before .loop-test .taken) (kind-miss _ _ _ _ (c .if1 .left)))
+loop-again c =
+    (omega arith, c .before .before .before .loop .inv .1 ∙ found-miss _ _ _ (c .before .before .loop-test .taken) (kind-miss _ _ _ _ (c .if1 .left)))
 
 returns-2 : tie.Need-returns-2 Inv-loop μ-loop
 returns-2 c = sym (c .before .loop .inv .1 ∙ found-end _ _ _ (c .loop-test .left))

@@ -25,7 +25,9 @@ same-length : tie.Need-same-length
 same-length c = search needs
 
 returns : tie.Need-returns
-returns c = let e = c .before .before .before .before .before .before .args in tail-written (e .used) (e .words .now) (movedWords (e .base) (cardsOf (e .cards .now))) _ (omega arith) (c .before .before .copy-cards .ensures)
+returns c =
+    let e = c .before .before .before .before .before .before .args in
+    tail-written (e .used) (e .words .now) (movedWords (e .base) (cardsOf (e .cards .now))) _ (omega arith) (c .before .before .copy-cards .ensures)
 
 pub append-cards-spec : {M : Type 1} → statement M
 append-cards-spec =

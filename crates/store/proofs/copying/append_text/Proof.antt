@@ -20,7 +20,9 @@ same-length : tie.Need-same-length
 same-length c = search needs
 
 returns : tie.Need-returns
-returns c = let e = c .before .before .before .before .before .before .args in tail-written (e .used) (e .text .now) (e .lent .now) _ (omega arith) (c .before .before .copy-text .ensures)
+returns c =
+    let e = c .before .before .before .before .before .before .args in
+    tail-written (e .used) (e .text .now) (e .lent .now) _ (omega arith) (c .before .before .copy-text .ensures)
 
 pub append-text-spec : {M : Type 1} → statement M
 append-text-spec =

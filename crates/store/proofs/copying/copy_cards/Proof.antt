@@ -4,7 +4,8 @@ use mathlib.Core.List.{_++_}
 use native.Mathlib.Omega.{arith}
 use lib.ListN.{length, take, drop}
 use Rattle.definition.specs.Lists.{All}
-use Rattle.definition.specs.Cards.{cardsOf}
+use Rattle.definition.specs.Cards.{cardWords, cardsOf}
+use Rattle.definition.specs.Refusals.{textCapacity}
 use Rattle.definition.specs.Store.{movedWords}
 use Rattle.store.specs.Moving.{Within}
 use Rattle.store.proofs.Moved.{within-item, within-name, within-next, moved-turn, moved-kept, moved-all}
@@ -13,7 +14,13 @@ use Rattle.store.proofs.copying.copy_cards.Tie as tie
 use borrow.Author.Needs.{needs}
 
 abbrev Inv-loop : tie.InvT-loop
-Inv-loop unused₀ cards base i₀ unused i = (i ≤ length cards) × (i % 5 ≡ 0) × All (Within 65536) (cardsOf (drop i cards)) × (take i unused ++ movedWords base (cardsOf (drop i cards)) ≡ movedWords base (cardsOf cards)) × (drop i unused ≡ drop i unused₀) × (length unused ≡ length unused₀)
+Inv-loop unused₀ cards base i₀ unused i =
+    (i ≤ length cards)
+    × (i % cardWords ≡ 0)
+    × All (Within textCapacity) (cardsOf (drop i cards))
+    × (take i unused ++ movedWords base (cardsOf (drop i cards)) ≡ movedWords base (cardsOf cards))
+    × (drop i unused ≡ drop i unused₀)
+    × (length unused ≡ length unused₀)
 
 abbrev μ-loop : tie.MeasureT-loop
 μ-loop unused₀ cards base i₀ unused i = length cards - i
@@ -25,13 +32,17 @@ copy-item-requires : tie.Need-copy-item-requires Inv-loop μ-loop
 copy-item-requires c κs =
     let a = c .before .before in
     let s = a .before .before .before in
-    (omega arith, omega arith, omega (arith, s .pre .2, within-item (s .args .cards .now) (a .loop .i) 65536 (omega arith) (a .loop .inv .2)))
+    (omega arith, omega arith, omega (arith, s .pre .2, within-item (s .args .cards .now) (a .loop .i) textCapacity (omega arith) (a .loop .inv .2)))
 
 copy-name-requires : tie.Need-copy-name-requires Inv-loop μ-loop
 copy-name-requires c κs =
     let a = c .before .before .before .before .before .before in
-    let s = a .before .before .before in
-    (omega arith, omega (arith, c .before .before .before .copy-item .kept .0), omega (arith, s .pre .2, within-name (s .args .cards .now) (a .loop .i) 65536 (omega arith) (a .loop .inv .2)))
+    let s = a .before .before .before in (
+      omega arith,
+      omega (arith, c .before .before .before .copy-item .kept .0),
+      omega
+          (arith, s .pre .2, within-name (s .args .cards .now) (a .loop .i) textCapacity (omega arith) (a .loop .inv .2)),
+    )
 
 add-i : tie.Need-add-i Inv-loop μ-loop
 add-i c = search needs
@@ -48,9 +59,11 @@ loop-again c =
     let v = a .loop .inv in (
       omega arith,
       omega arith,
-      within-next (e .cards .now) (a .loop .i) 65536 (omega arith) (v .2),
-      moved-turn (e .base) (e .cards .now) (a .loop .unused) _ _ (e .unused .now) (a .loop .i) (omega arith) (omega arith) (item .ensures) (name .ensures) (v .3),
-      moved-kept (e .base) (e .cards .now) (a .loop .unused) _ _ (e .unused .now) (a .loop .i) (omega arith) (omega arith) (item .ensures) (name .ensures) (v .4),
+      within-next (e .cards .now) (a .loop .i) textCapacity (omega arith) (v .2),
+      moved-turn (e .base) (e .cards .now) (a .loop .unused) _ _ (e .unused .now) (a .loop .i) (omega arith) (omega arith) (item .ensures)
+          (name .ensures) (v .3),
+      moved-kept (e .base) (e .cards .now) (a .loop .unused) _ _ (e .unused .now) (a .loop .i) (omega arith) (omega arith) (item .ensures)
+          (name .ensures) (v .4),
       omega (arith, item .kept .0, name .kept .0),
     )
 

@@ -30,7 +30,12 @@ loop-less : tie.Need-loop-less Inv-loop μ-loop
 loop-less c = search needs
 
 loop-again : tie.Need-loop-again Inv-loop μ-loop
-loop-again c = (omega arith, rw (c .before .before .loop .inv .1) (copied-next (c .before .before .before .args .unused .now) _ _ (omega arith) (c .before .loop-test .taken)), simp length-set (omega arith))
+loop-again c = (
+  omega arith,
+  rw (c .before .before .loop .inv .1)
+      (copied-next (c .before .before .before .args .unused .now) _ _ (omega arith) (c .before .loop-test .taken)),
+  simp length-set (omega arith),
+)
 
 same-length : tie.Need-same-length Inv-loop μ-loop
 same-length c = search needs

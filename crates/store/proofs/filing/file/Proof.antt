@@ -53,7 +53,7 @@ cast-append-text c = omega (arith, c .before .before .before .before .before .be
 
 append-text-requires : tie.Need-append-text-requires
 unfolding textUsed
-append-text-requires c κs = omega (arith, c .before .before .before .before .before .before .before .before .before .pre .textFits, c .before .before .before .before .before .before .before .before .before .pre .textLong)
+append-text-requires c κs = let p = c .before .before .before .before .before .before .before .before .before .pre in omega (arith, p .textFits, p .textLong)
 
 add-write-counts : tie.Need-add-write-counts
 unfolding documentCount
@@ -68,17 +68,26 @@ unfolding cardsUsed
 add-write-counts-3 c = omega (arith, c .before .before .before .before .before .before .before .before .before .before .before .before .before .pre .cardsFit)
 
 write-counts-requires : tie.Need-write-counts-requires
-write-counts-requires c κs = omega (arith, c .before .before .before .before .before .before .before .before .before .before .before .before .before .pre .wordsLong)
+write-counts-requires c κs =
+    omega (arith, c .before .before .before .before .before .before .before .before .before .before .before .before .before .pre .wordsLong)
 
 write-row-requires : tie.Need-write-row-requires
 unfolding documentCount
-write-row-requires c κs = omega (arith, c .before .before .before .write-counts .kept .0, c .before .before .before .before .before .before .before .before .before .before .before .before .before .before .before .before .before .pre .few, c .before .before .before .before .before .before .before .before .before .before .before .before .before .before .before .before .before .pre .wordsLong)
+write-row-requires c κs =
+    let p = c .before .before .before .before .before .before .before .before .before .before .before .before .before .before .before .before .before .pre in
+    omega (arith, c .before .before .before .write-counts .kept .0, p .few, p .wordsLong)
 
 append-cards-requires : tie.Need-append-cards-requires
 unfolding textUsed cardsUsed
 append-cards-requires c κs =
-    let p = c .before .before .before .before .before .before .before .before .before .before .before .before .before .before .before .before .before .before .before .before .before .pre in
-    (omega (arith, c .before .before .before .write-row .kept .0, c .before .before .before .before .before .before .before .write-counts .kept .0, p .cardsFit, p .wordsLong, p .whole), p .whole, omega (arith, p .textFits), p .within)
+    let row = c .before .before .before in
+    let counts = row .before .before .before .before in
+    let p = counts .before .before .before .before .before .before .before .before .before .before .before .before .before .before .pre in (
+      omega (arith, row .write-row .kept .0, counts .write-counts .kept .0, p .cardsFit, p .wordsLong, p .whole),
+      p .whole,
+      omega (arith, p .textFits),
+      p .within,
+    )
 
 same-length : tie.Need-same-length
 same-length c = search needs
@@ -89,9 +98,13 @@ same-length-2 c = search needs
 returns : tie.Need-returns
 unfolding documentCount ignoreWord textUsed cardsUsed
 returns c =
-    let e = c .before .before .before .before .before .before .before .before .before .before .before .before .before .before .before .before .before .before .before .before .before .before .before .before .args in (
-      text-filed (e .text .now) (e .words .now) (e .lent .now) (e .cards .now) _ (c .before .before .before .before .before .before .before .before .before .before .before .before .before .before .append-text .ensures),
-      words-filed (e .text .now) (e .words .now) (e .lent .now) (e .cards .now) _ _ _ (c .before .before .before .before .before .before .before .before .before .before .write-counts .ensures) (c .before .before .before .before .before .before .write-row .ensures) (c .before .before .append-cards .ensures),
+    let row = c .before .before .before .before .before .before in
+    let counts = row .before .before .before .before in
+    let text = counts .before .before .before .before in
+    let e = text .before .before .before .before .before .before .before .before .before .before .args in (
+      text-filed (e .text .now) (e .words .now) (e .lent .now) (e .cards .now) _ (text .append-text .ensures),
+      words-filed (e .text .now) (e .words .now) (e .lent .now) (e .cards .now) _ _ _ (counts .write-counts .ensures) (row .write-row .ensures)
+          (c .before .before .append-cards .ensures),
     )
 
 pub file-spec : {M : Type 1} → statement M

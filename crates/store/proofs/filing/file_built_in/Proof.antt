@@ -30,8 +30,10 @@ same-length-2 c = search needs
 returns : tie.Need-returns
 returns c =
     let e = c .before .before .before .before .before .before .before .before .before .before .before .before .before .before .before .before .args in (
-      text-opened (e .text .now) (e .words .now) (e .lent .now) (e .cards .now) _ (c .before .before .before .before .before .before .before .before .before .before .append-text .ensures),
-      words-opened (e .text .now) (e .words .now) (e .lent .now) (e .cards .now) _ _ (c .before .before .before .before .before .before .write-front .ensures) (c .before .before .append-cards .ensures),
+      text-opened (e .text .now) (e .words .now) (e .lent .now) (e .cards .now) _
+          (c .before .before .before .before .before .before .before .before .before .before .append-text .ensures),
+      words-opened (e .text .now) (e .words .now) (e .lent .now) (e .cards .now) _ _
+          (c .before .before .before .before .before .before .write-front .ensures) (c .before .before .append-cards .ensures),
     )
 
 pub file-built-in-spec : {M : Type 1} → statement M

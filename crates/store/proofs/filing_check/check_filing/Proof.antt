@@ -1,8 +1,9 @@
 use mathlib.Core.Path.{sym, ap, _∙_}
+use native.Mathlib.Omega.{arith}
 use Rattle.definition.specs.Store.{documentCount, textUsed, cardsUsed}
 use Rattle.ast_check.specs.Checks.{checkOption}
-use Rattle.store.specs.FilingCheckRoom.{roomOption}
-use Rattle.store.proofs.Enough.{lent-faulty, lent-full, lent-room}
+use Rattle.store.specs.FilingCheckCapacity.{capacityOption}
+use Rattle.store.proofs.Enough.{lent-faulty, lent-full, lent-capacity}
 use Rattle.store.proofs.filing_check.check_filing.Statement.{statement}
 use Rattle.store.proofs.filing_check.check_filing.Tie as tie
 use borrow.Author.Needs.{needs}
@@ -22,19 +23,24 @@ enum-told c = search needs
 shared-slice-read-if1 : tie.Need-shared-slice-read-if1
 shared-slice-read-if1 c = search needs
 
+cast-if1 : tie.Need-cast-if1
+cast-if1 c = omega (arith, c .shared-slice-known4 .given 0)
+
 returns-2 : tie.Need-returns-2
 unfolding documentCount
-returns-2 c = lent-full _ _ _ (sym (ap checkOption (c .before .before .enum-told .given .1)) ∙ c .before .before .before .before .check-document .ensures) (c .if1 .taken)
+returns-2 c =
+    let told = c .before .before in
+    lent-full _ _ _ (sym (ap checkOption (told .enum-told .given .1)) ∙ told .before .before .check-document .ensures) (c .if1 .taken)
 
-shared-slice-read-check-room : tie.Need-shared-slice-read-check-room
-shared-slice-read-check-room c = search needs
+shared-slice-read-check-capacity : tie.Need-shared-slice-read-check-capacity
+shared-slice-read-check-capacity c = search needs
 
-shared-slice-read-check-room-2 : tie.Need-shared-slice-read-check-room-2
-shared-slice-read-check-room-2 c = search needs
+shared-slice-read-check-capacity-2 : tie.Need-shared-slice-read-check-capacity-2
+shared-slice-read-check-capacity-2 c = search needs
 
-check-room-requires : tie.Need-check-room-requires
+check-capacity-requires : tie.Need-check-capacity-requires
 unfolding textUsed cardsUsed
-check-room-requires c κs = (c .before .before .before .before .before .before .before .before .before .before .pre .1, c .before .before .before .before .before .before .before .before .before .before .pre .2)
+check-capacity-requires c κs = let p = c .before .before .before .before .before .before .before .before .before .before .pre in (p .1, p .2)
 
 enum-known-number : tie.Need-enum-known-number
 enum-known-number c = search needs
@@ -42,8 +48,10 @@ enum-known-number c = search needs
 returns-3 : tie.Need-returns-3
 unfolding documentCount textUsed cardsUsed
 returns-3 c =
-    lent-room _ _ _ (sym (ap checkOption (c .before .before .before .before .before .before .before .before .enum-told .given .1)) ∙ c .before .before .before .before .before .before .before .before .before .before .check-document .ensures) _ (c .before .before .before .before .before .before .if1 .left)
-    (sym (ap roomOption (c .before .number .given .1)) ∙ c .before .before .before .check-room .ensures)
+    let told = c .before .before .before .before .before .before .before .before in
+    lent-capacity _ _ _ (sym (ap checkOption (told .enum-told .given .1)) ∙ told .before .before .check-document .ensures) _
+    (c .before .before .before .before .before .before .if1 .left)
+    (sym (ap capacityOption (c .before .number .given .1)) ∙ c .before .before .before .check-capacity .ensures)
 
 enum-told-2 : tie.Need-enum-told-2
 enum-told-2 c = search needs
@@ -51,8 +59,10 @@ enum-told-2 c = search needs
 returns-4 : tie.Need-returns-4
 unfolding documentCount textUsed cardsUsed
 returns-4 c =
-    lent-room _ _ _ (sym (ap checkOption (c .before .before .before .before .before .before .before .enum-told .given .1)) ∙ c .before .before .before .before .before .before .before .before .before .check-document .ensures) _ (c .before .before .before .before .before .if1 .left)
-    (sym (ap roomOption (c .enum-told2 .given .1)) ∙ c .before .before .check-room .ensures)
+    let told = c .before .before .before .before .before .before .before in
+    lent-capacity _ _ _ (sym (ap checkOption (told .enum-told .given .1)) ∙ told .before .before .check-document .ensures) _
+    (c .before .before .before .before .before .if1 .left)
+    (sym (ap capacityOption (c .enum-told2 .given .1)) ∙ c .before .before .check-capacity .ensures)
 
 pub check-filing-spec : {M : Type 1} → statement M
 check-filing-spec =
@@ -63,10 +73,11 @@ check-filing-spec =
     returns
     enum-told
     shared-slice-read-if1
+    cast-if1
     returns-2
-    shared-slice-read-check-room
-    shared-slice-read-check-room-2
-    check-room-requires
+    shared-slice-read-check-capacity
+    shared-slice-read-check-capacity-2
+    check-capacity-requires
     enum-known-number
     returns-3
     enum-told-2

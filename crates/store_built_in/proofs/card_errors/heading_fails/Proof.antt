@@ -15,7 +15,9 @@ type-before-requires : tie.Need-type-before-requires
 type-before-requires c κs = search needs
 
 returns-3 : tie.Need-returns-3
-returns-3 c = fails-type _ _ (cardOf (c .before .before .before .before .before .before .before .args .card)) _ (c .before .before .before .if1 .left) (c .before .if2 .left) (c .type-before .ensures)
+returns-3 c =
+    fails-type _ _ (cardOf (c .before .before .before .before .before .before .before .args .card)) _ (c .before .before .before .if1 .left)
+    (c .before .if2 .left) (c .type-before .ensures)
 
 pub heading-fails-spec : {M : Type 1} → statement M
 heading-fails-spec = tie.close (tie.spec returns returns-2 type-before-requires returns-3)

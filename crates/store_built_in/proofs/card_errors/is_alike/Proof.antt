@@ -12,16 +12,28 @@ is-root-requires : tie.Need-is-root-requires
 is-root-requires c κs = search needs
 
 returns-2 : tie.Need-returns-2
-returns-2 c = sym (alike-roots _ (cardOf (c .before .before .before .before .before .before .args .a)) (cardOf (c .before .before .before .before .before .before .args .b)) (c .before .before .if1 .left) (sym (c .before .is-root .ensures) ∙ c .if2 .taken))
+returns-2 c =
+    sym
+    (alike-roots _ (cardOf (c .before .before .before .before .before .before .args .a))
+    (cardOf (c .before .before .before .before .before .before .args .b)) (c .before .before .if1 .left)
+    (sym (c .before .is-root .ensures) ∙ c .if2 .taken))
 
 returns-3 : tie.Need-returns-3
-returns-3 c = sym (alike-directives _ (cardOf (c .before .before .before .before .before .before .before .before .args .a)) (cardOf (c .before .before .before .before .before .before .before .before .args .b)) (c .before .before .before .before .if1 .left) (sym (c .before .before .before .is-root .ensures) ∙ c .before .before .if2 .left) (c .if3 .taken))
+returns-3 c =
+    sym
+    (alike-directives _ (cardOf (c .before .before .before .before .before .before .before .before .args .a))
+    (cardOf (c .before .before .before .before .before .before .before .before .args .b)) (c .before .before .before .before .if1 .left)
+    (sym (c .before .before .before .is-root .ensures) ∙ c .before .before .if2 .left) (c .if3 .taken))
 
 same-names-requires : tie.Need-same-names-requires
 same-names-requires c κs = search needs
 
 returns-4 : tie.Need-returns-4
-returns-4 c = alike-names _ (cardOf (c .before .before .before .before .before .before .before .before .before .args .a)) (cardOf (c .before .before .before .before .before .before .before .before .before .args .b)) _ (c .before .before .before .before .before .if1 .left) (sym (c .before .before .before .before .is-root .ensures) ∙ c .before .before .before .if2 .left) (c .before .if3 .left) (c .same-names .ensures)
+returns-4 c =
+    alike-names _ (cardOf (c .before .before .before .before .before .before .before .before .before .args .a))
+    (cardOf (c .before .before .before .before .before .before .before .before .before .args .b)) _
+    (c .before .before .before .before .before .if1 .left)
+    (sym (c .before .before .before .before .is-root .ensures) ∙ c .before .before .before .if2 .left) (c .before .if3 .left) (c .same-names .ensures)
 
 pub is-alike-spec : {M : Type 1} → statement M
 is-alike-spec =

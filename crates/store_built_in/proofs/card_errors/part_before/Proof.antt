@@ -1,9 +1,7 @@
 use mathlib.Core.Path.{_≡_, refl, sym, _∙_}
-use Prim.Native.Nat.{_-_, _*_}
-use lib.ListN.{drop}
+use Prim.Native.Nat.{_-_}
 use Rattle.definition.specs.Lists.{any}
-use Rattle.definition.specs.Cards.{cardWords, cardsFrom}
-use Rattle.ast.specs.Cards.{cardOf}
+use Rattle.ast.specs.Cards.{cardOf, cardsBetween}
 use Rattle.store_built_in.specs.Fails.{alikeCards}
 use Rattle.store_built_in.proofs.Fails.{any-hit, any-next, any-end}
 use Rattle.store_built_in.proofs.card_errors.part_before.Statement.{statement}
@@ -11,7 +9,8 @@ use Rattle.store_built_in.proofs.card_errors.part_before.Tie as tie
 use borrow.Author.Needs.{needs}
 
 abbrev Inv-loop : tie.InvT-loop
-Inv-loop text cards from to card i₀ i = any (alikeCards text (cardOf card)) (cardsFrom (to - from) (drop (cardWords * from) cards)) ≡ any (alikeCards text (cardOf card)) (cardsFrom (to - i) (drop (cardWords * i) cards))
+Inv-loop text cards from to card i₀ i =
+    any (alikeCards text (cardOf card)) (cardsBetween cards from to) ≡ any (alikeCards text (cardOf card)) (cardsBetween cards i to)
 
 abbrev μ-loop : tie.MeasureT-loop
 μ-loop text cards from to card i₀ i = to - i
@@ -26,7 +25,11 @@ is-alike-requires : tie.Need-is-alike-requires Inv-loop μ-loop
 is-alike-requires c κs = search needs
 
 returns : tie.Need-returns Inv-loop μ-loop
-returns c = sym (c .before .before .before .before .loop .inv ∙ any-hit _ _ _ _ _ _ (c .before .before .before .loop-test .taken) (c .before .before .card-at .ensures) (c .before .is-alike .ensures) (c .if1 .taken))
+returns c =
+    let turn = c .before .before .before in
+    sym
+    (turn .before .loop .inv
+    ∙ any-hit _ _ _ _ _ _ (turn .loop-test .taken) (c .before .before .card-at .ensures) (c .before .is-alike .ensures) (c .if1 .taken))
 
 add-i : tie.Need-add-i Inv-loop μ-loop
 add-i c = search needs
@@ -35,7 +38,10 @@ loop-less : tie.Need-loop-less Inv-loop μ-loop
 loop-less c = search needs
 
 loop-again : tie.Need-loop-again Inv-loop μ-loop
-loop-again c = c .before .before .before .before .loop .inv ∙ any-next _ _ _ _ _ _ (c .before .before .before .loop-test .taken) (c .before .before .card-at .ensures) (c .before .is-alike .ensures) (c .if1 .left)
+loop-again c =
+    let turn = c .before .before .before in
+    turn .before .loop .inv
+    ∙ any-next _ _ _ _ _ _ (turn .loop-test .taken) (c .before .before .card-at .ensures) (c .before .is-alike .ensures) (c .if1 .left)
 
 returns-2 : tie.Need-returns-2 Inv-loop μ-loop
 returns-2 c = sym (c .before .loop .inv ∙ any-end _ _ _ _ (c .loop-test .left))

@@ -1,5 +1,6 @@
 -- A card below the number of cards has its words; any other has zeros.
 use mathlib.Core.Path.{_∙_, sym}
+use Rattle.definition.specs.Store.{cardsUsed}
 use Rattle.store_reader.proofs.Cards.{word-here, word-none}
 use Rattle.store_reader.proofs.card_words.card_word.Statement.{statement}
 use Rattle.store_reader.proofs.card_words.card_word.Tie as tie
@@ -24,10 +25,12 @@ word-requires-2 : tie.Need-word-requires-2
 word-requires-2 c κs = search needs
 
 returns : tie.Need-returns
-returns c = c .word2 .ensures ∙ sym (word-here _ _ _ _ (c .before .before .word .ensures) (c .before .if1 .taken))
+unfolding cardsUsed
+returns c = c .word2 .ensures ∙ sym (word-here _ _ _ (c .before .before .word .ensures) _ (c .before .if1 .taken))
 
 returns-2 : tie.Need-returns-2
-returns-2 c = sym (word-none _ _ _ _ (c .before .word .ensures) (c .if1 .left))
+unfolding cardsUsed
+returns-2 c = sym (word-none _ _ _ (c .before .word .ensures) _ (c .if1 .left))
 
 pub card-word-spec : {M : Type 1} → statement M
 card-word-spec =

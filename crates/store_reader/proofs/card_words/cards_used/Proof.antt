@@ -1,4 +1,4 @@
--- The word at 4.
+-- The word that counts them.
 use Rattle.definition.specs.Store.{cardsUsed}
 use Rattle.store_reader.proofs.card_words.cards_used.Statement.{statement}
 use Rattle.store_reader.proofs.card_words.cards_used.Tie as tie

@@ -1,4 +1,4 @@
--- Word 0 of the card.
+-- The word that is the kind.
 use Rattle.store_reader.specs.Cards.{cardKind}
 use Rattle.store_reader.proofs.card_words.kind_of.Statement.{statement}
 use Rattle.store_reader.proofs.card_words.kind_of.Tie as tie

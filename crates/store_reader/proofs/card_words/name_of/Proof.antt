@@ -17,7 +17,9 @@ bytes-at-requires c κs = search needs
 
 returns : tie.Need-returns
 unfolding cardName
-returns c = c .bytes-at .ensures ∙ (λ i. bytesAt (c .before .before .before .before .before .args .text .now) (c .before .before .name-start .ensures i) (c .before .name-size .ensures i))
+returns c =
+    c .bytes-at .ensures
+    ∙ (λ i. bytesAt (c .before .before .before .before .before .args .text .now) (c .before .before .name-start .ensures i) (c .before .name-size .ensures i))
 
 pub name-of-spec : {M : Type 1} → statement M
 name-of-spec =

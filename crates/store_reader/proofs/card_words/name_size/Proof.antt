@@ -1,4 +1,4 @@
--- Word 4 of the card.
+-- The word that is the name's length.
 use Rattle.store_reader.specs.Cards.{nameSize}
 use Rattle.store_reader.proofs.card_words.name_size.Statement.{statement}
 use Rattle.store_reader.proofs.card_words.name_size.Tie as tie

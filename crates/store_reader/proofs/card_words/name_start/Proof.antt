@@ -1,4 +1,4 @@
--- Word 3 of the card.
+-- The word that is the name's offset.
 use Rattle.store_reader.specs.Cards.{nameStart}
 use Rattle.store_reader.proofs.card_words.name_start.Statement.{statement}
 use Rattle.store_reader.proofs.card_words.name_start.Tie as tie

@@ -4,6 +4,9 @@ use Rattle.store_reader.proofs.documents.built_in_count.Statement.{stat
 use Rattle.store_reader.proofs.documents.built_in_count.Tie as tie
 use borrow.Author.Needs.{needs}
 
+add-word : tie.Need-add-word
+add-word c = search needs
+
 word-requires : tie.Need-word-requires
 word-requires c κs = search needs
 
@@ -15,4 +18,4 @@ unfolding builtInCount
 returns c = c .word .ensures
 
 pub built-in-count-spec : {M : Type 1} → statement M
-built-in-count-spec = tie.close (tie.spec word-requires cast-result returns)
+built-in-count-spec = tie.close (tie.spec add-word word-requires cast-result returns)

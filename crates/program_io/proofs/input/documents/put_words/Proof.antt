@@ -10,7 +10,8 @@ use Rattle.program_io.proofs.input.documents.put_words.Tie as tie
 use borrow.Author.Needs.{needs}
 
 abbrev Inv-loop : tie.InvT-loop
-Inv-loop bytes words₀ n₀ i₀ words n i = (i ≤ length bytes) × (4 * n ≡ i) × (length words ≡ length words₀) × Left words₀ 0 (wordsOf bytes) words n (wordsOf (drop i bytes))
+Inv-loop bytes words₀ n₀ i₀ words n i =
+    (i ≤ length bytes) × (4 * n ≡ i) × (length words ≡ length words₀) × Left words₀ 0 (wordsOf bytes) words n (wordsOf (drop i bytes))
 
 abbrev μ-loop : tie.MeasureT-loop
 μ-loop bytes words₀ n₀ i₀ words n i = length bytes - i
@@ -64,8 +65,12 @@ loop-again : tie.Need-loop-again Inv-loop μ-loop
 loop-again c =
     let a = c .before .before .before .before .before .before .loop in
     let bytes = c .before .before .before .before .before .before .before .before .before .args .bytes .now in
-    let put = put-one (a .words) (a .n) (c .little-endian .result) (omega arith) in
-    (omega arith, omega arith, simp length-set (a .inv .2), left-turn (rw (words-more bytes (a .i) (omega arith), ← (c .little-endian .ensures)) at (a .inv .3)) put)
+    let put = put-one (a .words) (a .n) (c .little-endian .result) (omega arith) in (
+      omega arith,
+      omega arith,
+      simp length-set (a .inv .2),
+      left-turn (rw (words-more bytes (a .i) (omega arith), ← (c .little-endian .ensures)) at (a .inv .3)) put,
+    )
 
 same-length : tie.Need-same-length Inv-loop μ-loop
 same-length c = search needs

@@ -49,7 +49,9 @@ returns-3 : tie.Need-returns-3
 returns-3 c = search needs
 
 slice-reshare-prefix-put-words : tie.Need-slice-reshare-prefix-put-words
-slice-reshare-prefix-put-words c = let w = within (c .before .before .n .given .1) (c .before .before .before .before .before .before .read-file2 .ensures) in let k = c .before .before .before .before .before .before .read-file2 .kept in omega arith
+slice-reshare-prefix-put-words c =
+    let w = within (c .before .before .n .given .1) (c .before .before .before .before .before .before .read-file2 .ensures) in
+    let k = c .before .before .before .before .before .before .read-file2 .kept in omega arith
 
 slice-aggregate-put-words : tie.Need-slice-aggregate-put-words
 slice-aggregate-put-words c =
@@ -61,7 +63,8 @@ put-words-requires : tie.Need-put-words-requires
 put-words-requires c κs =
     let w = within (c .before .before .before .before .n .given .1) (c .before .before .before .before .before .before .before .before .read-file2 .ensures) in
     let k = c .before .before .before .before .before .before .before .before .read-file2 .kept in
-    let l = length-take-le (c .before .before .before .before .n .given .0 .0) (c .before .before .before .before .before .before .before .before .read-file2 .last .1 .1 .0) (omega arith) in
+    let l = length-take-le (c .before .before .before .before .n .given .0 .0)
+    (c .before .before .before .before .before .before .before .before .read-file2 .last .1 .1 .0) (omega arith) in
     omega arith
 
 same-length-6 : tie.Need-same-length-6
@@ -74,7 +77,11 @@ same-length-8 : tie.Need-same-length-8
 same-length-8 c = search needs
 
 returns-4 : tie.Need-returns-4
-returns-4 c = let w = within (c .before .before .before .before .before .before .before .before .before .before .before .before .before .before .before .size .given .1) (c .before .before .before .before .before .before .before .before .before .before .before .before .before .before .before .before .before .before .before .read-file .ensures) in (omega arith, c .before .before .put-words .ensures .1)
+returns-4 c =
+    let far = c .before .before .before .before .before .before .before .before .before .before .before .before in
+    let w = within (far .before .before .before .size .given .1)
+    (far .before .before .before .before .before .before .before .read-file .ensures) in
+    (omega arith, c .before .before .put-words .ensures .1)
 
 pub read-both-spec : {M : Type 1} → statement M
 read-both-spec =

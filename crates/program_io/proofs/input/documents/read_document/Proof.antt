@@ -5,11 +5,6 @@ use Rattle.program_io.proofs.Text.{put-within, take-within}
 use Rattle.program_io.proofs.input.documents.read_document.Statement.{statement}
 use Rattle.program_io.proofs.input.documents.read_document.Tie as tie
 use borrow.Author.Needs.{needs}
-use Rattle.program_io.proofs.input.documents.read_document.Reads as reads
-use Rattle.program_io.proofs.input.documents.read_document.Lts as lts
-use Rattle.program_io.proofs.input.documents.read_both.Reads as read-both-reads
-use Rattle.program_io.proofs.input.files.is_missing.Reads as is-missing-reads
-use Rattle.program_io.proofs.output.put.put_name.Reads as put-name-reads
 
 slice-aggregate-put-name : tie.Need-slice-aggregate-put-name
 slice-aggregate-put-name c = search needs
@@ -61,10 +56,15 @@ returns-2 c = search needs
 
 read-both-requires : tie.Need-read-both-requires
 read-both-requires c κs =
-    let a = c .before .before .before .before .before .before .before .before .before .before .before .before .before .before .before .put-name .ensures .1 in
-    let b = c .before .before .before .before .before .before .before .before .before .before .put-name2 .ensures .1 in
-    let p = c .before .before .before .before .before .before .before .before .before .before .before .before .before .before .before .before .before .before .before .before .before .before .before .pre .0 in
-    (take-within (c .before .before .before .before .before .before .before .before .before .before .before .before .before .before .before .put-name .result) 64 _ (omega arith), take-within (c .before .before .before .before .before .before .before .before .before .before .put-name2 .result) 64 _ (omega arith), c .before .before .before .before .before .before .before .before .before .before .before .before .before .before .before .before .before .before .before .before .before .before .before .pre .1)
+    let far = c .before .before .before .before .before .before .before .before .before .before in
+    let a = far .before .before .before .before .before .put-name .ensures .1 in
+    let b = far .put-name2 .ensures .1 in
+    let p = far .before .before .before .before .before .before .before .before .before .before .before .before .before .pre .0 in (
+      take-within (far .before .before .before .before .before .put-name .result)
+          64 _ (omega arith),
+      take-within (far .put-name2 .result) 64 _ (omega arith),
+      far .before .before .before .before .before .before .before .before .before .before .before .before .before .pre .1,
+    )
 
 same-length : tie.Need-same-length
 same-length c = search needs

@@ -1,4 +1,4 @@
-use Prim.Native.Nat.{ℕ, _<_, _+_}
+use Prim.Native.Nat.{ℕ, _<_}
 use native.Mathlib.Omega.{arith}
 use mathlib.Core.Path.{ap}
 use lib.ListN.{length, length-append}
@@ -62,7 +62,9 @@ put-decimal-returns : (t : ℕ) → put-decimal-lts.Need-returns (
   put-decimal-below t,
   put-decimal.Post,
 ) (put-decimal-at t) put-decimal.Post
-put-decimal-returns t c = rw (decimal-one (c .before .before .before .before .before .before .args .n) (c .before .before .before .before .if1 .taken)) (c .before .before .put-byte .ensures)
+put-decimal-returns t c =
+    rw (decimal-one (c .before .before .before .before .before .before .args .n) (c .before .before .before .before .if1 .taken))
+    (c .before .before .put-byte .ensures)
 
 put-decimal-put-decimal-requires : (t : ℕ) → put-decimal-lts.Need-put-decimal-requires (
   put-byte-reads.Asked,
@@ -70,7 +72,8 @@ put-decimal-put-decimal-requires : (t : ℕ) → put-decimal-lts.Need-put-decima
   put-decimal-below t,
   put-decimal.Post,
 ) (put-decimal-at t) put-decimal.Post
-put-decimal-put-decimal-requires t c κs = let e = simp length-append at (ap length (decimal-more (c .before .before .before .args .n) (c .before .if1 .left))) in omega arith
+put-decimal-put-decimal-requires t c κs =
+    let e = simp length-append at (ap length (decimal-more (c .before .before .before .args .n) (c .before .if1 .left))) in omega arith
 
 put-decimal-cast-put-byte-2 : (t : ℕ) → put-decimal-lts.Need-cast-put-byte-2 (
   put-byte-reads.Asked,
@@ -94,7 +97,9 @@ put-decimal-put-byte-requires-2 : (t : ℕ) → put-decimal-lts.Need-put-byte-re
   put-decimal-below t,
   put-decimal.Post,
 ) (put-decimal-at t) put-decimal.Post
-put-decimal-put-byte-requires-2 t c κs = let e = simp length-append at (ap length (decimal-more (c .before .before .before .before .before .before .before .args .n) (c .before .before .before .before .before .if1 .left))) in
+put-decimal-put-byte-requires-2 t c κs =
+    let e = simp length-append at (ap length
+    (decimal-more (c .before .before .before .before .before .before .before .args .n) (c .before .before .before .before .before .if1 .left))) in
     let f = c .before .before .before .put-decimal .ensures .place in let g = c .before .before .before .put-decimal .kept .1 .0 in omega arith
 
 put-decimal-same-length-2 : (t : ℕ) → put-decimal-lts.Need-same-length-2 (
@@ -111,7 +116,10 @@ put-decimal-returns-2 : (t : ℕ) → put-decimal-lts.Need-returns-2 (
   put-decimal-below t,
   put-decimal.Post,
 ) (put-decimal-at t) put-decimal.Post
-put-decimal-returns-2 t c = rw (decimal-more (c .before .before .before .before .before .before .before .before .before .before .args .n) (c .before .before .before .before .before .before .before .before .if1 .left)) (then (c .before .before .before .before .before .before .put-decimal .ensures) (c .before .before .put-byte2 .ensures))
+put-decimal-returns-2 t c =
+    rw (decimal-more (c .before .before .before .before .before .before .before .before .before .before .args .n)
+    (c .before .before .before .before .before .before .before .before .if1 .left))
+    (then (c .before .before .before .before .before .before .put-decimal .ensures) (c .before .before .put-byte2 .ensures))
 
 pub +put-decimal-spec : {M : Type 1} → statement M
 +put-decimal-spec = close μ-put-decimal λ t. put-decimal-lts.spec (

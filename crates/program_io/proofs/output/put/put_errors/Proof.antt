@@ -20,14 +20,19 @@ first-rows-requires c κs = search needs
 
 put-lines-requires : tie.Need-put-lines-requires
 put-lines-requires c κs =
-    let s = part-short (3 * (c .before .before .before .before .before .before .before .before .before .args .reading + c .before .before .before .before .before .before .before .before .before .args .drawing)) (c .before .before .before .before .before .before .before .before .before .args .errors .now) _ (c .before .first-rows .ensures) in omega arith
+    let s = part-short (3 * (c .before .before .before .before .before .before .before .before .before .args .reading +
+    c .before .before .before .before .before .before .before .before .before .args .drawing))
+    (c .before .before .before .before .before .before .before .before .before .args .errors .now) _ (c .before .first-rows .ensures) in
+    omega arith
 
 same-length : tie.Need-same-length
 same-length c = search needs
 
 returns : tie.Need-returns
 unfolding errorsShown
-returns c = then (c .before .before .before .before .before .before .before .put-counts .ensures .0) (rw (c .before .before .before .before .first-rows .ensures) at (c .before .before .put-lines .ensures .0))
+returns c =
+    then (c .before .before .before .before .before .before .before .put-counts .ensures .0)
+    (rw (c .before .before .before .before .first-rows .ensures) at (c .before .before .put-lines .ensures .0))
 
 pub put-errors-spec : {M : Type 1} → statement M
 put-errors-spec =

@@ -29,8 +29,15 @@ same-length c = search needs
 returns : tie.Need-returns
 unfolding line
 returns c =
-    let e = c .before .before .put-byte3 .ensures in let p = e .place in
-    (then (c .before .before .before .before .before .before .before .before .before .before .before .before .before .before .before .before .before .before .before .before .before .before .put-word .ensures .0) (then (c .before .before .before .before .before .before .before .before .before .before .before .before .before .before .before .before .before .before .put-byte .ensures) (then (c .before .before .before .before .before .before .before .before .before .before .before .before .before .before .put-word2 .ensures .0) (then (c .before .before .before .before .before .before .before .before .before .before .put-byte2 .ensures) (then (c .before .before .before .before .before .before .put-word3 .ensures .0) e)))), omega arith)
+    let far = c .before .before .before .before .before .before .before .before .before .before in
+    let e = c .before .before .put-byte3 .ensures in let p = e .place in (
+      then
+          (far .before .before .before .before .before .before .before .before .before .before .before .before .put-word .ensures .0)
+          (then (far .before .before .before .before .before .before .before .before .put-byte .ensures)
+          (then (far .before .before .before .before .put-word2 .ensures .0)
+          (then (far .put-byte2 .ensures) (then (c .before .before .before .before .before .before .put-word3 .ensures .0) e)))),
+      omega arith,
+    )
 
 pub put-line-spec : {M : Type 1} → statement M
 put-line-spec =

@@ -9,7 +9,8 @@ use Rattle.program_io.proofs.output.put.put_lines.Tie as tie
 use borrow.Author.Needs.{needs}
 
 abbrev Inv-loop : tie.InvT-loop
-Inv-loop rows out₀ at end₀ i₀ out end i = (i ≤ length rows) × (length out ≡ length out₀) × (end ≤ at + 11 * i) × Left out₀ at (lines rows) out end (lines (drop i rows))
+Inv-loop rows out₀ at end₀ i₀ out end i =
+    (i ≤ length rows) × (length out ≡ length out₀) × (end ≤ at + 11 * i) × Left out₀ at (lines rows) out end (lines (drop i rows))
 
 abbrev μ-loop : tie.MeasureT-loop
 μ-loop rows out₀ at end₀ i₀ out end i = length rows - i

@@ -1,4 +1,4 @@
-use Rattle.program_io.proofs.Text.{then, listing-refused, listing-drawn}
+use Rattle.program_io.proofs.Text.{then, listing-refused, listing-built}
 use Rattle.program_io.proofs.output.put.put_listing.Statement.{statement}
 use Rattle.program_io.proofs.output.put.put_listing.Tie as tie
 use borrow.Author.Needs.{needs}
@@ -35,7 +35,9 @@ same-length-2 c = search needs
 returns-2 : tie.Need-returns-2
 returns-2 c =
     let a = c .before .before .before .before .before .before .before .before .before .before .before .before .before .before .before .args in
-    rw (listing-drawn (a .d) (a .rows .now) (a .errors .now) (c .before .before .before .before .before .before .before .before .before .before .before .if1 .left)) (then (c .before .before .before .before .before .before .before .before .put-rows .ensures .0) (c .before .before .put-errors .ensures))
+    rw (listing-built (a .d) (a .rows .now) (a .errors .now)
+    (c .before .before .before .before .before .before .before .before .before .before .before .if1 .left))
+    (then (c .before .before .before .before .before .before .before .before .put-rows .ensures .0) (c .before .before .put-errors .ensures))
 
 pub put-listing-spec : {M : Type 1} → statement M
 put-listing-spec =

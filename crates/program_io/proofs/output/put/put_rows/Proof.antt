@@ -15,24 +15,34 @@ put-bytes-requires c κs = search needs
 put-decimal-requires : tie.Need-put-decimal-requires
 put-decimal-requires c κs =
     let p = c .before .before .before .put-bytes .ensures .place in
-    let l = decimal-64 (c .before .before .before .before .before .before .before .before .args .count) (c .before .before .before .before .before .before .before .before .fits .count .fits) in omega arith
+    let l = decimal-64 (c .before .before .before .before .before .before .before .before .args .count)
+    (c .before .before .before .before .before .before .before .before .fits .count .fits) in
+    omega arith
 
 put-byte-requires : tie.Need-put-byte-requires
 put-byte-requires c κs =
     let p = c .before .before .before .before .before .before .before .put-bytes .ensures .place in
     let q = c .before .before .before .put-decimal .ensures .place in
-    let l = decimal-64 (c .before .before .before .before .before .before .before .before .before .before .before .before .args .count) (c .before .before .before .before .before .before .before .before .before .before .before .before .fits .count .fits) in omega arith
+    let l = decimal-64 (c .before .before .before .before .before .before .before .before .before .before .before .before .args .count)
+    (c .before .before .before .before .before .before .before .before .before .before .before .before .fits .count .fits) in
+    omega arith
 
 first-rows-requires : tie.Need-first-rows-requires
 first-rows-requires c κs = search needs
 
 put-lines-requires : tie.Need-put-lines-requires
 put-lines-requires c κs =
-    let p = c .before .before .before .before .before .before .before .before .before .before .before .before .put-bytes .ensures .place in
+    let far = c .before .before .before .before .before .before .before .before .before .before .before .before in
+    let p = far .put-bytes .ensures .place in
     let q = c .before .before .before .before .before .before .before .before .put-decimal .ensures .place in
     let r = c .before .before .before .before .put-byte .ensures .place in
-    let l = decimal-64 (c .before .before .before .before .before .before .before .before .before .before .before .before .before .before .before .before .before .args .count) (c .before .before .before .before .before .before .before .before .before .before .before .before .before .before .before .before .before .fits .count .fits) in
-    let s = part-short (3 * c .before .before .before .before .before .before .before .before .before .before .before .before .before .before .before .before .before .args .count) (c .before .before .before .before .before .before .before .before .before .before .before .before .before .before .before .before .before .args .rows .now) _ (c .before .first-rows .ensures) in omega arith
+    let l = decimal-64 (far .before .before .before .before .before .args .count)
+    (far .before .before .before .before .before .fits .count .fits) in
+    let s = part-short (3 *
+    far .before .before .before .before .before .args .count)
+    (far .before .before .before .before .before .args .rows .now)
+    _ (c .before .first-rows .ensures) in
+    omega arith
 
 same-length : tie.Need-same-length
 same-length c = search needs
@@ -40,12 +50,16 @@ same-length c = search needs
 returns : tie.Need-returns
 unfolding rowsShown
 returns c =
-    let e = c .before .before .before .before .before .before .before .before .before .before .before .before .before .before .before .put-bytes .ensures in
-    let f = c .before .before .before .before .before .before .before .before .before .before .before .put-decimal .ensures in
+    let far = c .before .before .before .before .before .before .before .before .before .before .before in
+    let e = far .before .before .before .before .put-bytes .ensures in
+    let f = far .put-decimal .ensures in
     let g = c .before .before .before .before .before .before .before .put-byte .ensures in
     let h = c .before .before .put-lines .ensures in
-    let l = decimal-64 (c .before .before .before .before .before .before .before .before .before .before .before .before .before .before .before .before .before .before .before .before .args .count) (c .before .before .before .before .before .before .before .before .before .before .before .before .before .before .before .before .before .before .before .before .fits .count .fits) in
-    let s = part-short (3 * c .before .before .before .before .before .before .before .before .before .before .before .before .before .before .before .before .before .before .before .before .args .count) (c .before .before .before .before .before .before .before .before .before .before .before .before .before .before .before .before .before .before .before .before .args .rows .now) _ (c .before .before .before .before .first-rows .ensures) in
+    let l = decimal-64 (far .before .before .before .before .before .before .before .before .before .args .count)
+    (far .before .before .before .before .before .before .before .before .before .fits .count .fits) in
+    let s = part-short (3 *
+    far .before .before .before .before .before .before .before .before .before .args .count)
+    (far .before .before .before .before .before .before .before .before .before .args .rows .now) _ (c .before .before .before .before .first-rows .ensures) in
     let p = e .place in let q = f .place in let r = g .place in
     (then e (then f (then g (rw (c .before .before .before .before .first-rows .ensures) at (h .0)))), omega arith)
 

@@ -11,7 +11,9 @@ same-length : tie.Need-same-length
 same-length c = search needs
 
 returns : tie.Need-returns
-returns c = let e = c .before .before .put-byte .ensures in (rw (word-absent (c .before .before .before .before .before .before .args .w) (c .before .before .before .before .if1 .taken)) e, omega arith)
+returns c =
+    let e = c .before .before .put-byte .ensures in
+    (rw (word-absent (c .before .before .before .before .before .before .args .w) (c .before .before .before .before .if1 .taken)) e, omega arith)
 
 put-decimal-requires : tie.Need-put-decimal-requires
 put-decimal-requires c κs = let b = decimal-32 (c .before .before .before .args .w) (c .before .before .before .fits .w .fits) in omega arith

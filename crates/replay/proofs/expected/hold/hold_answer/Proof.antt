@@ -1,8 +1,6 @@
 use Rattle.replay.proofs.expected.hold.hold_answer.Statement.{statement}
 use Rattle.replay.proofs.expected.hold.hold_answer.Tie as tie
 use borrow.Author.Needs.{needs}
-use Rattle.replay.proofs.expected.hold.hold_answer.Reads as reads
-use Rattle.replay.proofs.expected.hold.hold_answer.Lts as lts
 
 cast-came : tie.Need-cast-came
 cast-came c = search needs

@@ -1,12 +1,6 @@
 use borrow.Author.Needs.{needs}
 use Rattle.replay.proofs.expected.hold.hold_field.Statement.{statement}
 use Rattle.replay.proofs.expected.hold.hold_field.Tie as tie
-use Rattle.replay.proofs.expected.hold.hold_field.Reads as reads
-use Rattle.replay.proofs.expected.hold.hold_field.Lts as lts
-use Rattle.api.proofs.answers.field_card.Reads as field-card-reads
-use Rattle.api.proofs.answers.field_meta.Reads as field-meta-reads
-use Rattle.api.proofs.answers.field_number.Reads as field-number-reads
-use Rattle.api.proofs.answers.field_refusal.Reads as field-refusal-reads
 
 field-refusal-requires : tie.Need-field-refusal-requires
 field-refusal-requires c κs = search needs

@@ -4,13 +4,6 @@ use lib.Seq.{length-take-le}
 use Rattle.replay.proofs.expected.hold.hold_list.Statement.{statement}
 use Rattle.replay.proofs.expected.hold.hold_list.Tie as tie
 use borrow.Author.Needs.{needs}
-use Rattle.replay.proofs.expected.hold.hold_list.Reads as reads
-use Rattle.replay.proofs.expected.hold.hold_list.Lts as lts
-use Rattle.replay_calls.proofs.calls.parse.are_numbers.Reads as are-numbers-reads
-use Rattle.replay_calls.proofs.calls.parse.count_words.Reads as count-words-reads
-use Rattle.replay_calls.proofs.calls.parse.word_place.Reads as word-place-reads
-use Rattle.replay_calls.proofs.steps.buffers.list.Reads as list-reads
-use Rattle.replay_calls.proofs.steps.compare.same_words.Reads as same-words-reads
 
 count-words-requires : tie.Need-count-words-requires
 count-words-requires c κs = search needs
@@ -25,7 +18,9 @@ word-place-requires : tie.Need-word-place-requires
 word-place-requires c κs = search needs
 
 slice-aggregate-are-numbers : tie.Need-slice-aggregate-are-numbers
-slice-aggregate-are-numbers c = sym (length-take-le (c .before .before .before .before .count-words .result - 4) (c .before .before .before .before .before .before .before .args .list .now) (c .before .before .if2 .left))
+slice-aggregate-are-numbers c =
+    sym (length-take-le (c .before .before .before .before .count-words .result - 4)
+    (c .before .before .before .before .before .before .before .args .list .now) (c .before .before .if2 .left))
 
 are-numbers-requires : tie.Need-are-numbers-requires
 are-numbers-requires c κs = search needs

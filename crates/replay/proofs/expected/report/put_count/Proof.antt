@@ -3,9 +3,6 @@ use Rattle.program_io.proofs.Text.{decimal-64}
 use Rattle.replay.proofs.expected.report.put_count.Statement.{statement}
 use Rattle.replay.proofs.expected.report.put_count.Tie as tie
 use borrow.Author.Needs.{needs}
-use Rattle.replay.proofs.expected.report.put_count.Reads as reads
-use Rattle.replay.proofs.expected.report.put_count.Lts as lts
-use Rattle.program_io.proofs.output.put.put_decimal.Reads as put-decimal-reads
 
 put-decimal-requires : tie.Need-put-decimal-requires
 put-decimal-requires c κs = let l = decimal-64 (c .before .before .args .n) (c .before .before .fits .n .fits) in omega arith

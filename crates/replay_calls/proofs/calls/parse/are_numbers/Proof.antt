@@ -3,21 +3,17 @@ use mathlib.Core.Path.{_≡_, refl, sym, ap, _∙_}
 use native.Mathlib.Omega.{arith}
 use borrow.Author.Count.{below-more}
 use lib.ListN.{length, drop, getD}
-use Rattle.replay_calls.specs.CallsWords.{afterWords, wordOf, numberOf}
+use Rattle.replay_calls.specs.LineWords.{afterWords, wordOf, numberOf}
 use Rattle.replay_calls.specs.declared.calls.parse.Number.the-variants.{Value}
-use Rattle.replay_calls.proofs.CallsWords.{after-more, word-cut}
+use Rattle.replay_calls.proofs.LineWords.{after-more, word-cut}
 use Rattle.replay_calls.proofs.calls.parse.are_numbers.Statement.{statement}
 use Rattle.replay_calls.proofs.calls.parse.are_numbers.Tie as tie
 use borrow.Author.Needs.{needs}
-use Rattle.replay_calls.proofs.calls.parse.are_numbers.Reads as reads
-use Rattle.replay_calls.proofs.calls.parse.are_numbers.Lts as lts
-use Rattle.replay_calls.proofs.calls.parse.next_word.Reads as next-word-reads
-use Rattle.replay_calls.proofs.calls.parse.number_of.Reads as number-of-reads
-use Rattle.replay_calls.proofs.calls.parse.word_end.Reads as word-end-reads
 
 abbrev Inv-loop : tie.InvT-loop
 Inv-loop line from list at₀ i₀ at i =
-    (drop at line ≡ afterWords i (drop from line)) × (at ≤ length line) × (i ≤ length list) × ((j : ℕ) → j < i → numberOf (wordOf j (drop from line)) ≡ Value (getD list j 0))
+    (drop at line ≡ afterWords i (drop from line)) × (at ≤ length line) × (i ≤ length list)
+    × ((j : ℕ) → j < i → numberOf (wordOf j (drop from line)) ≡ Value (getD list j 0))
 
 abbrev μ-loop : tie.MeasureT-loop
 μ-loop line from list at₀ i₀ at i = length list - i
@@ -77,11 +73,16 @@ loop-again c =
     let rest = drop (c .before .before .before .before .before .before .before .before .before .before .before .before .before .args .from) line in
     let at = c .before .before .before .before .before .before .before .before .before .before .loop .at in
     let i = c .before .before .before .before .before .before .before .before .before .before .loop .i in (
-      c .next-word .ensures .0 ∙ after-more i rest (drop at line) (c .before .before .before .before .before .before .before .before .before .before .loop .inv .0),
+      c .next-word .ensures .0 ∙ after-more i rest (drop at line)
+          (c .before .before .before .before .before .before .before .before .before .before .loop .inv .0),
       search needs,
       search needs,
       below-more _ _ (c .before .before .before .before .before .before .before .before .before .before .loop .inv .3)
-          (ap numberOf (sym (word-cut line at (c .before .before .before .before .before .before .before .before .word-end .result) i rest (c .before .before .before .before .before .before .before .before .word-end .ensures .0) (c .before .before .before .before .before .before .before .before .before .before .loop .inv .0))) ∙ sym (c .before .before .before .before .before .before .number-of .ensures) ∙ c .before .before .before .before .n .given .1 ∙ ap Value (c .before .if1 .left)),
+          (ap numberOf (sym (word-cut line at (c .before .before .before .before .before .before .before .before .word-end .result) i rest
+          (c .before .before .before .before .before .before .before .before .word-end .ensures .0)
+          (c .before .before .before .before .before .before .before .before .before .before .loop .inv .0)))
+          ∙ sym (c .before .before .before .before .before .before .number-of .ensures) ∙ c .before .before .before .before .n .given .1
+          ∙ ap Value (c .before .if1 .left)),
     )
 
 returns-3 : tie.Need-returns-3 Inv-loop μ-loop

@@ -1,15 +1,11 @@
 use Prim.Native.Nat.{_+_, _-_, _≤_}
 use mathlib.Core.Path.{_≡_}
-use native.Mathlib.Omega.{arith}
 use lib.ListN.{length, drop}
-use Rattle.replay_calls.specs.CallsWords.{spaces}
-use Rattle.replay_calls.proofs.CallsWords.{spaces-more, spaces-end}
+use Rattle.replay_calls.specs.LineWords.{spaces}
+use Rattle.replay_calls.proofs.LineWords.{spaces-more, spaces-end}
 use Rattle.replay_calls.proofs.calls.parse.count_words.Statement.{statement}
 use Rattle.replay_calls.proofs.calls.parse.count_words.Tie as tie
 use borrow.Author.Needs.{needs}
-use Rattle.replay_calls.proofs.calls.parse.count_words.Reads as reads
-use Rattle.replay_calls.proofs.calls.parse.count_words.Lts as lts
-use Rattle.replay_calls.proofs.calls.parse.is_space.Reads as is-space-reads
 
 abbrev Inv-loop : tie.InvT-loop
 Inv-loop line n₀ i₀ n i = (n + spaces (drop i line) ≡ spaces line + 1) × (n ≤ i + 1) × (i ≤ length line)
@@ -36,7 +32,10 @@ loop-less : tie.Need-loop-less Inv-loop μ-loop
 loop-less c = search needs
 
 loop-again : tie.Need-loop-again Inv-loop μ-loop
-loop-again c = let e = spaces-more (c .before .before .before .before .before .args .line .now) (c .before .before .before .loop .i) (c .before .before .loop-test .taken) in let f = c .is-space .ensures .0 in search needs
+loop-again c =
+    let e = spaces-more (c .before .before .before .before .before .args .line .now) (c .before .before .before .loop .i)
+    (c .before .before .loop-test .taken) in
+    let f = c .is-space .ensures .0 in search needs
 
 returns : tie.Need-returns Inv-loop μ-loop
 returns c = let e = spaces-end (c .before .before .before .args .line .now) (c .before .loop .i) (search needs) in search needs

@@ -2,9 +2,6 @@ use borrow.Author.Tests.{eq-eqb, ne-eqb}
 use native.Mathlib.Omega.{arith}
 use Rattle.replay_calls.proofs.calls.parse.is_space.Statement.{statement}
 use Rattle.replay_calls.proofs.calls.parse.is_space.Tie as tie
-use borrow.Author.Needs.{needs}
-use Rattle.replay_calls.proofs.calls.parse.is_space.Reads as reads
-use Rattle.replay_calls.proofs.calls.parse.is_space.Lts as lts
 
 returns : tie.Need-returns
 returns c = (rw (eq-eqb (c .before .args .b) 32 (c .if1 .taken)), omega arith)

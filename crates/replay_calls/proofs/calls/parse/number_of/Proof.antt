@@ -1,11 +1,8 @@
 use mathlib.Core.Path.{sym, _∙_}
-use Rattle.replay_calls.proofs.CallsWords.{number-empty, number-long, number-dash, number-one}
+use Rattle.replay_calls.proofs.LineWords.{number-empty, number-long, number-dash, number-one}
 use Rattle.replay_calls.proofs.calls.parse.number_of.Statement.{statement}
 use Rattle.replay_calls.proofs.calls.parse.number_of.Tie as tie
 use borrow.Author.Needs.{needs}
-use Rattle.replay_calls.proofs.calls.parse.number_of.Reads as reads
-use Rattle.replay_calls.proofs.calls.parse.number_of.Lts as lts
-use Rattle.replay_calls.proofs.calls.parse.digits.Reads as digits-reads
 
 returns : tie.Need-returns
 returns c = sym (number-empty (c .before .before .args .word .now) (c .if1 .taken))
@@ -26,7 +23,9 @@ digits-requires-2 : tie.Need-digits-requires-2
 digits-requires-2 c κs = search needs
 
 returns-4 : tie.Need-returns-4
-returns-4 c = c .digits2 .ensures ∙ sym (number-one (c .before .before .before .before .before .before .args .word .now) (c .before .before .before .if2 .left) (c .before .if3 .left))
+returns-4 c =
+    c .digits2 .ensures ∙ sym (number-one (c .before .before .before .before .before .before .args .word .now) (c .before .before .before .if2 .left)
+    (c .before .if3 .left))
 
 pub number-of-spec : {M : Type 1} → statement M
 number-of-spec =

@@ -2,16 +2,12 @@ use Prim.Native.Nat.{ℕ, _+_, _-_, _<_, _≤_}
 use mathlib.Core.Path.{_≡_, refl, sym, ap, _∙_}
 use native.Mathlib.Omega.{arith}
 use lib.ListN.{length, getD, length-set}
-use Rattle.replay_calls.specs.CallsWords.{wordOf, numberOf}
+use Rattle.replay_calls.specs.LineWords.{wordOf, numberOf}
 use Rattle.replay_calls.specs.declared.calls.parse.Number.the-variants.{Value}
-use Rattle.replay_calls.proofs.CallsWords.{set-below}
+use Rattle.replay_calls.proofs.LineWords.{set-below}
 use Rattle.replay_calls.proofs.calls.parse.read_first_numbers.Statement.{statement}
 use Rattle.replay_calls.proofs.calls.parse.read_first_numbers.Tie as tie
 use borrow.Author.Needs.{needs}
-use Rattle.replay_calls.proofs.calls.parse.read_first_numbers.Reads as reads
-use Rattle.replay_calls.proofs.calls.parse.read_first_numbers.Lts as lts
-use Rattle.replay_calls.proofs.calls.parse.number_of.Reads as number-of-reads
-use Rattle.replay_calls.proofs.calls.parse.word.Reads as word-reads
 
 abbrev Inv-loop : tie.InvT-loop
 Inv-loop line from numbers₀ i₀ numbers i =
@@ -63,7 +59,9 @@ loop-again c =
     let i = c .before .before .before .before .before .before .loop .i in (
       simp length-set (omega arith),
       simp length-set (omega arith),
-      set-below (λ (j v : ℕ). numberOf (wordOf (from + j) line) ≡ Value v) (c .before .before .before .before .before .before .loop .numbers) i (c .before .n .given .0 .0) (c .before .before .before .before .before .loop-test .taken) (c .before .before .before .before .before .before .loop .inv .2)
+      set-below (λ (j v : ℕ). numberOf (wordOf (from + j) line) ≡ Value v) (c .before .before .before .before .before .before .loop .numbers) i
+          (c .before .n .given .0 .0) (c .before .before .before .before .before .loop-test .taken)
+          (c .before .before .before .before .before .before .loop .inv .2)
           (ap numberOf (sym (c .before .before .before .before .word .ensures)) ∙ sym (c .before .before .before .number-of .ensures) ∙ c .before .n .given .1),
     )
 

@@ -2,10 +2,6 @@ use native.Mathlib.Omega.{arith}
 use Rattle.replay_calls.proofs.calls.parse.read_numbers.Statement.{statement}
 use Rattle.replay_calls.proofs.calls.parse.read_numbers.Tie as tie
 use borrow.Author.Needs.{needs}
-use Rattle.replay_calls.proofs.calls.parse.read_numbers.Reads as reads
-use Rattle.replay_calls.proofs.calls.parse.read_numbers.Lts as lts
-use Rattle.replay_calls.proofs.calls.parse.count_words.Reads as count-words-reads
-use Rattle.replay_calls.proofs.calls.parse.read_first_numbers.Reads as read-first-numbers-reads
 
 count-words-requires : tie.Need-count-words-requires
 count-words-requires c κs = search needs

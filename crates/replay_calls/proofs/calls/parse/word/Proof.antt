@@ -1,11 +1,7 @@
-use Rattle.replay_calls.proofs.CallsWords.{word-cut}
+use Rattle.replay_calls.proofs.LineWords.{word-cut}
 use Rattle.replay_calls.proofs.calls.parse.word.Statement.{statement}
 use Rattle.replay_calls.proofs.calls.parse.word.Tie as tie
 use borrow.Author.Needs.{needs}
-use Rattle.replay_calls.proofs.calls.parse.word.Reads as reads
-use Rattle.replay_calls.proofs.calls.parse.word.Lts as lts
-use Rattle.replay_calls.proofs.calls.parse.word_end.Reads as word-end-reads
-use Rattle.replay_calls.proofs.calls.parse.word_place.Reads as word-place-reads
 
 word-place-requires : tie.Need-word-place-requires
 word-place-requires c κs = search needs
@@ -23,7 +19,10 @@ part-result-end : tie.Need-part-result-end
 part-result-end c = search needs
 
 returns : tie.Need-returns
-returns c = word-cut (c .before .before .before .before .args .line .now) (c .before .before .word-place .result) (c .before .word-end .result) (c .before .before .before .before .args .k) (c .before .before .before .before .args .line .now) (c .before .word-end .ensures .0) (c .before .before .word-place .ensures .0)
+returns c =
+    word-cut (c .before .before .before .before .args .line .now) (c .before .before .word-place .result) (c .before .word-end .result)
+    (c .before .before .before .before .args .k) (c .before .before .before .before .args .line .now) (c .before .word-end .ensures .0)
+    (c .before .before .word-place .ensures .0)
 
 pub word-spec : {M : Type 1} → statement M
 word-spec =

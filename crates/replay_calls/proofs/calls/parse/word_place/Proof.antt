@@ -2,14 +2,11 @@ use Prim.Native.Nat.{ℕ, _-_, _≤_}
 use mathlib.Core.Path.{_≡_, refl, ap, _∙_}
 use native.Mathlib.Omega.{arith}
 use lib.ListN.{length, drop}
-use Rattle.replay_calls.specs.CallsWords.{afterWords}
-use Rattle.replay_calls.proofs.CallsWords.{after-more}
+use Rattle.replay_calls.specs.LineWords.{afterWords}
+use Rattle.replay_calls.proofs.LineWords.{after-more}
 use Rattle.replay_calls.proofs.calls.parse.word_place.Statement.{statement}
 use Rattle.replay_calls.proofs.calls.parse.word_place.Tie as tie
 use borrow.Author.Needs.{needs}
-use Rattle.replay_calls.proofs.calls.parse.word_place.Reads as reads
-use Rattle.replay_calls.proofs.calls.parse.word_place.Lts as lts
-use Rattle.replay_calls.proofs.calls.parse.next_word.Reads as next-word-reads
 
 abbrev Inv-loop : tie.InvT-loop
 Inv-loop line k at₀ i₀ at i = (drop at line ≡ afterWords i line) × (at ≤ length line) × (i ≤ k)
@@ -31,7 +28,12 @@ loop-less : tie.Need-loop-less Inv-loop μ-loop
 loop-less c = search needs
 
 loop-again : tie.Need-loop-again Inv-loop μ-loop
-loop-again c = (c .next-word .ensures .0 ∙ after-more (c .before .before .loop .i) (c .before .before .before .before .args .line .now) (drop (c .before .before .loop .at) (c .before .before .before .before .args .line .now)) (c .before .before .loop .inv .0), search needs, search needs)
+loop-again c = (
+  c .next-word .ensures .0 ∙ after-more (c .before .before .loop .i) (c .before .before .before .before .args .line .now)
+      (drop (c .before .before .loop .at) (c .before .before .before .before .args .line .now)) (c .before .before .loop .inv .0),
+  search needs,
+  search needs,
+)
 
 returns : tie.Need-returns Inv-loop μ-loop
 returns c =

@@ -2,11 +2,6 @@ use Prim.Native.Nat.{_-_, _≤_}
 use borrow.Author.Needs.{needs}
 use Rattle.replay_calls.proofs.steps.command.place_of.Statement.{statement}
 use Rattle.replay_calls.proofs.steps.command.place_of.Tie as tie
-use Rattle.replay_calls.proofs.steps.command.place_of.Reads as reads
-use Rattle.replay_calls.proofs.steps.command.place_of.Lts as lts
-use Rattle.replay_calls.proofs.calls.parse.count_words.Reads as count-words-reads
-use Rattle.replay_calls.proofs.calls.parse.word.Reads as word-reads
-use Rattle.check.proofs.same.Reads as same-reads
 
 abbrev Inv-loop : tie.InvT-loop
 Inv-loop name names n k₀ k = k ≤ n

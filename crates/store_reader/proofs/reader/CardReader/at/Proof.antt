@@ -45,7 +45,8 @@ use Rattle.store_reader.proofs.reader.CardReader.at.Code as code
 abbrev stayed : Stays (fn.ended .signature .params) (fn.ended .kept)
 stayed = (stay-none-slice (0 ∷ []) tt (plain (λ _. u8)) yes, (stay-none-slice (1 ∷ []) tt (plain (λ _. u32)) yes, (stay-none (λ _. usize) yes, tt)))
 
-module _ {M : Type 1} (𝓤 : URA M) (H : Heap 𝓤) (A : Atoms 𝓤) (W : Given 𝓤 H A) (mem : Memory → SProp 𝓤) (run : Routine → Fun 𝓤) (κ κ′ : Lft) (q q′ : Share) (t w : RefT (List ℕ)) (n : ℕ) (ok : n < 2 ^ 64) where
+module _ {M : Type 1} (𝓤 : URA M) (H : Heap 𝓤) (A : Atoms 𝓤) (W : Given 𝓤 H A) (mem : Memory → SProp 𝓤) (run : Routine → Fun 𝓤) (κ κ′ : Lft)
+    (q q′ : Share) (t w : RefT (List ℕ)) (n : ℕ) (ok : n < 2 ^ 64) where
   abbrev κs : Lfts 2
   κs = (κ, (κ′, tt))
 
@@ -73,8 +74,12 @@ module _ {M : Type 1} (𝓤 : URA M) (H : Heap 𝓤) (A : Atoms 𝓤) (W : Given
 
   exits : ent 𝓤 (onEntry 𝓤 H A fn.signature κs (q, (q′, tt)) (t, (w, (n, tt))) passed) (Post (T′.lowered made))
   exits =
-      qed W ((‵ (flft κ q) ⊛ ‵ (flft κ′ q′) ⊛ ‵ ftrue) ∷ ‵ (owns (ShrSlice (named 0) κ u8 ∷ ShrSlice (named 1) κ′ u32 ∷ usize ∷ []) (t, (w, (n, tt))) passed) ∷ []) ∵
-      suffices ! _ (ends-at 𝓤 H A fn.ended stayed (fn.clauses 𝓤 H A mem run) W ((κs, (q, (q′, tt)), tt, (t, (w, (n, tt))), passed), tt) (T′.lowered made) made (tt, (tt, (tt, tt))) (tt, (tt, (tt, tt)))) $ says ! (refl, refl, refl) $
+      qed W
+      ((‵ (flft κ q) ⊛ ‵ (flft κ′ q′) ⊛ ‵ ftrue) ∷ ‵ (owns (ShrSlice (named 0) κ u8 ∷ ShrSlice (named 1) κ′ u32 ∷ usize ∷ []) (t, (w, (n, tt))) passed) ∷ []) ∵
+      suffices ! _
+      (ends-at 𝓤 H A fn.ended stayed (fn.clauses 𝓤 H A mem run) W ((κs, (q, (q′, tt)), tt, (t, (w, (n, tt))), passed), tt) (T′.lowered made) made
+      (tt, (tt, (tt, tt))) (tt, (tt, (tt, tt)))) $ says !
+      (refl, refl, refl) $
       frame ! $ fsplit ! $ use1 W (‵ Text ⊛ ‵ Text) (shr-slice-copy 𝓤 H A W (named 0) κ u8 .twice t (tv ∷ [])) $ split ! $ move ! (2 ∷ []) $
       fsplit ! $ use1 W (‵ Words ⊛ ‵ Words) (shr-slice-copy 𝓤 H A W (named 1) κ′ u32 .twice w (wv ∷ [])) $ split ! $
       -- [what words owns; the same; what card owns; what text owns; the same]
@@ -90,8 +95,16 @@ module _ {M : Type 1} (𝓤 : URA M) (H : Heap 𝓤) (A : Atoms 𝓤) (W : Given
         let wt = shr-slice-lawful 𝓤 H A W (named 0) κ u8 .typed t (tv ∷ []) p .0 in
         let wt′ = shr-slice-lawful 𝓤 H A W (named 1) κ′ u32 .typed w (wv ∷ []) p′ .0 in
         qed W (raw (onEntry 𝓤 H A fn.signature κs (q, (q′, tt)) (t, (w, (n, tt))) passed) ∷ []) ∵ enter ! C Λ code.function (tv ∷ wv ∷ vint w64 n ∷ []) _ $
-        alloc1 ! (λ l₀. alloc1 ! (λ l₁. alloc1 ! (λ l₂. alloc1 ! (λ l₃. alloc0 ! $ params1 ! $ pass1 ! (init ! 4 refl wt) $ pass1 ! (init ! 2 refl wt′) $ pass1 ! (init ! 0 refl (tt, record { fits = ok })) $ pass0 ! $
-        assigns ! (agg ! (and-then ! (load ! (from ! (stop !)) (look ! 4 refl)) (and-then ! (load ! (from ! (stop !)) (look ! 2 refl)) (and-then ! (load ! (from ! (stop !)) (look ! 0 refl)) (no-more !))))) (from ! (stop !))
+        alloc1 !
+        (λ l₀. alloc1 !
+        (λ l₁. alloc1 !
+        (λ l₂. alloc1 !
+        (λ l₃. alloc0 ! $ params1 ! $ pass1 ! (init ! 4 refl wt) $ pass1 ! (init ! 2 refl wt′) $ pass1 ! (init ! 0 refl (tt, record { fits = ok })) $ pass0 ! $
+        assigns !
+        (agg !
+        (and-then ! (load ! (from ! (stop !)) (look ! 4 refl))
+        (and-then ! (load ! (from ! (stop !)) (look ! 2 refl)) (and-then ! (load ! (from ! (stop !)) (look ! 0 refl)) (no-more !)))))
+        (from ! (stop !))
         (init ! 6 refl (tt, (wt .1, (wt′ .1, (record { fits = ok }, tt))))) $
         returns ! (look ! 6 refl) $ forget ! 0 refl $ forget ! 2 refl $ forget ! 4 refl $ forget ! 6 refl $
         move ! (6 ∷ 7 ∷ []) $ free1 ! $ move ! (4 ∷ 5 ∷ []) $ free1 ! $ move ! (2 ∷ 3 ∷ []) $ free1 ! $ free1 ! $ free0 ! $ by ! exits))))
@@ -100,12 +113,15 @@ module _ {M : Type 1} (𝓤 : URA M) (H : Heap 𝓤) (A : Atoms 𝓤) (W : Given
   at-walks : (C : Calls 𝓤 H) (Λ : Loops 𝓤 H) → Walks 𝓤 H A fn.ended stayed (WpFn 𝓤 H C Λ code.function) (fn.clauses 𝓤 H A mem run)
   at-walks C Λ = walked 𝓤 H A fn.ended stayed (fn.clauses 𝓤 H A mem run) (WpFn 𝓤 H C Λ code.function) (λ κs. (slice-vals, (slice-vals, (uint-vals w64, tt))))
       (λ κs. (shr-slice-tells (named 0) (κs .0) u8, (shr-slice-tells (named 1) (κs .1 .0) u32, (uint-tells w64, tt))))
-      (λ κs qs bounds a g are. via 𝓤 _ (fst∗ 𝓤 _ (emp 𝓤)) (walk 𝓤 H A W mem run (κs .0) (κs .1 .0) (qs .0) (qs .1 .0) (a .0) (a .1 .0) (a .1 .1 .0) (are .1 .1 .0 .1) C Λ (are .0) (are .1 .0)))
+      (λ κs qs bounds a g are. via 𝓤 _ (fst∗ 𝓤 _ (emp 𝓤))
+      (walk 𝓤 H A W mem run (κs .0) (κs .1 .0) (qs .0) (qs .1 .0) (a .0) (a .1 .0) (a .1 .1 .0) (are .1 .1 .0 .1) C Λ (are .0) (are .1 .0)))
 
 at-meets : {M : Type 1} (𝓤 : URA M) (H : Heap 𝓤) (A : Atoms 𝓤) → Given 𝓤 H A → (mem : Memory → SProp 𝓤) (run : Routine → Fun 𝓤) (𝓣 : Tables 𝓤 H)
     → Meets 𝓤 H A fn.signature (WpFn 𝓤 H (𝓣 .C) (𝓣 .Λ) code.function) (fn.spec 𝓤 H A mem run)
-at-meets 𝓤 H A W mem run 𝓣 = walk-meets 𝓤 H A fn.ended stayed W
-    (goes-none-slice 𝓤 H A W 2 (0 ∷ []) tt (plain (λ _. u8)) yes, (goes-none-slice 𝓤 H A W 2 (1 ∷ []) tt (plain (λ _. u32)) yes, (goes-none 𝓤 H A W 2 (λ _. usize) yes (λ κs x f. refl), tt)))
+at-meets 𝓤 H A W mem run 𝓣 = walk-meets 𝓤 H A fn.ended stayed W (
+  goes-none-slice 𝓤 H A W 2 (0 ∷ []) tt (plain (λ _. u8)) yes,
+  (goes-none-slice 𝓤 H A W 2 (1 ∷ []) tt (plain (λ _. u32)) yes, (goes-none 𝓤 H A W 2 (λ _. usize) yes (λ κs x f. refl), tt)),
+)
     (fn.clauses 𝓤 H A mem run) (WpFn 𝓤 H (𝓣 .C) (𝓣 .Λ) code.function) (WpFn-mono 𝓤 H (W .laws) 𝓣 code.function) (at-walks 𝓤 H A W mem run (𝓣 .C) (𝓣 .Λ))
 
 pub at-spec : {M : Type 1} → stated.statement M

@@ -1,0 +1,29 @@
+// The numbers of refusals, by what is wrong.
+
+// Of what is lent.
+pub const CARDS_NOT_WHOLE: u32 = 1;
+
+pub const UNKNOWN_KIND: u32 = 2;
+
+pub const ITEM_MISPLACED: u32 = 3;
+
+pub const NAME_FAULTY: u32 = 4;
+
+pub const PART_MISPLACED: u32 = 5;
+
+pub const BUILT_INS_FAULTY: u32 = 6;
+
+pub const SLICE_TOO_SHORT: u32 = 7;
+
+// Of what the store is.
+pub const STORE_TOO_SHORT: u32 = 21;
+
+pub const STORE_UNSOUND: u32 = 22;
+
+pub const DOCUMENTS_FULL: u32 = 23;
+
+pub const TEXT_FULL: u32 = 24;
+
+pub const CARDS_FULL: u32 = 25;
+
+pub const ROWS_UNSOUND: u32 = 26;
