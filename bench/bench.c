@@ -73,14 +73,13 @@ __attribute__((noinline)) static void draw(void) {
 static void ask(char *const *line) {
     const uint8_t *a = (const uint8_t *)line[1], *b = (const uint8_t *)line[2];
     size_t a_length = a ? strlen(line[1]) : 0, b_length = b ? strlen(line[2]) : 0;
-    uint32_t number, meta, card;
     uint8_t name[256];
     switch (line[0][0]) {
     case 'f':
-        gimletaspen_type_field(STORE, rows, rows_length, a, a_length, b, b_length, &number, &meta, &card);
+        gimletaspen_type_field(STORE, rows, rows_length, a, a_length, b, b_length);
         break;
     case 's':
-        gimletaspen_is_subtype(STORE, rows, rows_length, a, a_length, b, b_length, &number);
+        gimletaspen_is_subtype(STORE, rows, rows_length, a, a_length, b, b_length);
         break;
     case 'r':
         gimletaspen_root_operation(STORE, rows, rows_length, (uint32_t)atoi(line[1]), name, sizeof name);

@@ -8,10 +8,9 @@
 
 #define FILE_BYTES (1 << 20)
 
-/* What the header says in words: a row is three words, so is what stands before a group's cards, and these are the numbers of a field's answer. */
-#define WORDS_OF_ROW 3
+/* What the header says in words: three words stand before a group's cards. */
 #define GROUP_CARDS 3
-enum { NO_TYPE = 2, NO_FIELD = 3 };
+#define WORDS_OF_ROW GIMLETASPEN_WORDS_PER_ROW
 
 static uint8_t text[GIMLETASPEN_TEXT_BYTES];
 static uint32_t words[GIMLETASPEN_STORE_WORDS];
@@ -129,24 +128,24 @@ static void print_listing(void) {
 }
 
 static void answer_field(const char *owner, const char *field) {
-    uint32_t number, meta, card;
-    uint32_t refusal = gimletaspen_type_field(DRAWN, (const uint8_t *)owner, strlen(owner), (const uint8_t *)field, strlen(field), &number, &meta, &card);
-    stop_if_refused(refusal, 0);
-    if (number == NO_TYPE)
+    struct gimletaspen_field_lookup found =
+        gimletaspen_type_field(DRAWN, (const uint8_t *)owner, strlen(owner), (const uint8_t *)field, strlen(field));
+    stop_if_refused(found.refusal, 0);
+    if (found.number == GIMLETASPEN_FIELD_NO_SUCH_TYPE)
         puts("no type");
-    else if (number == NO_FIELD)
-        printf("no field %u\n", card);
-    else if (meta == 0)
-        printf("found %u\n", card);
+    else if (found.number == GIMLETASPEN_FIELD_NO_SUCH_FIELD)
+        printf("no field %u\n", found.card);
+    else if (found.meta == GIMLETASPEN_META_EXPLICIT)
+        printf("found %u\n", found.card);
     else
-        printf("meta %u\n", meta);
+        printf("meta %u\n", found.meta);
 }
 
 static void answer_subtype(const char *general, const char *other) {
-    uint32_t yes;
-    uint32_t refusal = gimletaspen_is_subtype(DRAWN, (const uint8_t *)general, strlen(general), (const uint8_t *)other, strlen(other), &yes);
-    stop_if_refused(refusal, 0);
-    puts(yes ? "yes" : "no");
+    struct gimletaspen_subtype_lookup told =
+        gimletaspen_is_subtype(DRAWN, (const uint8_t *)general, strlen(general), (const uint8_t *)other, strlen(other));
+    stop_if_refused(told.refusal, 0);
+    puts(told.yes ? "yes" : "no");
 }
 
 static void answer_root(const char *kind) {

@@ -1,4 +1,4 @@
-//! The same as the C example, from Rust: declarations of the exported functions, and a safe wrapper for those that it uses.
+//! The library from Rust: declarations of exported functions, and a safe wrapper for each that is used. The C example uses them all.
 
 mod exported {
     #[repr(C)]
@@ -22,6 +22,20 @@ mod exported {
         pub tallies: Tallies,
     }
 
+    #[repr(C)]
+    pub struct FieldLookup {
+        pub refusal: u32,
+        pub number: u32,
+        pub meta: u32,
+        pub card: u32,
+    }
+
+    #[repr(C)]
+    pub struct SubtypeLookup {
+        pub refusal: u32,
+        pub yes: u32,
+    }
+
     #[rustfmt::skip]
     unsafe extern "C" {
         pub fn gimletaspen_open(
@@ -39,8 +53,11 @@ mod exported {
         pub fn gimletaspen_type_field(
             text: *const u8, text_length: usize, words: *const u32, words_length: usize, rows: *const u32, rows_length: usize,
             type_name: *const u8, type_name_length: usize, field: *const u8, field_length: usize,
-            number: *mut u32, meta: *mut u32, card: *mut u32,
-        ) -> u32;
+        ) -> FieldLookup;
+        pub fn gimletaspen_is_subtype(
+            text: *const u8, text_length: usize, words: *const u32, words_length: usize, rows: *const u32, rows_length: usize,
+            general: *const u8, general_length: usize, other: *const u8, other_length: usize,
+        ) -> SubtypeLookup;
     }
 }
 
@@ -55,6 +72,7 @@ struct Store {
 
 /// What `type_field` answers.
 #[derive(Debug)]
+#[allow(dead_code, reason = "the numbers are printed, and nothing else is done with them")]
 enum Field {
     Explicit(u32),
     Meta(u32),
@@ -95,20 +113,30 @@ impl Store {
     }
 
     fn type_field(&self, rows: &[u32], type_name: &str, field: &str) -> Field {
-        let (mut number, mut meta, mut card) = (0, 0, 0);
-        let refusal = unsafe {
+        let found = unsafe {
             exported::gimletaspen_type_field(
                 self.text.as_ptr(), self.text.len(), self.words.as_ptr(), self.words.len(), rows.as_ptr(), rows.len(),
-                type_name.as_ptr(), type_name.len(), field.as_ptr(), field.len(), &mut number, &mut meta, &mut card,
+                type_name.as_ptr(), type_name.len(), field.as_ptr(), field.len(),
             )
         };
-        match (refusal, number, meta) {
-            (0, 1, 0) => Field::Explicit(card),
+        match (found.refusal, found.number, found.meta) {
+            (0, 1, 0) => Field::Explicit(found.card),
             (0, 1, meta) => Field::Meta(meta),
             (0, 2, _) => Field::NoSuchType,
-            (0, _, _) => Field::NoSuchField(card),
+            (0, _, _) => Field::NoSuchField(found.card),
             (refusal, _, _) => Field::Refused(refusal),
         }
+    }
+
+    /// Whether it is one, or the refusal.
+    fn is_subtype(&self, rows: &[u32], general: &str, other: &str) -> Result<bool, u32> {
+        let told = unsafe {
+            exported::gimletaspen_is_subtype(
+                self.text.as_ptr(), self.text.len(), self.words.as_ptr(), self.words.len(), rows.as_ptr(), rows.len(),
+                general.as_ptr(), general.len(), other.as_ptr(), other.len(),
+            )
+        };
+        if told.refusal == 0 { Ok(told.yes == 1) } else { Err(told.refusal) }
     }
 }
 
@@ -117,7 +145,7 @@ fn main() {
     println!("open: {} {}", answer.number, answer.card);
     let answer = store.add_ast("type A{n:Int n:Int}", &[6, 0, 19, 5, 1, 22, 7, 5, 7, 1, 22, 13, 5, 13, 1]);
     println!("add_ast: {} {}", answer.number, answer.card);
-    let answer = store.add_ast("extend type A{m:Int}", &[13, 0, 20, 12, 1, 22, 14, 5, 14, 1]);
+    let answer = store.add_ast("extend type A{m:Int}union U=A", &[13, 0, 20, 12, 1, 22, 14, 5, 14, 1, 8, 20, 9, 26, 1, 23, 28, 1, 28, 1]);
     println!("add_ast: {} {}", answer.number, answer.card);
 
     let (mut rows, mut errors) = (vec![0; 6912], vec![0; 6900]);
@@ -128,5 +156,6 @@ fn main() {
     for (type_name, field) in [("A", "m"), ("A", "__typename"), ("A", "k"), ("B", "m")] {
         println!("{type_name}.{field}: {:?}", store.type_field(drawn, type_name, field));
     }
-    println!("rows one word short: {:?}", store.type_field(&drawn[1..], "A", "m"));
+    println!("A of U: {:?}, U of A: {:?}", store.is_subtype(drawn, "U", "A"), store.is_subtype(drawn, "A", "U"));
+    println!("rows one word short: {:?}, {:?}", store.type_field(&drawn[1..], "A", "m"), store.is_subtype(&drawn[1..], "U", "A"));
 }

@@ -10,10 +10,10 @@ import tempfile
 
 from loader import HEADER, ORACLE
 from lib import folders, model, sizes
-from lib.cards import cards_of, in_bytes, in_full, words_of
+from lib.cards import CARD, cards_of, in_bytes, in_full, words_of
 from lib.sizes import (
-    ADOPT, CARDS, CARDS_USED, DOCUMENTS, ERRORS, ERRORS_LENT, GROUPS_LENT, HELD, IGNORE, NONE, ORIGINS_LENT, ROWS_LENT, TEXT, TEXT_USED, WORDS, card_at,
-    document_at)
+    ADOPT, CARDS, CARDS_USED, DOCUMENTS, ERRORS, ERRORS_LENT, FIRST_CARD, GROUPS_LENT, HELD, IGNORE, NONE, ORIGINS_LENT, ROW, ROWS_LENT, TEXT, TEXT_USED,
+    WORDS, card_at, document_at)
 
 INT = 'scalar Int'
 failed = []
@@ -32,11 +32,18 @@ def same(title, got, wanted):
 
 header = folders.read(HEADER).decode()
 for name, size in (('TEXT_BYTES', TEXT), ('STORE_WORDS', WORDS), ('ROW_WORDS', ROWS_LENT), ('ERROR_WORDS', ERRORS_LENT), ('ORIGIN_WORDS', ORIGINS_LENT),
-                   ('GROUP_WORDS', GROUPS_LENT)):
+                   ('GROUP_WORDS', GROUPS_LENT), ('CARD_WORDS', CARD), ('WORDS_PER_ROW', ROW), ('CARDS_AT', FIRST_CARD), ('ERROR_NUMBERS', len(ERRORS))):
     same(f'the header\'s {name}', [size], [int(told) for told in re.findall(rf'#define GIMLETASPEN_{name} (\d+)', header)])
-told = {name: int(number) for name, number in re.findall(r'^    GIMLETASPEN_(\w+) = (\d+)', header, re.M) if number != '0'}
-same('the header\'s refusals', {name: number for name, number in vars(sizes.Refusal).items() if name.isupper()}, told)
-same('the header\'s tallies', [len(ERRORS)], [int(count) for count in re.findall(r'uint32_t counts\[(\d+)\]', header)])
+
+
+def enum(name):
+    """What an enum of the header lists, but for 0."""
+    inside = re.search(rf'^enum gimletaspen_{name} {{(.*?)^}};', header, re.M | re.S).group(1)
+    return {told: int(number) for told, number in re.findall(r'^    GIMLETASPEN_(\w+) = (\d+)', inside, re.M) if number != '0'}
+
+
+same('the header\'s refusals', {name: number for name, number in vars(sizes.Refusal).items() if name.isupper()}, enum('refusal'))
+same('the header\'s errors', ERRORS, list(enum('error').values()))
 
 
 # Drawings: documents, switches, the rows and errors wanted ('-' stands alone).

@@ -7,3 +7,5 @@ pub mod LookupOutcomes
 pub mod ListOutcomes
 pub mod BuildOutcomes
 pub mod RootOutcomes
+-- Demand 3, of the entries.
+pub mod EntriesAgree

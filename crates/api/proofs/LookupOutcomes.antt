@@ -1,5 +1,5 @@
 -- Every lookup's outcome by the one number that is refused.
-use mathlib.Core.Path.{_≡_, refl}
+use mathlib.Core.Path.{_≡_, refl, ap}
 use mathlib.Core.List.{List}
 use mathlib.Core.Bool.{Bool, true, false}
 use Prim.Native.Nat.{ℕ}
@@ -7,11 +7,13 @@ use lib.Dec.{eqb}
 use lib.ListN.{length}
 use borrow.Author.Tests.{ne-eqb}
 use Rattle.definition.specs.declared.OperationType.{OperationType}
+use Rattle.definition.specs.declared.FieldLookup.{FieldLookup}
 use Rattle.definition.specs.declared.FieldLookup.the-variants.{Refused}
+use Rattle.definition.specs.declared.SubtypeLookup.{SubtypeLookup}
 use Rattle.definition.specs.declared.SubtypeLookup.the-variants.{Subtype, NotSubtype, Refused as SubtypeRefused}
 use Rattle.definition.specs.Lists.{choose, flatMap}
 use Rattle.definition.specs.Names.{bytesAt}
-use Rattle.definition.specs.Answers.{answer}
+use Rattle.definition.specs.Answers.{answer, fieldRefusal, fieldNumber, fieldMeta, fieldCard, subtypeRefusal, subtypeNumber}
 use Rattle.definition.specs.Refusals.{groupsCapacity, originsCapacity}
 use Rattle.definition.specs.Store.{accountIn, storeRefusal}
 use Rattle.definition.specs.LentRows.{held, lentRows, rowsRefusal}
@@ -20,6 +22,7 @@ use Rattle.definition.specs.Outcomes.{checkOf, check-rows, noRoot, rootBytes, p
 use Rattle.definition.specs.Outcomes.{subtypeAnswer, is-subtype, unlisted, listedIn, isShort, unlessRefused, originsOf, extensionsIn}
 use Rattle.definition.specs.Outcomes.{implementersOf, iter-origins, extensions, implementers-map}
 use Rattle.api.specs.LookupRefusal.{lookupRefusal}
+use Rattle.api.specs.Promised.{SameField, SameSubtype}
 
 -- ---- Each lookup's outcome.
 
@@ -118,3 +121,11 @@ module _ {A : Type 0} (n r : ℕ) (e : r ≡ n) (done : A) (refused : ℕ → A)
 
   pub outcome-done : (a : A) → r ≡ 0 → a ≡ done → a ≡ outcome
   outcome-done a z d = rw (by, ← e, z, d)
+
+-- ---- An answer that is the outcome has its numbers.
+
+pub finds-field : (r outcome : FieldLookup) → r ≡ outcome → (r ≡ outcome) × SameField r outcome
+finds-field r outcome e = (e, (ap fieldRefusal e, ap fieldNumber e, ap fieldMeta e, ap fieldCard e))
+
+pub tells-subtype : (r outcome : SubtypeLookup) → r ≡ outcome → (r ≡ outcome) × SameSubtype r outcome
+tells-subtype r outcome e = (e, (ap subtypeRefusal e, ap subtypeNumber e))

@@ -8,7 +8,7 @@ use definition::SubtypeLookup;
 use definition::layout::GROUPS_CAPACITY;
 use definition::layout::ORIGINS_CAPACITY;
 ghost use Rattle.api.specs.Promised.{Opens, Files, Adopts, Ignores, Builds};
-ghost use Rattle.api.specs.Promised.{ChecksRows, NamesRoot, FindsField, TellsSubtype, ListsOrigins, ListsExtensions, MapsImplementers};
+ghost use Rattle.api.specs.Promised.{ChecksRows, partIn, LiesIn, NamesRoot, FindsField, TellsSubtype, ListsOrigins, ListsExtensions, MapsImplementers};
 
 pub mod answers;
 pub mod refusals;
@@ -72,7 +72,8 @@ pub fn root_operation<'a>(
     rows: &[u32],
     op: OperationType,
 ) -> &'a [u8]
-    ensures { λ r. ⌜ NamesRoot (now (text .entry)) (now (words .entry)) (now (rows .entry)) op (now r) ⌝ }
+    ensures { λ r. ⌜ NamesRoot (now (text .entry)) (now (words .entry)) (now (rows .entry)) op (partIn (text .entry) r)
+        × LiesIn (text .entry) r ⌝ }
 {
     if crate::refusals::lookup_refusal(text, words, rows) != 0 {
         return &text[0..0];

@@ -1,13 +1,13 @@
 -- One law for each way that a turn of a loop, or a branch, can go.
-use mathlib.Core.Path.{_≡_, refl, sym, ap, _∙_}
+use mathlib.Core.Path.{_≡_, refl, sym, ap, _∙_, subst}
 use mathlib.Core.Bool.{Bool, true, false, _&&_}
 use mathlib.Core.List.{List, [], _∷_, _++_, map}
-use Prim.Native.Nat.{ℕ, suc, _+_, _-_, _*_, _≤_, _<_}
+use Prim.Native.Nat.{ℕ, zero, suc, _+_, _-_, _*_, _≤_, _<_}
 use native.Mathlib.Omega.{arith}
 use borrow.Author.Tests.{eq-eqb, ne-eqb, lt-ltb, le-ltb}
 use lib.Dec.{eqb, leb}
 use lib.ListN.{length, getD, drop}
-use Rattle.definition.specs.Lists.{filter, any, flatMap}
+use Rattle.definition.specs.Lists.{choose, filter, any, flatMap}
 use Rattle.definition.specs.Answers.{absent}
 use Rattle.definition.specs.Cards.{isRoot, isPart, definitionOf}
 use Rattle.definition.specs.Headings.{NamedCard, isOf, isKind, isNamed}
@@ -18,11 +18,11 @@ use Rattle.from_ast_index.specs.Index.{sameCards, isTypeExtensionKind}
 use Rattle.from_ast_index.proofs.Lists.{drop-next, drop-end}
 use Rattle.store_reader.specs.Stored.{cardKind, cardAt, builtInCount, builtInAt, partsFrom, storedParts}
 use Rattle.store_reader.proofs.Words.{parts-next, parts-stop, parts-end}
-use Rattle.component.specs.Pushed.{Filled, Fits, rowIn, rowsFrom, alikeRows, pushed, extendSticky, rowsOfKind}
+use Rattle.component.specs.Pushed.{Filled, filled, Fits, rowIn, rowsFrom, usedFrom, placeOf, alikeRows, pushed, extendSticky, rowsOfKind}
 use Rattle.component.specs.RowsByCards.{sameStored, headRows, extendByCard, extendByHeading, extensionRows, listRows, listAt, listsAt}
 use Rattle.component.specs.RowsByCards.{typeRowAt, standingCard, namesDirective, standingAt, directiveRowsOf, directiveRowsAt}
 use Rattle.component.proofs.Pushing.{Left, rest-begin}
-use Rattle.component.proofs.Sticky.{extended-none, Growing, Extending, grow-fresh, grow-begin, grow-end, grow-capacity, grow-next}
+use Rattle.component.proofs.Sticky.{extended-none, extended-old, extended-new, capacity-new, Growing, Extending, grow-fresh, grow-begin, grow-end, grow-capacity, grow-next}
 use Rattle.component.proofs.Listed.{kind-append}
 
 -- ---- Two stored cards.
@@ -51,44 +51,102 @@ module _ (same : ℕ → ℕ → Bool) (kind card : ℕ) where
   unfolding alikeRows isRoot
   use-unlike s e = rw e (and-false (eqb 20 (s .what)))
 
-  pub listed-use : (rs : List Row) → kind ≡ 20 → any (alikeRows same (row kind card 0)) rs ≡ false
-  unfolding any
-  listed-use [] e = refl
-  listed-use (r ∷ rs) e = rw (use-unlike r e, listed-use rs e)
+  pub alike-use : (used i : ℕ) (rs : List Row) → kind ≡ 20 → placeOf (alikeRows same (row kind card 0)) used i rs ≡ used
+  unfolding placeOf
+  alike-use used i [] e = refl
+  alike-use used i (r ∷ rs) e = rw (use-unlike r e, alike-use used (i + 1) rs e)
 
   module _ (ws : List ℕ) (used i : ℕ) where
     next-row : i < used → rowsFrom ws i (used - i) ≡ rowIn ws i ∷ rowsFrom ws (i + 1) (used - (i + 1))
     unfolding rowsFrom
     next-row h = let e : used - i ≡ suc (used - (i + 1)) = omega arith in rw e
 
-    pub listed-root : i < used → getD ws (3 * i) 0 ≡ kind → isRoot kind ≡ true → any (alikeRows same (row kind card 0)) (rowsFrom ws i (used - i)) ≡ true
-    unfolding any alikeRows rowIn
-    listed-root h e l = rw (next-row h, e, eq-eqb kind kind refl, l)
+    pub alike-root : i < used → getD ws (3 * i) 0 ≡ kind → isRoot kind ≡ true →
+        placeOf (alikeRows same (row kind card 0)) used i (rowsFrom ws i (used - i)) ≡ i
+    unfolding placeOf alikeRows rowIn
+    alike-root h e l = rw (next-row h, e, eq-eqb kind kind refl, l)
 
-    pub listed-hit : i < used → getD ws (3 * i) 0 ≡ kind → isRoot kind ≡ false → (kind ≡ 20 → ⊥) → same card (getD ws (3 * i + 1) 0) ≡ true
-        → any (alikeRows same (row kind card 0)) (rowsFrom ws i (used - i)) ≡ true
-    unfolding any alikeRows rowIn
-    listed-hit h e l m s = rw (next-row h, e, eq-eqb kind kind refl, l, ne-eqb kind 20 m, s)
+    pub alike-hit : i < used → getD ws (3 * i) 0 ≡ kind → isRoot kind ≡ false → (kind ≡ 20 → ⊥) → same card (getD ws (3 * i + 1) 0) ≡ true →
+        placeOf (alikeRows same (row kind card 0)) used i (rowsFrom ws i (used - i)) ≡ i
+    unfolding placeOf alikeRows rowIn
+    alike-hit h e l m s = rw (next-row h, e, eq-eqb kind kind refl, l, ne-eqb kind 20 m, s)
 
-    pub listed-miss : i < used → getD ws (3 * i) 0 ≡ kind → isRoot kind ≡ false → (kind ≡ 20 → ⊥) → same card (getD ws (3 * i + 1) 0) ≡ false
-        → any (alikeRows same (row kind card 0)) (rowsFrom ws i (used - i)) ≡ any (alikeRows same (row kind card 0)) (rowsFrom ws (i + 1) (used - (i + 1)))
-    unfolding any alikeRows rowIn
-    listed-miss h e l m s = rw (next-row h, e, eq-eqb kind kind refl, l, ne-eqb kind 20 m, s)
+    pub alike-miss : i < used → getD ws (3 * i) 0 ≡ kind → isRoot kind ≡ false → (kind ≡ 20 → ⊥) → same card (getD ws (3 * i + 1) 0) ≡ false →
+        placeOf (alikeRows same (row kind card 0)) used i (rowsFrom ws i (used - i)) ≡
+        placeOf (alikeRows same (row kind card 0)) used (i + 1) (rowsFrom ws (i + 1) (used - (i + 1)))
+    unfolding placeOf alikeRows rowIn
+    alike-miss h e l m s = rw (next-row h, e, eq-eqb kind kind refl, l, ne-eqb kind 20 m, s)
 
-    pub listed-other : i < used → (getD ws (3 * i) 0 ≡ kind → ⊥)
-        → any (alikeRows same (row kind card 0)) (rowsFrom ws i (used - i)) ≡ any (alikeRows same (row kind card 0)) (rowsFrom ws (i + 1) (used - (i + 1)))
-    unfolding any alikeRows rowIn
-    listed-other h e = rw (next-row h, ne-eqb kind (getD ws (3 * i) 0) (λ q. e (sym q)))
+    pub alike-other : i < used → (getD ws (3 * i) 0 ≡ kind → ⊥) →
+        placeOf (alikeRows same (row kind card 0)) used i (rowsFrom ws i (used - i)) ≡
+        placeOf (alikeRows same (row kind card 0)) used (i + 1) (rowsFrom ws (i + 1) (used - (i + 1)))
+    unfolding placeOf alikeRows rowIn
+    alike-other h e = rw (next-row h, ne-eqb kind (getD ws (3 * i) 0) (λ q. e (sym q)))
 
-    pub listed-end : used ≤ i → any (alikeRows same (row kind card 0)) (rowsFrom ws i (used - i)) ≡ false
-    unfolding any rowsFrom
-    listed-end h = let e : used - i ≡ 0 = omega arith in rw e
+    pub alike-end : used ≤ i → placeOf (alikeRows same (row kind card 0)) used i (rowsFrom ws i (used - i)) ≡ used
+    unfolding placeOf rowsFrom
+    alike-end h = let e : used - i ≡ 0 = omega arith in rw e
 
--- the origin is not asked
-pub listed-origin : (same : ℕ → ℕ → Bool) (kind card origin : ℕ) (rs : List Row) →
+-- A place among the rows is that of a row which passes; of no others is there none.
+module _ (p : Row → Bool) (none : ℕ) where
+  pub place-old : (i : ℕ) (rs : List Row) → placeOf p none i rs < none → any p rs ≡ true
+  unfolding placeOf any
+  place-old i [] h = absurd (omega arith)
+  place-old i (r ∷ rs) h = go (p r) h (place-old (i + 1) rs)
+    where
+      go : (b : Bool) → choose b i (placeOf p none (i + 1) rs) < none → (placeOf p none (i + 1) rs < none → any p rs ≡ true) →
+          choose b true (any p rs) ≡ true
+      go true h k = refl
+      go false h k = k h
+
+  pub place-new : (i : ℕ) (rs : List Row) → length rs ≤ none - i → none ≤ placeOf p none i rs → (any p rs ≡ false) × (placeOf p none i rs ≡ none)
+  unfolding placeOf any
+  place-new i [] l h = (refl, refl)
+  place-new i (r ∷ rs) l h = go (p r) h (place-new (i + 1) rs (omega arith))
+    where
+      go : (b : Bool) → none ≤ choose b i (placeOf p none (i + 1) rs) →
+          (none ≤ placeOf p none (i + 1) rs → (any p rs ≡ false) × (placeOf p none (i + 1) rs ≡ none)) →
+          (choose b true (any p rs) ≡ false) × (choose b i (placeOf p none (i + 1) rs) ≡ none)
+      go true h k = absurd (omega arith)
+      go false h k = k h
+
+-- The origin is not asked.
+alike-origin : (same : ℕ → ℕ → Bool) (kind card origin : ℕ) (rs : List Row) →
     any (alikeRows same (row kind card 0)) rs ≡ any (alikeRows same (row kind card origin)) rs
 unfolding alikeRows
-listed-origin same kind card origin rs = refl
+alike-origin same kind card origin rs = refl
+
+length-rows : (ws : List ℕ) (i n : ℕ) → length (rowsFrom ws i n) ≡ n
+unfolding rowsFrom
+length-rows ws i zero = refl
+length-rows ws i (suc n) = ap suc (length-rows ws (i + 1) n)
+
+-- What is pushed of one row, by the place of the first row that it is like.
+module _ (same : ℕ → ℕ → Bool) (start kind card origin place used : ℕ) (ws : List ℕ)
+    (found : place ≡ placeOf (alikeRows same (row kind card 0)) used start (usedFrom start (filled ws used))) where
+  pub placed-old : place < used → filled ws used ≡ extendSticky same start (row kind card origin ∷ []) (filled ws used)
+  placed-old h =
+      let l = place-old (alikeRows same (row kind card 0)) used start (usedFrom start (filled ws used)) (subst (λ p. p < used) found h) in
+      sym (extended-old same start (row kind card origin) (filled ws used) (sym (alike-origin same kind card origin _) ∙ l))
+
+  module _ (h : used ≤ place) where
+    unlike : (any (alikeRows same (row kind card 0)) (usedFrom start (filled ws used)) ≡ false) × (place ≡ used)
+    unfolding usedFrom
+    unlike =
+        let n = length-rows ws start (used - start) in
+        let l = place-new (alikeRows same (row kind card 0)) used start (rowsFrom ws start (used - start)) (omega arith) (subst (λ p. used ≤ p) found h) in
+        (l .0, found ∙ l .1)
+
+    pub placed-new : pushed (row kind card origin ∷ []) (filled ws place) ≡ extendSticky same start (row kind card origin ∷ []) (filled ws used)
+    placed-new =
+        ap (λ p. pushed (row kind card origin ∷ []) (filled ws p)) (unlike .1)
+        ∙ sym (extended-new same start (row kind card origin) (filled ws used) (sym (alike-origin same kind card origin _) ∙ unlike .0))
+
+    pub placed-capacity : (n : ℕ) → 3 * extendSticky same start (row kind card origin ∷ []) (filled ws used) .used ≤ n → 3 * (place + 1) ≤ n
+    placed-capacity n c =
+        let m = capacity-new same start (row kind card origin) (filled ws used) n (sym (alike-origin same kind card origin _) ∙ unlike .0) c in
+        let e = unlike .1 in
+        omega arith
 
 -- ---- The parts under a heading.
 

@@ -5,12 +5,12 @@ ghost use mathlib.Core.Path.{_≡_};
 ghost use mathlib.Core.List.{_∷_, []};
 ghost use Prim.Native.Nat.{_+_, _*_, _≤_, _<_};
 ghost use lib.ListN.{length};
-ghost use Rattle.definition.specs.Lists.{any, written};
+ghost use Rattle.definition.specs.Lists.{written};
 ghost use Rattle.definition.specs.Catalogue.{row};
 ghost use Rattle.definition.specs.Outcomes.{wordsOfRow};
 ghost use Rattle.definition.specs.Store.{cardsUsed};
 ghost use Rattle.from_ast_index.specs.Index.{Hashed};
-ghost use Rattle.component.specs.Pushed.{filled, Fits, pushed, usedFrom, alikeRows};
+ghost use Rattle.component.specs.Pushed.{filled, Fits, pushed, usedFrom, placeOf, alikeRows};
 ghost use Rattle.component.specs.RowsByCards.{sameStored, extendByRow, extendByCard, extendByHeading};
 
 // Writes a row into the lent part, which begins at the unused end.
@@ -49,8 +49,9 @@ fn same_stored(text: &[u8], words: &[u32], hashes: &[u32], a: u32, b: u32) -> bo
     from_ast_index::same_cards(text, words, hashes, a, b)
 }
 
-// Whether a part is like one of the rows of its list: a root of its kind, or a part of its kind and name. Directive uses all stay.
-fn is_listed(
+// The place of the first row of a list that a part is like, a root of its kind or a part of its kind and name; `used` where there is none.
+// Directive uses all stay.
+fn find_alike(
     text: &[u8],
     words: &[u32],
     hashes: &[u32],
@@ -59,29 +60,29 @@ fn is_listed(
     used: usize,
     kind: u32,
     card: u32,
-) -> bool
+) -> usize
     requires { ⌜ Hashed (now text) (now words) (now hashes)
         × (3 * used ≤ length (now rows)) ⌝ }
     ensures { λ r. ⌜ r
-        ≡ any (alikeRows (sameStored (now (text .entry)) (now (words .entry))) (row kind card 0))
+        ≡ placeOf (alikeRows (sameStored (now (text .entry)) (now (words .entry))) (row kind card 0)) used start
         (usedFrom start (filled (now (rows .entry)) used)) ⌝ }
 {
     if kind == kinds::DIRECTIVE {
-        return false;
+        return used;
     }
     let mut i = start;
     while i < used {
         if rows[ROW_WORDS * i] == kind {
             if kinds::is_root(kind) {
-                return true;
+                return i;
             }
             if same_stored(text, words, hashes, card, rows[ROW_WORDS * i + 1]) {
-                return true;
+                return i;
             }
         }
         i += 1;
     }
-    false
+    used
 }
 
 // Pushes a part unless its list has one like it: the first stays.
@@ -102,10 +103,11 @@ pub fn extend_sticky(
         ≡ extendByRow (now (text .entry)) (now (words .entry)) (row kind card origin) start
         (filled (now (rows .entry)) used) ⌝ }
 {
-    if is_listed(text, words, hashes, rows, start, used, kind, card) {
+    let place = find_alike(text, words, hashes, rows, start, used, kind, card);
+    if place < used {
         return used;
     }
-    push_row(kind, card, origin, rows, used)
+    push_row(kind, card, origin, rows, place)
 }
 
 // Extends a list of parts of one kind by a card, if the card is of that kind.

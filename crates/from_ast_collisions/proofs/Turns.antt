@@ -74,19 +74,19 @@ row-inside k d (w ∷ (c ∷ (o ∷ s))) = go (isRowOf k d w c) (row-inside k d 
     go true h = omega arith
     go false h = omega arith
 
--- Nothing is passed over by beginning at the row.
-pub under-from : (k d : ℕ) (test : ℕ → ℕ → Bool) (s : List ℕ) → earlierUnder k d test s ≡ earlierUnder k d test (drop (rowOffset k d s) s)
-unfolding rowOffset earlierUnder
-under-from k d test [] = refl
-under-from k d test (w ∷ []) = refl
-under-from k d test (w ∷ (c ∷ [])) = refl
-under-from k d test (w ∷ (c ∷ (o ∷ s))) = go (isRowOf k d w c) refl (under-from k d test s)
+-- The search under the row is that among the rows after it.
+pub under-after : (k d : ℕ) (test : ℕ → ℕ → Bool) (s : List ℕ) → earlierUnder k d test s ≡ earlierIn test (drop (3 + rowOffset k d s) s)
+unfolding rowOffset earlierUnder earlierIn
+under-after k d test [] = refl
+under-after k d test (w ∷ []) = refl
+under-after k d test (w ∷ (c ∷ [])) = refl
+under-after k d test (w ∷ (c ∷ (o ∷ s))) = go (isRowOf k d w c) refl (under-after k d test s)
   where
-    go : (b : Bool) → isRowOf k d w c ≡ b → earlierUnder k d test s ≡ earlierUnder k d test (drop (rowOffset k d s) s) →
+    go : (b : Bool) → isRowOf k d w c ≡ b → earlierUnder k d test s ≡ earlierIn test (drop (3 + rowOffset k d s) s) →
         choose (isRowOf k d w c) (earlierIn test s) (earlierUnder k d test s) ≡
-        earlierUnder k d test (drop (choose (isRowOf k d w c) 0 (3 + rowOffset k d s)) (w ∷ (c ∷ (o ∷ s))))
-    go true e ih = rw e (sym (rw e refl))
-    go false e ih = rw e (ih ∙ ap (earlierUnder k d test) (drop-drop (rowOffset k d s) 3 (w ∷ (c ∷ (o ∷ s)))))
+        earlierIn test (drop (3 + choose (isRowOf k d w c) 0 (3 + rowOffset k d s)) (w ∷ (c ∷ (o ∷ s))))
+    go true e ih = rw e refl
+    go false e ih = rw e (ih ∙ ap (earlierIn test) (drop-drop (3 + rowOffset k d s) 3 (w ∷ (c ∷ (o ∷ s)))))
 
 -- ---- The number of a collision.
 
@@ -132,21 +132,7 @@ module _ (v : View) (p : NamedCard) (w c : ℕ) where
   unfolding standsFor
   stands-named e r h = rw (eq-eqb w (p .kind) e, r, lt-ltb c (v .used) h)
 
--- ---- The search under the owner's row.
-
-module _ (k d : ℕ) (test : ℕ → ℕ → Bool) (s : List ℕ) (i : ℕ) where
-  pub under-hit : i + 2 < length s → isRowOf k d (getD s i 0) (getD s (i + 1) 0) ≡ true → earlierUnder k d test (drop i s) ≡ earlierIn test (drop (i + 3) s)
-  unfolding earlierUnder
-  under-hit h e = rw (drop3 s i h, e)
-
-  pub under-miss : i + 2 < length s → isRowOf k d (getD s i 0) (getD s (i + 1) 0) ≡ false →
-      earlierUnder k d test (drop i s) ≡ earlierUnder k d test (drop (i + 3) s)
-  unfolding earlierUnder
-  under-miss h e = rw (drop3 s i h, e)
-
-  pub under-end : length s ≤ i + 2 → earlierUnder k d test (drop i s) ≡ Nothing
-  unfolding earlierUnder
-  under-end h = short (λ l. earlierUnder k d test l ≡ Nothing) refl (λ w. refl) (λ w c. refl) s i h
+-- ---- The search among the rows after the owner's.
 
 module _ (test : ℕ → ℕ → Bool) (s : List ℕ) (i : ℕ) where
   pub in-stop : i + 2 < length s → getD s i 0 < 20 → earlierIn test (drop i s) ≡ Nothing

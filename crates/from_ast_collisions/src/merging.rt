@@ -99,7 +99,7 @@ fn stands_for(text: &[u8], words: &[u32], hashes: &[u32], part: u32, what: u32, 
     from_ast_index::same_cards(text, words, hashes, part, card)
 }
 
-// The card that stands for the part under the row of its owner, where the search begins.
+// The card that stands for the part, among the rows under that of its owner, which begins at `from`.
 fn find_earlier(
     text: &[u8],
     words: &[u32],
@@ -116,30 +116,19 @@ fn find_earlier(
         (standsFor (cardView (now (text .entry)) (now (words .entry))) (cardAt (now (text .entry)) (now (words .entry)) part))
         (now (rows .entry)) ⌝ }
 {
-    let mut found = Earlier::Nothing;
-    let mut i = from;
-    'search: while i + 2 < rows.len() {
-        if rows[i] == kind {
-            if rows[i + 1] == owner {
-                let mut j = i + layout::ROW_WORDS;
-                while j + 2 < rows.len() {
-                    let what = rows[j];
-                    let card = rows[j + 1];
-                    if what < kinds::DIRECTIVE {
-                        break 'search;
-                    }
-                    if stands_for(text, words, hashes, part, what, card) {
-                        found = Earlier::Card(card);
-                        break 'search;
-                    }
-                    j += layout::ROW_WORDS;
-                }
-                break;
-            }
+    let mut i = from + layout::ROW_WORDS;
+    while i + 2 < rows.len() {
+        let what = rows[i];
+        let card = rows[i + 1];
+        if what < kinds::DIRECTIVE {
+            return Earlier::Nothing;
+        }
+        if stands_for(text, words, hashes, part, what, card) {
+            return Earlier::Card(card);
         }
         i += layout::ROW_WORDS;
     }
-    found
+    Earlier::Nothing
 }
 
 // The error of a part that is merged into the row of its owner, where another card stands for it. Directive uses all stay.

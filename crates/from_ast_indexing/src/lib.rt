@@ -31,8 +31,8 @@ pub fn hash_of(name: &[u8]) -> u32
     hash as u32
 }
 
-// The cards of the headings in order, then the number of cards.
-pub fn index_headings(words: &[u32], headings: &mut [u32]) -> usize
+// The cards of the headings in order, then the number of cards. The text is for the reader that goes to the next heading.
+pub fn index_headings(text: &[u8], words: &[u32], headings: &mut [u32]) -> usize
     requires { ⌜ HeadingsAsked (now words) (now headings) ⌝ }
     ensures { λ r. ⌜ HeadingsAre (now (words .entry)) (now (headings .exit)) r ⌝ }
 {
@@ -42,7 +42,7 @@ pub fn index_headings(words: &[u32], headings: &mut [u32]) -> usize
     while card < used {
         headings[count] = card as u32;
         count += 1;
-        card = store_reader::next_heading(words, card);
+        card = store_reader::next_heading(text, words, card);
     }
     headings[count] = used as u32;
     count
@@ -143,7 +143,7 @@ pub fn index(
         × Spanned (now (words .entry)) (now (owners .exit)) (take (r .extensions) (now (extensions .exit)))
         (now (starts .exit)) (now (ends .exit)) ⌝ }
 {
-    let count = index_headings(words, headings);
+    let count = index_headings(text, words, headings);
     hash_names(text, words, hashes);
     let counts = index_owners(
         text,

@@ -7,6 +7,8 @@ use lib.ListN.{length}
 use Rattle.definition.specs.declared.FieldLookup.{FieldLookup}
 use Rattle.definition.specs.declared.SubtypeLookup.{SubtypeLookup}
 use Rattle.definition.specs.declared.OperationType.the-variants.{Query, Mutation, Subscription}
+use Rattle.gimletaspen.specs.declared.FieldAnswer.{FieldAnswer}
+use Rattle.gimletaspen.specs.declared.SubtypeAnswer.{SubtypeAnswer}
 use Rattle.definition.specs.Lists.{choose, written}
 use Rattle.definition.specs.Answers.{fieldRefusal, fieldNumber, fieldMeta, fieldCard, subtypeRefusal, subtypeNumber}
 use Rattle.definition.specs.Outcomes.{root-operation}
@@ -23,9 +25,13 @@ rootNamed text words rows kind =
 unfoldable pub copiedName : List ℕ → List ℕ → List ℕ
 copiedName lent name = choose (ltb (length lent) (length name)) lent (written lent 0 name)
 
--- The four numbers of an answer of `type_field`, the two of one of `is_subtype`.
-abbrev pub FieldNumbers : FieldLookup → ℕ → ℕ → ℕ → ℕ → Type 0
-FieldNumbers a refusal number meta card = (refusal ≡ fieldRefusal a) × (number ≡ fieldNumber a) × (meta ≡ fieldMeta a) × (card ≡ fieldCard a)
+-- The four numbers of `type_field`'s answer, and the two of `is_subtype`'s, are Answers' numbers of the outcome.
+abbrev pub FieldNumbers : FieldLookup → FieldAnswer → Type 0
+FieldNumbers a r =
+    (r .refusal ≡ fieldRefusal a) ×
+    (r .number ≡ fieldNumber a) ×
+    (r .meta ≡ fieldMeta a) ×
+    (r .card ≡ fieldCard a)
 
-abbrev pub SubtypeNumbers : SubtypeLookup → ℕ → ℕ → Type 0
-SubtypeNumbers a refusal listed = (refusal ≡ subtypeRefusal a) × (listed ≡ subtypeNumber a)
+abbrev pub SubtypeNumbers : SubtypeLookup → SubtypeAnswer → Type 0
+SubtypeNumbers a r = (r .refusal ≡ subtypeRefusal a) × (r .yes ≡ subtypeNumber a)

@@ -1,5 +1,5 @@
-// The public entries for C: a slice is a pointer and a length, an enum's answer its numbers in 01, written through lent words. Where the answer has a C
-// form of its own, the promise is the entry's in crate api.
+// The public entries for C: a slice is a pointer and a length, an enum's answer a struct of its numbers, handed back by value, so that a refused lookup has
+// nothing that it could write. Where the answer has a C form of its own, the promise is the entry's in crate api.
 use api::answers::field_card;
 use api::answers::field_meta;
 use api::answers::field_number;
@@ -15,6 +15,22 @@ ghost use lib.ListN.{length};
 ghost use Rattle.definition.specs.Outcomes.{type-field, is-subtype};
 ghost use Rattle.api.specs.Promised.{Opens, Files, Adopts, Ignores, Builds, ChecksRows, ListsOrigins, ListsExtensions, MapsImplementers};
 ghost use Rattle.gimletaspen.specs.Exported.{rootNamed, copiedName, FieldNumbers, SubtypeNumbers};
+
+// The four numbers of `type_field`'s answer: the refusal or 0, what became of the field, which one was found, and the card.
+#[repr(C)]
+pub struct FieldAnswer {
+    pub refusal: u32,
+    pub number: u32,
+    pub meta: u32,
+    pub card: u32,
+}
+
+// The two numbers of `is_subtype`'s answer: the refusal or 0, and 1 for yes, else 0.
+#[repr(C)]
+pub struct SubtypeAnswer {
+    pub refusal: u32,
+    pub yes: u32,
+}
 
 #[no_mangle]
 pub extern "C" fn gimletaspen_open(
@@ -120,7 +136,6 @@ pub extern "C" fn gimletaspen_root_operation(
     copy_name(root_of(text, words, rows, kind), name)
 }
 
-// Hands back the refusal or 0; the three other numbers of the answer are written.
 #[no_mangle]
 pub extern "C" fn gimletaspen_type_field(
     text: &[u8],
@@ -128,23 +143,21 @@ pub extern "C" fn gimletaspen_type_field(
     rows: &[u32],
     type_name: &[u8],
     field: &[u8],
-    number: &mut u32,
-    meta: &mut u32,
-    card: &mut u32,
-) -> u32
+) -> FieldAnswer
     ensures { λ r. ⌜ FieldNumbers
         (type-field (now (text .entry)) (now (words .entry)) (now (rows .entry)) (now («type_name» .entry))
         (now (field .entry)))
-        r (now (number .exit)) (now (meta .exit)) (now (card .exit)) ⌝ }
+        r ⌝ }
 {
     let answer = api::type_field(text, words, rows, type_name, field);
-    *number = field_number(answer);
-    *meta = field_meta(answer);
-    *card = field_card(answer);
-    field_refusal(answer)
+    FieldAnswer {
+        refusal: field_refusal(answer),
+        number: field_number(answer),
+        meta: field_meta(answer),
+        card: field_card(answer),
+    }
 }
 
-// Hands back the refusal or 0; 1 is written for yes, else 0.
 #[no_mangle]
 pub extern "C" fn gimletaspen_is_subtype(
     text: &[u8],
@@ -152,16 +165,17 @@ pub extern "C" fn gimletaspen_is_subtype(
     rows: &[u32],
     general: &[u8],
     other: &[u8],
-    yes: &mut u32,
-) -> u32
+) -> SubtypeAnswer
     ensures { λ r. ⌜ SubtypeNumbers
         (is-subtype (now (text .entry)) (now (words .entry)) (now (rows .entry)) (now (general .entry))
         (now (other .entry)))
-        r (now (yes .exit)) ⌝ }
+        r ⌝ }
 {
     let answer = api::is_subtype(text, words, rows, general, other);
-    *yes = subtype_number(answer);
-    subtype_refusal(answer)
+    SubtypeAnswer {
+        refusal: subtype_refusal(answer),
+        yes: subtype_number(answer),
+    }
 }
 
 #[no_mangle]

@@ -1,6 +1,7 @@
 // name.rs: the syntax of a Name, and names compared by their bytes.
 ghost use mathlib.Core.Path.{_≡_};
 ghost use Rattle.definition.specs.Names.{isNameStart, isNameByte, isName, sameName, bytesAt};
+ghost use Rattle.name.specs.Parts.{PartAt};
 
 // A letter or an underscore.
 pub fn is_name_start(b: u8) -> bool
@@ -70,9 +71,9 @@ pub fn same_name(a: &[u8], b: &[u8]) -> bool
     true
 }
 
-// The bytes of a span, as many of them as the text has.
+// The part of the text that a span is, as far as the text reaches.
 pub fn bytes_at(text: &[u8], at: usize, len: usize) -> &[u8]
-    ensures { λ r. ⌜ now r ≡ bytesAt (now (text .entry)) at len ⌝ }
+    ensures { λ r. ⌜ PartAt (text .entry) r at len ⌝ }
 {
     if text.len() < at {
         return &text[0..0];

@@ -28,6 +28,7 @@ use Rattle.schema_rows.proofs.Passing.{row-passed, default-root}
 use Rattle.schema_rows.proofs.Rows.{contradiction}
 use Rattle.schema_rows.proofs.RowsWithCards.{cardsOf, cards-without, cards-with, accepted, cards-capacity}
 use Rattle.schema_rows.proofs.SearchLaws.{blocks-type, blocks-under, blocks-nil}
+use Rattle.schema.proofs.RootsLaws.{root-range}
 
 -- ---- Roots.
 
@@ -35,19 +36,15 @@ unfoldable isRootRow : Row → Bool
 isRootRow r = isRoot (r .what)
 
 root-place : (w : ℕ) → isRoot w ≡ true → (1 ≤ placeIn (rowOrder 4) w) × (placeIn (rowOrder 4) w ≤ 3)
-unfolding isRoot
 root-place w e = go (eqb w 26) (eqb w 27) refl refl
   where
-    range : (26 ≤ w) × (w ≤ 28)
-    range = let a = and-true (leb 26 w) (leb w 28) e in (leb-true 26 w (a .0), leb-true w 28 (a .1))
-
     go : (a b : Bool) → eqb w 26 ≡ a → eqb w 27 ≡ b → (1 ≤ placeIn (rowOrder 4) w) × (placeIn (rowOrder 4) w ≤ 3)
     go true b s t = let q = schema-26 w (eqb-true w 26 s) in (omega arith, omega arith)
     go false true s t = let q = schema-27 w (eqb-true w 27 t) in (omega arith, omega arith)
     go false false s t =
         let m = eqb-false w 26 s in
         let n = eqb-false w 27 t in
-        let r = range in
+        let r = root-range w e in
         let q = schema-28 w (omega arith) in
         (omega arith, omega arith)
 

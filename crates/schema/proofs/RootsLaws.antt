@@ -3,8 +3,9 @@ use mathlib.Core.Path.{_≡_, sym, _∙_, ap}
 use mathlib.Core.List.{List, []}
 use mathlib.Core.Bool.{true, false}
 use mathlib.Core.Option.{Option, none, some}
-use Prim.Native.Nat.{ℕ, _+_, _*_, _/_, _<_}
-use borrow.Author.Tests.{eq-eqb, ne-eqb, eqb-true}
+use Prim.Native.Nat.{ℕ, _+_, _*_, _/_, _<_, _≤_}
+use borrow.Author.Tests.{eq-eqb, ne-eqb, eqb-true, leb-true}
+use lib.Dec.{leb}
 use lib.ListN.{length, getD}
 use Rattle.definition.specs.declared.OperationType.{OperationType}
 use Rattle.definition.specs.declared.OperationType.the-variants.{Query, Mutation, Subscription}
@@ -19,6 +20,7 @@ use Rattle.definition.specs.LentRows.{held, lentRows, isTypeRowNamed, firstType
 use Rattle.definition.specs.Lookups.{span, isRowOf, rootCard, rootRow, rootSpan, isQueryRoot}
 use Rattle.definition.specs.Outcomes.{partOf}
 use Rattle.definition.proofs.Lists.{split}
+use Rattle.definition.proofs.Tests.{and-true}
 use Rattle.store_reader.specs.Stored.{storedParts, cardName}
 use Rattle.store_reader.proofs.Lists.{bytes-none}
 use Rattle.store_reader.proofs.Laws.{held-stored, span-bytes}
@@ -28,6 +30,10 @@ use Rattle.schema_rows.specs.declared.search.Found.the-variants.{Row as RowAt, 
 use Rattle.schema_rows.proofs.Rows.{found-none, found-some, hit-inside, hit-row}
 
 -- ---- Roots.
+
+pub root-range : (k : ℕ) → isRoot k ≡ true → (26 ≤ k) × (k ≤ 28)
+unfolding isRoot
+root-range k e = let a = and-true (leb 26 k) (leb k 28) e in (leb-true 26 k (a .0), leb-true k 28 (a .1))
 
 root-is-root : (op : OperationType) (k : ℕ) → k ≡ rootKind op → isRoot k ≡ true
 unfolding isRoot
@@ -61,7 +67,7 @@ module _ (cs : List NamedCard) (rows : List ℕ) (i : ℕ) where
   card-own e = rw (ne-eqb _ _ e)
 
   module _ (e : getD rows (3 * i + 1) 0 ≡ absent) where
-    card-default : rootCard cs (lentRows rows) (rowAt rows i)
+    pub card-default : rootCard cs (lentRows rows) (rowAt rows i)
         ≡ found (firstTypeRow cs (lentRows rows) (defaultName (getD rows (3 * i) 0))) (λ t. t .card) absent
     unfolding rootCard
     card-default = rw (eq-eqb _ _ e)

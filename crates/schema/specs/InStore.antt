@@ -4,6 +4,7 @@ use mathlib.Core.Bool.{Bool}
 use mathlib.Core.Path.{_≡_}
 use Prim.Native.Nat.{ℕ, _+_}
 use lib.ListN.{length}
+use denote.Ref.{RefT, now}
 use Rattle.definition.specs.declared.OperationType.{OperationType}
 use Rattle.definition.specs.declared.FieldLookup.{FieldLookup}
 use Rattle.definition.specs.declared.FieldLookup.the-variants.{Found, NoSuchField}
@@ -12,8 +13,8 @@ use Rattle.definition.specs.declared.SubtypeLookup.the-variants.{Subtype, NotSu
 use Rattle.definition.specs.Lists.{choose, found, written}
 use Rattle.definition.specs.Headings.{NamedCard}
 use Rattle.definition.specs.Store.{accountIn}
-use Rattle.definition.specs.LentRows.{lentRows, held}
-use Rattle.definition.specs.Lookups.{rootCard, rootSpan, isQueryRoot, metaField, fieldNamed, isSubtype, Group, groups}
+use Rattle.definition.specs.LentRows.{lentRows, held, rowsRefusal}
+use Rattle.definition.specs.Lookups.{Span, rootCard, rootSpan, isQueryRoot, metaField, fieldNamed, isSubtype, Group, groups}
 use Rattle.definition.specs.Outcomes.{partOf}
 use Rattle.store_reader.specs.Stored.{storedParts}
 use Rattle.schema_rows.specs.Rows.{rowAt}
@@ -26,9 +27,22 @@ cardsIn text words = held (accountIn text words .documents)
 abbrev pub rootCardAt : List ℕ → List ℕ → List ℕ → ℕ → ℕ
 rootCardAt text words rows i = rootCard (storedParts text words) (lentRows rows) (rowAt rows i)
 
--- The name of a root operation, as bytes of the text.
+-- The name of a root operation: which span of the text it is, and its bytes.
+abbrev pub rootSpanIn : List ℕ → List ℕ → List ℕ → OperationType → Span
+rootSpanIn text words rows op = rootSpan (accountIn text words .documents) (cardsIn text words) (lentRows rows) op
+
 abbrev pub rootName : List ℕ → List ℕ → List ℕ → OperationType → List ℕ
-rootName text words rows op = partOf text (rootSpan (accountIn text words .documents) (cardsIn text words) (lentRows rows) op) .bytes
+rootName text words rows op = partOf text (rootSpanIn text words rows op) .bytes
+
+-- What is handed back is this span of the text: it lies in the text's memory, from where the span begins, and is as long.
+pub record IsSpan (text part : RefT (List ℕ)) (s : Span) : Type 0 where
+  pub block : part .ptr .0 ≡ text .ptr .0
+  pub place : part .ptr .1 ≡ text .ptr .1 + s .at
+  pub size : length (now part) ≡ s .size
+
+-- 26 does not refuse the rows.
+abbrev pub RowsPass : List ℕ → List ℕ → List ℕ → Type 0
+RowsPass text words rows = rowsRefusal (accountIn text words .documents) rows ≡ 0
 
 -- Whether the query root has the name.
 abbrev pub isQueryRootIn : List ℕ → List ℕ → List ℕ → List ℕ → Bool

@@ -14,7 +14,7 @@ ghost use Rattle.definition.specs.Answers.{rootKind};
 ghost use Rattle.definition.specs.Cards.{isRoot};
 ghost use Rattle.definition.specs.Store.{sound, tooShort};
 ghost use Rattle.schema_rows.specs.Rows.{rowAt};
-ghost use Rattle.schema.specs.InStore.{rootCardAt, rootName, isQueryRootIn, metaFieldIn};
+ghost use Rattle.schema.specs.InStore.{rootCardAt, rootSpanIn, rootName, IsSpan, RowsPass, isQueryRootIn, metaFieldIn};
 ghost use Rattle.schema.specs.MetaFields.{isTypename};
 
 fn root_kind(op: OperationType) -> u32
@@ -48,7 +48,7 @@ fn root_card(text: &[u8], words: &[u32], rows: &[u32], i: usize) -> u32
     rows[ROW_WORDS * t + 1]
 }
 
-// The name is handed back as a part of the store's text.
+// The name is handed back as a part of the store's text: the bytes where the name stands, and no others that equal them.
 pub fn root_operation<'a>(
     text: &'a [u8],
     words: &[u32],
@@ -57,13 +57,15 @@ pub fn root_operation<'a>(
 ) -> &'a [u8]
     requires { ⌜ (sound (now text) (now words) ≡ true)
         × (tooShort (now text) (now words) ≡ false) ⌝ }
-    ensures { λ r. ⌜ now r ≡ rootName (now (text .entry)) (now (words .entry)) (now (rows .entry)) op ⌝ }
+    ensures { λ r. ⌜ (now r ≡ rootName (now (text .entry)) (now (words .entry)) (now (rows .entry)) op)
+        × (RowsPass (now (text .entry)) (now (words .entry)) (now (rows .entry))
+        → IsSpan (text .entry) r (rootSpanIn (now (text .entry)) (now (words .entry)) (now (rows .entry)) op)) ⌝ }
 {
     let Found::Row(i) = schema_rows::search::find_row(rows, root_kind(op)) else {
         return &text[0..0];
     };
     let card = root_card(text, words, rows, i);
-    store_reader::card_name(text, words, card as usize)
+    store_reader::reader::read_name(text, words, card as usize)
 }
 
 fn is_query_root(text: &[u8], words: &[u32], rows: &[u32], name: &[u8]) -> bool

@@ -33,11 +33,11 @@ module _ (text words lent cards : List ℕ) where
       unfolding open-store unchanged tooShort
       open-refused a e = rw (le-ltb (length text) textCapacity t, le-ltb (length words) wordsCapacity w, e)
 
-      pub open-done : (a : Answer) (text' words' : List ℕ) → a ≡ answer 0 0 → openingRefusal lent cards ≡ none →
+      pub open-done : (text' words' : List ℕ) → openingRefusal lent cards ≡ none →
           text' ≡ openedText text (document false lent cards) → words' ≡ openedWords words (document false lent cards) →
-          left a text' words' ≡ open-store text words lent cards
+          left (answer 0 0) text' words' ≡ open-store text words lent cards
       unfolding open-store accepted tooShort
-      open-done a text' words' z e p q = rw (le-ltb (length text) textCapacity t, le-ltb (length words) wordsCapacity w, e, z, p, q)
+      open-done text' words' e p q = rw (le-ltb (length text) textCapacity t, le-ltb (length words) wordsCapacity w, e, p, q)
 
   -- ---- Filing.
 
@@ -51,11 +51,11 @@ module _ (text words lent cards : List ℕ) where
     unfolding add-ast unchanged
     add-refused a e = rw (s, e)
 
-    pub add-done : (a : Answer) (text' words' : List ℕ) → a ≡ answer 0 0 → filingRefusal (accountIn text words) lent cards ≡ none →
+    pub add-done : (text' words' : List ℕ) → filingRefusal (accountIn text words) lent cards ≡ none →
         text' ≡ filedText text words (document false lent cards) → words' ≡ filedWords words (document false lent cards) →
-        left a text' words' ≡ add-ast text words lent cards
+        left (answer 0 0) text' words' ≡ add-ast text words lent cards
     unfolding add-ast accepted
-    add-done a text' words' z e p q = rw (s, e, z, p, q)
+    add-done text' words' e p q = rw (s, e, p, q)
 
 -- ---- Turning on.
 
@@ -64,6 +64,6 @@ module _ (text words on : List ℕ) where
   unfolding turned unchanged
   turned-unsound n u e = rw (u, e)
 
-  pub turned-done : storeRefusal text words ≡ 0 → (a : Answer) → a ≡ answer 0 0 → left a text on ≡ turned text words on
+  pub turned-done : storeRefusal text words ≡ 0 → left (answer 0 0) text on ≡ turned text words on
   unfolding turned accepted
-  turned-done s a z = rw (s, z)
+  turned-done s = rw s

@@ -11,19 +11,11 @@ use store_check::StoreCheck;
 ghost use mathlib.Core.Path.{_≡_};
 ghost use Prim.Native.Nat.{_≤_};
 ghost use lib.ListN.{set};
-ghost use Rattle.definition.specs.Answers.{answer};
 ghost use Rattle.definition.specs.Outcomes.{open-store, add-ast, turned, adopt-orphan-extensions, ignore-builtin-redefinitions};
 
 pub mod copying;
 pub mod filing;
 pub mod filing_check;
-
-// The answer of a call that is not refused.
-fn accepted() -> Answer
-    ensures { λ r. ⌜ r ≡ answer 0 0 ⌝ }
-{
-    Answer { number: 0, card: 0 }
-}
 
 // Files document 0 with both switches off, over whatever the store held.
 pub fn open(text: &mut [u8], words: &mut [u32], lent: &[u8], cards: &[u32]) -> Answer
@@ -52,7 +44,7 @@ pub fn open(text: &mut [u8], words: &mut [u32], lent: &[u8], cards: &[u32]) -> A
         return Answer { number, card: 0 };
     }
     crate::filing::file_built_in(text, words, lent, cards);
-    accepted()
+    Answer { number: 0, card: 0 }
 }
 
 // Files a document after those held.
@@ -63,11 +55,13 @@ pub fn add_ast(text: &mut [u8], words: &mut [u32], lent: &[u8], cards: &[u32]) -
     if let StoreCheck::Refused(number) = store_check::check_store(text, words) {
         return Answer { number, card: 0 };
     }
-    if let CardCheck::Faulty(answer) = crate::filing_check::check_filing(words, lent, cards) {
-        return answer;
+    match crate::filing_check::check_filing(words, lent, cards) {
+        CardCheck::Faulty(answer) => answer,
+        CardCheck::Sound => {
+            crate::filing::file(text, words, lent, cards);
+            Answer { number: 0, card: 0 }
+        }
     }
-    crate::filing::file(text, words, lent, cards);
-    accepted()
 }
 
 // Turns a switch on, by the number of its word.
@@ -80,7 +74,7 @@ fn turn_on(text: &[u8], words: &mut [u32], switch: usize) -> Answer
         return Answer { number, card: 0 };
     }
     words[switch] = 1;
-    accepted()
+    Answer { number: 0, card: 0 }
 }
 
 // Extensions without a definition are adopted from now on.

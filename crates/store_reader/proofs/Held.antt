@@ -82,7 +82,7 @@ module _ {M : Type 1} (𝓤 : URA M) (H : Heap 𝓤) (A : Atoms 𝓤) (W : Given
   abbrev vd : Values (D (κ, (κ′, tt)) .parts)
   vd = (d .text, (d .words, (d .card, tt)))
 
-  twice : ent 𝓤 (sem 𝓤 H A (Own κ κ′ d)) (sep 𝓤 (sem 𝓤 H A (Own κ κ′ d)) (sem 𝓤 H A (Own κ κ′ d)))
+  pub twice : ent 𝓤 (sem 𝓤 H A (Own κ κ′ d)) (sep 𝓤 (sem 𝓤 H A (Own κ κ′ d)) (sem 𝓤 H A (Own κ κ′ d)))
   twice = let κs : Lfts 2 = (κ, (κ′, tt)) in LL.copy (D κs) (T′.the-copy (namedLft 2 0 tt κs) (namedLft 2 1 tt κs)) 𝓤 H A W .twice d (T′.lowered d ∷ [])
 
   -- What the struct owns, twice, of which one is opened.
@@ -129,6 +129,24 @@ module _ {M : Type 1} (𝓤 : URA M) (H : Heap 𝓤) (A : Atoms 𝓤) (W : Given
   lends-held u =
       qed W (‵ (B (κ, (κ′, tt)) .own d (u ∷ [])) ∷ Tokens 𝓤 H A κ κ′ q q′ ∷ []) ∵ nothing ! $ move ! (1 ∷ 0 ∷ []) $ fjoin ! $ move ! (1 ∷ 0 ∷ []) $
       join ! $ frame ! $ done !
+
+  -- The same where nothing but the parameters of a function are had, of which a reader at any card can be made.
+  pub lends-reader : (i : ℕ) → i < 2 ^ 64 →
+      ent 𝓤 (⋆ 𝓤 H A (Tokens 𝓤 H A κ κ′ q q′ ∷ ‵ (Fields κ κ′ d) ∷ []))
+      (sep 𝓤
+      (Lent (Tokens 𝓤 H A κ κ′ q q′ ⊛ ‵ (Owned κ κ′ (record { text = d .text; words = d .words; card = i }))))
+      (sem 𝓤 H A (Fields κ κ′ d)))
+  lends-reader i ok =
+      let κs : Lfts 2 = (κ, (κ′, tt)) in
+      let e : CardReader = record { text = d .text; words = d .words; card = i } in
+      qed W (Tokens 𝓤 H A κ κ′ q q′ ∷ ‵ (Fields κ κ′ d) ∷ []) ∵
+      move ! (1 ∷ []) $ use1 W (‵ (Own κ κ′ d)) (own-shut 𝓤 H A W (D κs) (L κs) vd) $ use1 W (‵ (Fields κ κ′ d) ⊛ ‵ (Own κ κ′ d)) opened $ split ! $
+      -- [what the fields own; what a reader owns; the tokens]
+      owned ! usize (Is usize) (uint-makes 𝓤 H A W w64) i _ (refl, ok) $ move ! (2 ∷ 0 ∷ []) $
+      use2 W (‵ (Own κ κ′ e)) (own-put 𝓤 H A W (D κs) (L κs) 2 vd i (T′.lowered d)) $
+      -- [what the reader at i owns; what the fields own; the tokens]
+      nothing ! $ move ! (1 ∷ 0 ∷ []) $ fjoin ! $ move ! (2 ∷ 0 ∷ []) $ join ! $
+      use1 W (raw (Lent (Tokens 𝓤 H A κ κ′ q q′ ⊛ ‵ (Owned κ κ′ e)))) (lent (Tokens 𝓤 H A κ κ′ q q′ ⊛ ‵ (Owned κ κ′ e))) $ frame ! $ done !
 
   pub lends-place : ent 𝓤 (⋆ 𝓤 H A (Tokens 𝓤 H A κ κ′ q q′ ∷ ‵ (Owned κ κ′ d) ∷ []))
       (sep 𝓤 (Lent (Token 𝓤 H A κ κ′ q q′ ⊛ ‵ (Place κ κ′ d))) (sep 𝓤 (sem 𝓤 H A (flft κ q)) (sem 𝓤 H A (Owned κ κ′ d))))

@@ -60,7 +60,7 @@ span-later : (at : ℕ) (d : Document) (ds : List Document) (n : ℕ) → getEle
 unfolding spanIn
 span-later at d ds n e = rw e
 
-bytes-length : (text : List ℕ) (at size : ℕ) → at + size ≤ length text → length (bytesAt text at size) ≡ size
+pub bytes-length : (text : List ℕ) (at size : ℕ) → at + size ≤ length text → length (bytesAt text at size) ≡ size
 unfolding bytesAt
 bytes-length text at size h = length-take-le size (drop at text) (let e = length-drop at text in omega arith)
 

@@ -303,20 +303,39 @@ next-from words n = go (ltb n (cardsUsed words))
     go true = refl
     go false = run-end words (cardsUsed words) (omega arith)
 
--- The same where the number of cards was read.
-module _ (words : List ℕ) (n used : ℕ) (e : used ≡ cardsUsed words) where
-  module _ (i : ℕ) (kind : ℕ) (k : kind ≡ cardKind words i) (p : Bool) (q : p ≡ isPart kind) where
-    pub from-here : headingFrom words n ≡ headingFrom words i → i < used → p ≡ false → i ≡ headingFrom words n
-    unfolding headingFrom
-    from-here inv h z = sym (inv ∙ run-stop words i (omega arith) (sym (ap isPart k) ∙ sym q ∙ z))
+-- A reader's way there: from a part it goes on, and elsewhere it stands still.
+part-zero : isPart 0 ≡ false
+unfolding isPart
+part-zero = refl
 
-    pub from-step : headingFrom words n ≡ headingFrom words i → i < used → p ≡ true → headingFrom words n ≡ headingFrom words (i + 1)
-    unfolding headingFrom
-    from-step inv h z = inv ∙ run-next words i (omega arith) (sym (ap isPart k) ∙ sym q ∙ z)
+module _ (words : List ℕ) (i : ℕ) where
+  part-inside : isPart (cardKind words i) ≡ true → i < cardsUsed words
+  part-inside p = go (ltb i (cardsUsed words)) refl
+    where
+      go : (b : Bool) → ltb i (cardsUsed words) ≡ b → i < cardsUsed words
+      go true t = ltb-true i (cardsUsed words) t
+      go false t =
+          let q : false ≡ true = sym part-zero ∙ sym (ap isPart (kind-past words i (ltb-false i (cardsUsed words) t))) ∙ p in
+          absurd (let z : _≡_ {A = ℕ} 0 1 = cc in omega arith)
 
-  pub from-end : (i : ℕ) → headingFrom words n ≡ headingFrom words i → used ≤ i → i ≡ headingFrom words n
+  next-is : isPart (cardKind words i) ≡ true → nextCard words i ≡ i + 1
+  unfolding nextCard
+  next-is p = rw (lt-ltb i (cardsUsed words) (part-inside p))
+
+  pub goes-on : isPart (cardKind words i) ≡ true → headingFrom words (nextCard words i) ≡ headingFrom words i
   unfolding headingFrom
-  from-end i inv h = sym (inv ∙ run-end words i (omega arith))
+  goes-on p = ap (headingFrom words) (next-is p) ∙ sym (run-next words i (part-inside p) p)
+
+  pub goes-nearer : (j : ℕ) → j ≡ nextCard words i → isPart (cardKind words i) ≡ true → cardsUsed words - j < cardsUsed words - i
+  goes-nearer j e p = let n = next-is p in let h = part-inside p in omega arith
+
+  pub stands-still : isPart (cardKind words i) ≡ false → headingFrom words i ≡ i
+  unfolding headingFrom
+  stands-still p = go (ltb i (cardsUsed words)) refl
+    where
+      go : (b : Bool) → ltb i (cardsUsed words) ≡ b → i + partRun words i ≡ i
+      go true t = run-stop words i (ltb-true i (cardsUsed words) t) p
+      go false t = run-end words i (ltb-false i (cardsUsed words) t)
 
 -- ---- The rows of the documents.
 

@@ -1,13 +1,14 @@
 // What a store's words say of a card by its number. Nothing here trusts them: what lies past the slices reads as 0 or as empty.
+use ast::kinds::is_part;
 use ast::word;
 use definition::layout::CARD_WORDS;
 use definition::layout::CARDS_AT;
 use definition::layout::CARDS_USED;
 ghost use mathlib.Core.Path.{_≡_};
 ghost use Prim.Native.Nat.{_<_};
-ghost use Rattle.definition.specs.Cards.{cardWords};
+ghost use Rattle.definition.specs.Cards.{cardWords, isPart};
 ghost use Rattle.definition.specs.Store.{cardsUsed};
-ghost use Rattle.store_reader.specs.Cards.{cardWord, cardKind, nameStart, nameSize, cardName, nextCard};
+ghost use Rattle.store_reader.specs.Cards.{cardWord, cardKind, nameStart, nameSize, NamePart, nextCard};
 
 // How many cards the store says it has.
 pub fn cards_used(words: &[u32]) -> usize
@@ -29,10 +30,17 @@ pub fn card_word(words: &[u32], n: usize, k: usize) -> u32
 }
 
 // What a reader asks of the card n.
-pub fn kind_of(words: &[u32], n: usize) -> u32
+pub fn card_kind(words: &[u32], n: usize) -> u32
     ensures { λ r. ⌜ r ≡ cardKind (now (words .entry)) n ⌝ }
 {
     card_word(words, n, ast::CARD_KIND)
+}
+
+// Whether it is a part.
+pub fn card_is_part(words: &[u32], n: usize) -> bool
+    ensures { λ r. ⌜ r ≡ isPart (cardKind (now (words .entry)) n) ⌝ }
+{
+    is_part(card_kind(words, n))
 }
 
 // Where the name of a card begins in the store's text, and how long it is.
@@ -49,7 +57,7 @@ pub fn name_size(words: &[u32], n: usize) -> usize
 }
 
 pub fn name_of<'a>(text: &'a [u8], words: &[u32], n: usize) -> &'a [u8]
-    ensures { λ r. ⌜ now r ≡ cardName (now (text .entry)) (now (words .entry)) n ⌝ }
+    ensures { λ r. ⌜ NamePart (text .entry) (now (words .entry)) n r ⌝ }
 {
     name::bytes_at(text, name_start(words, n), name_size(words, n))
 }

@@ -31,7 +31,7 @@ part-index-owners-end : tie.Need-part-index-owners-end
 part-index-owners-end c =
     let h = c .before .before .before .before .before .before .before .index-headings in
     headings-fit _ _ _ _ _ _ _ _ _ _ _ (c .before .before .before .before .before .before .before .before .before .before .before .before .before .before
-    .before .before .before .before .before .before .pre) _ _ (h .ensures) (h .kept .1 .0)
+    .before .before .before .before .before .before .pre) _ _ (h .ensures) (h .kept .1 .1 .0)
 
 index-owners-requires : tie.Need-index-owners-requires
 index-owners-requires c κs =
@@ -39,7 +39,7 @@ index-owners-requires c κs =
     .before .before .before .before .before .before .before .before .before .before .pre in
     let h = c .before .before .before .before .before .before .before .before .before .before .before .before .before .before .before .index-headings in
     let p = c .before .before .before .before .before .before .before .before .before .before .before .hash-names in
-    (owners-ready _ _ _ _ _ _ _ _ _ _ _ a _ _ (h .ensures) (h .kept .1 .0) _ (p .ensures), a .slots)
+    (owners-ready _ _ _ _ _ _ _ _ _ _ _ a _ _ (h .ensures) (h .kept .1 .1 .0) _ (p .ensures), a .slots)
 
 sub-index-starts : tie.Need-sub-index-starts
 sub-index-starts c = from-zero _
@@ -57,7 +57,7 @@ part-index-starts-end c =
     let p = c .before .before .before .before .before .before .before .before .before .before .before .before .before .before .before .before .before .before
     .before .before .before .before .before .before .before .before .hash-names in
     let o = c .before .before .before .before .before .before .before .before .before .before .before .before .before .before .index-owners in
-    extensions-fit _ _ _ _ _ _ _ _ _ _ _ a _ _ (h .ensures) (h .kept .1 .0) _ (p .ensures) _ _ _ _ _ (o .ensures) (o .kept .1 .1 .1 .1 .0)
+    extensions-fit _ _ _ _ _ _ _ _ _ _ _ a _ _ (h .ensures) (h .kept .1 .1 .0) _ (p .ensures) _ _ _ _ _ (o .ensures) (o .kept .1 .1 .1 .1 .0)
     (o .kept .1 .1 .1 .1 .1 .0) (o .kept .1 .1 .1 .1 .1 .1 .0) (o .kept .1 .1 .1 .1 .1 .1 .1 .0)
 
 index-starts-requires : tie.Need-index-starts-requires
@@ -70,7 +70,7 @@ index-starts-requires c κs =
     let p = c .before .before .before .before .before .before .before .before .before .before .before .before .before .before .before .before .before .before
     .before .before .before .before .before .before .before .before .before .before .hash-names in
     let o = c .before .before .before .before .before .before .before .before .before .before .before .before .before .before .before .before .index-owners in
-    spans-asked _ _ _ _ _ _ _ _ _ _ _ a _ _ (h .ensures) (h .kept .1 .0) _ (p .ensures) _ _ _ _ _ (o .ensures) (o .kept .1 .1 .1 .1 .0)
+    spans-asked _ _ _ _ _ _ _ _ _ _ _ a _ _ (h .ensures) (h .kept .1 .1 .0) _ (p .ensures) _ _ _ _ _ (o .ensures) (o .kept .1 .1 .1 .1 .0)
     (o .kept .1 .1 .1 .1 .1 .0) (o .kept .1 .1 .1 .1 .1 .1 .0) (o .kept .1 .1 .1 .1 .1 .1 .1 .0)
 
 sub-index-ends : tie.Need-sub-index-ends
@@ -91,7 +91,7 @@ part-index-ends-end c =
     .before .before .before .before .before .before .before .before .before .before .before .before .before .before .before .hash-names in
     let o = c .before .before .before .before .before .before .before .before .before .before .before .before .before .before .before .before .before .before
     .before .before .before .index-owners in
-    extensions-fit _ _ _ _ _ _ _ _ _ _ _ a _ _ (h .ensures) (h .kept .1 .0) _ (p .ensures) _ _ _ _ _ (o .ensures) (o .kept .1 .1 .1 .1 .0)
+    extensions-fit _ _ _ _ _ _ _ _ _ _ _ a _ _ (h .ensures) (h .kept .1 .1 .0) _ (p .ensures) _ _ _ _ _ (o .ensures) (o .kept .1 .1 .1 .1 .0)
     (o .kept .1 .1 .1 .1 .1 .0) (o .kept .1 .1 .1 .1 .1 .1 .0) (o .kept .1 .1 .1 .1 .1 .1 .1 .0)
 
 index-ends-requires : tie.Need-index-ends-requires
@@ -106,13 +106,13 @@ index-ends-requires c κs =
     .before .before .before .before .before .before .before .before .before .before .before .before .before .before .before .before .before .hash-names in
     let o = c .before .before .before .before .before .before .before .before .before .before .before .before .before .before .before .before .before .before
     .before .before .before .before .before .index-owners in
-    spans-asked _ _ _ _ _ _ _ _ _ _ _ a _ _ (h .ensures) (h .kept .1 .0) _ (p .ensures) _ _ _ _ _ (o .ensures) (o .kept .1 .1 .1 .1 .0)
+    spans-asked _ _ _ _ _ _ _ _ _ _ _ a _ _ (h .ensures) (h .kept .1 .1 .0) _ (p .ensures) _ _ _ _ _ (o .ensures) (o .kept .1 .1 .1 .1 .0)
     (o .kept .1 .1 .1 .1 .1 .0) (o .kept .1 .1 .1 .1 .1 .1 .0) (o .kept .1 .1 .1 .1 .1 .1 .1 .0)
 
 same-length : tie.Need-same-length
 same-length c = c .before .before .before .before .before .before .before .before .before .before .before .before .before .before .before .before .before
     .before .before .before .before .before .before .before .before .before .before .before .before .before .before .before .before .before .before .before
-    .before .before .before .before .before .before .index-headings .kept .1 .0
+    .before .before .before .before .before .before .index-headings .kept .1 .1 .0
 
 same-length-2 : tie.Need-same-length-2
 same-length-2 c = c .before .before .before .before .before .before .before .before .before .before .before .before .before .before .before .before .before
@@ -163,7 +163,7 @@ returns c =
     .before .before .before .before .before .before .before .before .index-owners in
     let s = c .before .before .before .before .before .before .before .before .before .index-starts in
     let e = c .before .before .index-ends in (
-      all-indexed _ _ _ _ _ _ _ _ _ _ _ a _ _ (h .ensures) (h .kept .1 .0) _ (p .ensures) _ _ _ _ _ (o .ensures) (o .kept .1 .1 .1 .1 .0)
+      all-indexed _ _ _ _ _ _ _ _ _ _ _ a _ _ (h .ensures) (h .kept .1 .1 .0) _ (p .ensures) _ _ _ _ _ (o .ensures) (o .kept .1 .1 .1 .1 .0)
           (o .kept .1 .1 .1 .1 .1 .0) (o .kept .1 .1 .1 .1 .1 .1 .0) (o .kept .1 .1 .1 .1 .1 .1 .1 .0),
       record {
         starts-are = rw sub-zero at (s .ensures);

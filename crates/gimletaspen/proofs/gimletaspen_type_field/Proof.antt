@@ -1,11 +1,13 @@
-use mathlib.Core.Path.{ap, _∙_}
-use Rattle.definition.specs.Answers.{fieldRefusal, fieldNumber, fieldMeta, fieldCard}
+use mathlib.Core.Path.{_∙_}
 use borrow.Author.Needs.{needs}
 use Rattle.gimletaspen.proofs.gimletaspen_type_field.Statement.{statement}
 use Rattle.gimletaspen.proofs.gimletaspen_type_field.Tie as tie
 
 type-field-requires : tie.Need-type-field-requires
 type-field-requires c κs = search needs
+
+field-refusal-requires : tie.Need-field-refusal-requires
+field-refusal-requires c κs = search needs
 
 field-number-requires : tie.Need-field-number-requires
 field-number-requires c κs = search needs
@@ -16,16 +18,13 @@ field-meta-requires c κs = search needs
 field-card-requires : tie.Need-field-card-requires
 field-card-requires c κs = search needs
 
-field-refusal-requires : tie.Need-field-refusal-requires
-field-refusal-requires c κs = search needs
-
 returns : tie.Need-returns
 returns c =
-    let e = c .before .before .before .before .type-field .ensures in (
-      c .field-refusal .ensures ∙ ap fieldRefusal e,
-      c .before .before .before .field-number .ensures ∙ ap fieldNumber e,
-      c .before .before .field-meta .ensures ∙ ap fieldMeta e,
-      c .before .field-card .ensures ∙ ap fieldCard e,
+    let same = c .before .before .before .before .type-field .ensures .1 in (
+      c .before .before .before .field-refusal .ensures ∙ same .0,
+      c .before .before .field-number .ensures ∙ same .1,
+      c .before .field-meta .ensures ∙ same .2,
+      c .field-card .ensures ∙ same .3,
     )
 
 pub gimletaspen-type-field-spec : {M : Type 1} → statement M
@@ -33,8 +32,8 @@ gimletaspen-type-field-spec =
     tie.close
     (tie.spec
     type-field-requires
+    field-refusal-requires
     field-number-requires
     field-meta-requires
     field-card-requires
-    field-refusal-requires
     returns)

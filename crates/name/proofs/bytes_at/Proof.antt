@@ -1,5 +1,6 @@
-use mathlib.Core.Path.{sym}
-use native.Mathlib.Nat.{add-sub-cancel-left}
+use mathlib.Core.Path.{refl, sym}
+use native.Mathlib.Nat.{add-comm, add-sub-cancel-left}
+use native.Mathlib.Omega.{arith}
 use Rattle.definition.specs.Names.{bytesAt}
 use Rattle.name.proofs.Laws.{span-past, span-clipped}
 use Rattle.name.proofs.bytes_at.Statement.{statement}
@@ -16,7 +17,11 @@ part-result-end : tie.Need-part-result-end
 part-result-end c = search needs
 
 returns : tie.Need-returns
-returns c = sym (span-past _ _ _ (c .before .if1 .taken))
+returns c = record {
+  bytes = sym (span-past _ _ _ (c .before .if1 .taken));
+  block = refl;
+  place = λ h. absurd (let t = c .before .if1 .taken in omega arith);
+}
 
 sub-if2 : tie.Need-sub-if2
 sub-if2 c = search needs
@@ -31,7 +36,7 @@ part-result-end-2 : tie.Need-part-result-end-2
 part-result-end-2 c = search needs
 
 returns-2 : tie.Need-returns-2
-returns-2 c = sym (span-clipped _ _ _ (c .before .if2 .taken))
+returns-2 c = record { bytes = sym (span-clipped _ _ _ (c .before .if2 .taken)); block = refl; place = λ h. add-comm _ _ }
 
 add-end : tie.Need-add-end
 add-end c = search needs
@@ -47,7 +52,7 @@ part-result-end-3 c = search needs
 
 returns-3 : tie.Need-returns-3
 unfolding bytesAt
-returns-3 c = simp add-sub-cancel-left
+returns-3 c = record { bytes = simp add-sub-cancel-left; block = refl; place = λ h. add-comm _ _ }
 
 pub bytes-at-spec : {M : Type 1} → statement M
 bytes-at-spec =

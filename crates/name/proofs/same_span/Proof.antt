@@ -13,7 +13,7 @@ same-name-requires : tie.Need-same-name-requires
 same-name-requires c κs = search needs
 
 returns : tie.Need-returns
-returns c = c .same-name .ensures ∙ rw (c .before .before .bytes-at .ensures, c .before .bytes-at2 .ensures)
+returns c = c .same-name .ensures ∙ rw (c .before .before .bytes-at .ensures .bytes, c .before .bytes-at2 .ensures .bytes)
 
 pub same-span-spec : {M : Type 1} → statement M
 same-span-spec =

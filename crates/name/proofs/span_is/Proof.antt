@@ -10,7 +10,7 @@ same-name-requires : tie.Need-same-name-requires
 same-name-requires c κs = search needs
 
 returns : tie.Need-returns
-returns c = c .same-name .ensures ∙ rw (c .before .bytes-at .ensures)
+returns c = c .same-name .ensures ∙ rw (c .before .bytes-at .ensures .bytes)
 
 pub span-is-spec : {M : Type 1} → statement M
 span-is-spec = tie.close (tie.spec bytes-at-requires same-name-requires returns)

@@ -39,6 +39,18 @@ check-filing-requires c κs =
 enum-known-answer : tie.Need-enum-known-answer
 enum-known-answer c = search needs
 
+enum-told-2 : tie.Need-enum-told-2
+enum-told-2 c = search needs
+
+file-requires : tie.Need-file-requires
+file-requires c κs =
+    let filing = c .before .before .before .before in
+    let store = filing .before .before .before .before in
+    let e = store .before .before .before .before .before .before .before .args in
+    fits (e .text .now) (e .words .now) (e .lent .now) (e .cards .now)
+    (sound-store _ _ _ (store .check-store .ensures) (filing .before .before .enum-told .given .1))
+    (sym (filing .check-filing .ensures) ∙ ap checkOption (c .before .before .enum-told2 .given .1))
+
 same-length-3 : tie.Need-same-length-3
 same-length-3 c = search needs
 
@@ -56,21 +68,6 @@ returns-2 c =
     ∙ sym (filing .check-filing .ensures)
     ∙ ap checkOption (c .before .answer .given .1))
 
-enum-told-2 : tie.Need-enum-told-2
-enum-told-2 c = search needs
-
-file-requires : tie.Need-file-requires
-file-requires c κs =
-    let filing = c .before .before .before .before in
-    let store = filing .before .before .before .before in
-    let e = store .before .before .before .before .before .before .before .args in
-    fits (e .text .now) (e .words .now) (e .lent .now) (e .cards .now)
-    (sound-store _ _ _ (store .check-store .ensures) (filing .before .before .enum-told .given .1))
-    (sym (filing .check-filing .ensures) ∙ ap checkOption (c .before .before .enum-told2 .given .1))
-
-accepted-requires : tie.Need-accepted-requires
-accepted-requires c κs = search needs
-
 same-length-5 : tie.Need-same-length-5
 same-length-5 c = search needs
 
@@ -79,12 +76,12 @@ same-length-6 c = search needs
 
 returns-3 : tie.Need-returns-3
 returns-3 c =
-    let filed = c .before .before .before .before .before in
+    let filed = c .before .before .before .before in
     let filing = filed .before .before .before .before .before in
     let store = filing .before .before .before .before in
     let e = store .before .before .before .before .before .before .before .args in
     let s = sound-store _ _ _ (store .check-store .ensures) (filing .before .before .enum-told .given .1) in
-    add-done (e .text .now) (e .words .now) (e .lent .now) (e .cards .now) (s .unrefused) _ _ _ (c .accepted .ensures)
+    add-done (e .text .now) (e .words .now) (e .lent .now) (e .cards .now) (s .unrefused) _ _
     (same-refusal (e .text .now) (e .words .now) (e .lent .now) (e .cards .now) s
     ∙ sym (filing .check-filing .ensures)
     ∙ ap checkOption (filed .before .before .before .enum-told2 .given .1))
@@ -102,12 +99,11 @@ add-ast-spec =
     enum-told
     check-filing-requires
     enum-known-answer
+    enum-told-2
+    file-requires
     same-length-3
     same-length-4
     returns-2
-    enum-told-2
-    file-requires
-    accepted-requires
     same-length-5
     same-length-6
     returns-3)

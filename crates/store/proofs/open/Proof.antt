@@ -79,9 +79,6 @@ file-built-in-requires c κs =
     opens _ _ (sym (fault .check-document .ensures) ∙ ap checkOption (barred .before .enum-told .given .1)) _ _ (fault .before .before .if1 .left)
     (fault .before .if2 .left) (sym (ap capacityOption (c .before .before .enum-told3 .given .1)) ∙ room .check-capacity .ensures)
 
-accepted-requires : tie.Need-accepted-requires
-accepted-requires c κs = search needs
-
 same-length : tie.Need-same-length
 same-length c = search needs
 
@@ -90,13 +87,12 @@ same-length-2 c = search needs
 
 returns-6 : tie.Need-returns-6
 returns-6 c =
-    let filed = c .before .before .before .before .before in
+    let filed = c .before .before .before .before in
     let room = filed .before .before .before .before .before in
     let barred = room .before .before .before in
     let fault = barred .before .before .before in
     let e = fault .before .before .before .before .before .before .before .args in
-    open-done (e .text .now) (e .words .now) (e .lent .now) (e .cards .now) (fault .before .before .if1 .left) (fault .before .if2 .left) _ _ _
-    (c .accepted .ensures)
+    open-done (e .text .now) (e .words .now) (e .lent .now) (e .cards .now) (fault .before .before .if1 .left) (fault .before .if2 .left) _ _
     (opening-capacity _ _ (sym (fault .check-document .ensures) ∙ ap checkOption (barred .before .enum-told .given .1)) _
     (sym (barred .check-built-in .ensures) ∙ ap checkOption (room .before .enum-told2 .given .1))
     (sym (ap capacityOption (filed .before .before .before .enum-told3 .given .1)) ∙ room .check-capacity .ensures))
@@ -121,7 +117,6 @@ open-spec =
     returns-5
     enum-told-3
     file-built-in-requires
-    accepted-requires
     same-length
     same-length-2
     returns-6)

@@ -32,17 +32,14 @@ slice-write-words c =
     let s = sound-store _ _ _ (c .before .before .check-store .ensures) (c .enum-told .given .1) in
     omega (arith, s .wordsLong, c .before .before .before .before .before .before .pre)
 
-accepted-requires : tie.Need-accepted-requires
-accepted-requires c κs = search needs
-
 same-length-2 : tie.Need-same-length-2
 same-length-2 c = search needs
 
 returns-2 : tie.Need-returns-2
 returns-2 c =
-    let e = c .before .before .before .before .before .before .before .args in
+    let e = c .before .before .before .before .before .before .args in
     turned-done (e .text .now) (e .words .now) _
-    (sound-store _ _ _ (c .before .before .before .check-store .ensures) (c .before .enum-told .given .1) .unrefused) _ (c .accepted .ensures)
+    (sound-store _ _ _ (c .before .before .check-store .ensures) (c .enum-told .given .1) .unrefused)
 
 pub turn-on-spec : {M : Type 1} → statement M
 turn-on-spec =
@@ -55,6 +52,5 @@ turn-on-spec =
     enum-told
     mul-words
     slice-write-words
-    accepted-requires
     same-length-2
     returns-2)

@@ -27,7 +27,7 @@ returns-2 : tie.Need-returns-2
 returns-2 c =
     λ p e. bytes-name p (cardOf (c .before .before .before .before .before .before .before .args .card)) _ _ _ e
     (sym (c .before .before .before .before .before .is-unnamed .ensures) ∙ c .before .before .before .before .if1 .left)
-    (c .before .bytes-at .ensures) (c .is-valid-syntax .ensures)
+    (c .before .bytes-at .ensures .bytes) (c .is-valid-syntax .ensures)
 
 pub name-no-name-spec : {M : Type 1} → statement M
 name-no-name-spec =

@@ -1,6 +1,6 @@
 -- The struct is taken apart, and `name_of` is called on its fields: a walk of the function's MIR, by hand. Of `name_of` it knows the contract alone.
 -- The callee takes the fields in their order, so what they own together is what it asks. The tokens of both lifetimes go to it, and come back.
-use mathlib.Core.Path.{_≡_, refl}
+use mathlib.Core.Path.{refl}
 use Prim.Native.Nat.{ℕ}
 use mathlib.Core.List.{List, [], _∷_}
 use lib.Dec.{T as Holds}
@@ -36,7 +36,7 @@ use denote.Triple.Table.{entered, cited}
 use denote.Triple.Walked.{says, Stays, stay-none, walkOf, goes-none, Walks, ends-at, walked, walk-meets}
 use denote.Exit.{yes}
 use denote.Triple.Clauses.{ensured, lasts}
-use Rattle.store_reader.specs.Stored.{cardName}
+use Rattle.store_reader.specs.Cards.{NamePart}
 use Rattle.store_reader.specs.declared.reader.CardReader.{CardReader}
 use Rattle.store_reader.proofs.Held.{B, D, L, Tokens, Owned, text-value, words-value, card-value, lends-fields}
 use Rattle.store_reader.proofs.reader.CardReader.Laws as T′
@@ -65,8 +65,8 @@ module _ {M : Type 1} (𝓤 : URA M) (H : Heap 𝓤) (A : Atoms 𝓤) (W : Given
   abbrev mach : Val
   mach = T′.lowered d
 
-  abbrev found : List ℕ
-  found = cardName (now (d .text)) (now (d .words)) (d .card)
+  abbrev Found : RefT (List ℕ) → Type 0
+  Found r = NamePart (d .text) (now (d .words)) (d .card) r
 
   abbrev Part : RattleType
   Part = ShrSlice (named 0) κ u8
@@ -80,10 +80,10 @@ module _ {M : Type 1} (𝓤 : URA M) (H : Heap 𝓤) (A : Atoms 𝓤) (W : Given
 
   -- Of the callee's `ensured`, the clause alone: it has no `&mut`, so what is said of last values is dropped.
   said : (r : RefT (List ℕ)) →
-      ent 𝓤 (ensured 𝓤 H A callee.ended (callee.clauses 𝓤 H A mem run) κs (d .text, (d .words, (d .card, tt))) tt r) (fact 𝓤 (now r ≡ found))
-  said r = exE 𝓤 _ (λ ws. snd∗ 𝓤 (sem 𝓤 H A (lasts callee.ended κs (d .text, (d .words, (d .card, tt))) ws)) (fact 𝓤 (now r ≡ found)))
+      ent 𝓤 (ensured 𝓤 H A callee.ended (callee.clauses 𝓤 H A mem run) κs (d .text, (d .words, (d .card, tt))) tt r) (fact 𝓤 (Found r))
+  said r = exE 𝓤 _ (λ ws. snd∗ 𝓤 (sem 𝓤 H A (lasts callee.ended κs (d .text, (d .words, (d .card, tt))) ws)) (fact 𝓤 (Found r)))
 
-  exits : (r : RefT (List ℕ)) (u : Val) → now r ≡ found → ent 𝓤 (⋆ 𝓤 H A (‵ (Part .own r (u ∷ [])) ∷ Tokens 𝓤 H A κ κ′ q q′ ∷ ‵ (Owned κ κ′ d) ∷ [])) (Post u)
+  exits : (r : RefT (List ℕ)) (u : Val) → Found r → ent 𝓤 (⋆ 𝓤 H A (‵ (Part .own r (u ∷ [])) ∷ Tokens 𝓤 H A κ κ′ q q′ ∷ ‵ (Owned κ κ′ d) ∷ [])) (Post u)
   exits r u e =
       qed W (‵ (Part .own r (u ∷ [])) ∷ Tokens 𝓤 H A κ κ′ q q′ ∷ ‵ (Owned κ κ′ d) ∷ []) ∵
       suffices ! _ (ends-at 𝓤 H A fn.ended stayed (fn.clauses 𝓤 H A mem run) W ((κs, (q, (q′, tt)), tt, (d, tt), (mach ∷ [], tt)), tt) u r (tt, tt) (tt, tt)) $
@@ -113,7 +113,7 @@ module _ {M : Type 1} (𝓤 : URA M) (H : Heap 𝓤) (A : Atoms 𝓤) (W : Given
         (λ (r : RefT (List ℕ)). (Tokens 𝓤 H A κ κ′ q q′ ⊛ ‵ (Part .own r (u ∷ []))) ⊛ raw
         (ensured 𝓤 H A callee.ended (callee.clauses 𝓤 H A mem run) κs (d .text, (d .words, (d .card, tt))) tt r))))
         (id⊢ 𝓤 _) $ await ! tt $ pick ! (λ r.
-        split ! $ move ! (1 ∷ []) $ use1 W (raw (fact 𝓤 (now r ≡ found))) (said r) $ heard ! (now r ≡ found) (λ e. split ! $ move ! (1 ∷ []) $
+        split ! $ move ! (1 ∷ []) $ use1 W (raw (fact 𝓤 (Found r))) (said r) $ heard ! (Found r) (λ e. split ! $ move ! (1 ∷ []) $
         -- [the result; the tokens; what the struct owns; _4; …; _3; …; _2; …; _1; …; room for _0; …]
         peeks ! Part (Is Part) (shows 𝓤 H A Part) r (u ∷ []) (λ is.
         land ! (from ! (stop !)) (init ! 11 refl (shr-slice-lawful 𝓤 H A W (named 0) κ u8 .typed r _ is .0)) $

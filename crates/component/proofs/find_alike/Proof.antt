@@ -1,28 +1,27 @@
 use Prim.Native.Nat.{_-_}
 use mathlib.Core.Path.{_≡_, refl, sym, _∙_}
 use mathlib.Core.Logic.{⊎-elim}
-use Rattle.definition.specs.Lists.{any}
 use Rattle.definition.specs.Catalogue.{row}
-use Rattle.component.specs.Pushed.{alikeRows, usedFrom, rowsFrom}
+use Rattle.component.specs.Pushed.{placeOf, alikeRows, usedFrom, rowsFrom}
 use Rattle.component.specs.RowsByCards.{sameStored}
-use Rattle.component.proofs.Turns.{listed-use, listed-root, listed-hit, listed-miss, listed-other, listed-end}
-use Rattle.component.proofs.is_listed.Statement.{statement}
-use Rattle.component.proofs.is_listed.Tie as tie
+use Rattle.component.proofs.Turns.{alike-use, alike-root, alike-hit, alike-miss, alike-other, alike-end}
+use Rattle.component.proofs.find_alike.Statement.{statement}
+use Rattle.component.proofs.find_alike.Tie as tie
 use borrow.Author.Needs.{needs}
-use Rattle.component.proofs.is_listed.Reads as reads
-use Rattle.component.proofs.is_listed.Lts as lts
+use Rattle.component.proofs.find_alike.Reads as reads
+use Rattle.component.proofs.find_alike.Lts as lts
 use Rattle.component.proofs.same_stored.Reads as same-stored-reads
 
 abbrev Inv-loop : tie.InvT-loop
 Inv-loop text words hashes rows start used kind card i₀ i =
-    any (alikeRows (sameStored text words) (row kind card 0)) (rowsFrom rows start (used - start))
-    ≡ any (alikeRows (sameStored text words) (row kind card 0)) (rowsFrom rows i (used - i))
+    placeOf (alikeRows (sameStored text words) (row kind card 0)) used start (rowsFrom rows start (used - start)) ≡
+    placeOf (alikeRows (sameStored text words) (row kind card 0)) used i (rowsFrom rows i (used - i))
 
 abbrev μ-loop : tie.MeasureT-loop
 μ-loop text words hashes rows start used kind card i₀ i = used - i
 
 returns : tie.Need-returns Inv-loop μ-loop
-returns c = sym (listed-use _ _ _ _ (c .if1 .taken))
+returns c = sym (alike-use _ _ _ _ _ _ (c .if1 .taken))
 
 loop-holds : tie.Need-loop-holds Inv-loop μ-loop
 loop-holds c = refl
@@ -43,7 +42,7 @@ returns-2 : tie.Need-returns-2 Inv-loop μ-loop
 unfolding usedFrom
 returns-2 c =
     let root = sym (c .before .is-root .ensures) ∙ c .if3 .taken in
-    sym (c .before .before .before .before .before .loop .inv ∙ listed-root _ _ _ _ _ _ (c .before .before .before .before .loop-test .taken)
+    sym (c .before .before .before .before .before .loop .inv ∙ alike-root _ _ _ _ _ _ (c .before .before .before .before .loop-test .taken)
     (c .before .before .if2 .taken) root)
 
 mul-same-stored : tie.Need-mul-same-stored Inv-loop μ-loop
@@ -67,7 +66,7 @@ returns-3 c =
     let root = sym (c .before .before .before .before .is-root .ensures) ∙ c .before .before .before .if3 .left in
     let same = sym (c .before .same-stored .ensures) ∙ c .if4 .taken in
     sym (c .before .before .before .before .before .before .before .before .loop .inv
-    ∙ listed-hit _ _ _ _ _ _ (c .before .before .before .before .before .before .before .loop-test .taken)
+    ∙ alike-hit _ _ _ _ _ _ (c .before .before .before .before .before .before .before .loop-test .taken)
     (c .before .before .before .before .before .if2 .taken) root (c .before .before .before .before .before .before .before .before .before .if1 .left)
     same)
 
@@ -81,17 +80,17 @@ loop-again : tie.Need-loop-again Inv-loop μ-loop
 loop-again c =
     let h = c .before .before .loop-test .taken in
     c .before .before .before .loop .inv ∙ ⊎-elim
-    (λ w. listed-miss _ _ _ _ _ _ h (w .0 .taken) (sym (w .1 .ensures) ∙ w .2 .left) (c .before .before .before .before .if1 .left)
+    (λ w. alike-miss _ _ _ _ _ _ h (w .0 .taken) (sym (w .1 .ensures) ∙ w .2 .left) (c .before .before .before .before .if1 .left)
     (sym (w .4 .ensures) ∙ w .5 .left))
-    (λ w. listed-other _ _ _ _ _ _ h (w .left))
+    (λ w. alike-other _ _ _ _ _ _ h (w .left))
     (c .if2 .came)
 
 returns-4 : tie.Need-returns-4 Inv-loop μ-loop
 unfolding usedFrom
-returns-4 c = sym (c .before .loop .inv ∙ listed-end _ _ _ _ _ _ (c .loop-test .left))
+returns-4 c = sym (c .before .loop .inv ∙ alike-end _ _ _ _ _ _ (c .loop-test .left))
 
-pub is-listed-spec : {M : Type 1} → statement M
-is-listed-spec =
+pub find-alike-spec : {M : Type 1} → statement M
+find-alike-spec =
     tie.close
     (tie.spec
     Inv-loop
