@@ -21,8 +21,8 @@ use Rattle.store.proofs.Clean.{item-in-text, name-in-text}
 use Rattle.store_check.proofs.Checked.{SoundStore}
 use Rattle.store.specs.Moving.{Within}
 use Rattle.store.specs.Filing.{FilingFits, OpeningFits}
-use Rattle.store.specs.FilingCheckCapacity.{capacityFor, lentRefusal}
-use Rattle.store.proofs.Enough.{capacity-left, unrefused}
+use Rattle.store_filing_check.specs.FilingRefusal.{capacityFor, lentRefusal}
+use Rattle.store_filing_check.proofs.Enough.{capacity-left, unrefused}
 use Rattle.store.proofs.Filed.{count-cards}
 
 -- ---- A document that passes 1 to 5.

@@ -1,3 +1,2 @@
-pub mod FilingCheckCapacity
 pub mod Moving
 pub mod Filing

@@ -1,5 +1,4 @@
 // Opening a store, filing documents into it and turning its switches on: SchemaBuilder's `new`, `add_ast` and its two switches.
-use crate::filing_check::Capacity;
 use ast_check::CardCheck;
 use definition::Answer;
 use definition::layout::ADOPT_SWITCH;
@@ -8,6 +7,7 @@ use definition::layout::TEXT_CAPACITY;
 use definition::layout::WORDS_CAPACITY;
 use definition::refusal::STORE_TOO_SHORT;
 use store_check::StoreCheck;
+use store_filing_check::Capacity;
 ghost use mathlib.Core.Path.{_≡_};
 ghost use Prim.Native.Nat.{_≤_};
 ghost use lib.ListN.{set};
@@ -15,7 +15,6 @@ ghost use Rattle.definition.specs.Outcomes.{open-store, add-ast, turned, adopt-
 
 pub mod copying;
 pub mod filing;
-pub mod filing_check;
 
 // Files document 0 with both switches off, over whatever the store held.
 pub fn open(text: &mut [u8], words: &mut [u32], lent: &[u8], cards: &[u32]) -> Answer
@@ -40,7 +39,7 @@ pub fn open(text: &mut [u8], words: &mut [u32], lent: &[u8], cards: &[u32]) -> A
     if let CardCheck::Faulty(answer) = store_built_in::check_built_in(lent, cards) {
         return answer;
     }
-    if let Capacity::Refused(number) = crate::filing_check::check_capacity(0, 0, lent, cards) {
+    if let Capacity::Refused(number) = store_filing_check::check_capacity(0, 0, lent, cards) {
         return Answer { number, card: 0 };
     }
     crate::filing::file_built_in(text, words, lent, cards);
@@ -55,7 +54,7 @@ pub fn add_ast(text: &mut [u8], words: &mut [u32], lent: &[u8], cards: &[u32]) -
     if let StoreCheck::Refused(number) = store_check::check_store(text, words) {
         return Answer { number, card: 0 };
     }
-    match crate::filing_check::check_filing(words, lent, cards) {
+    match store_filing_check::check_filing(words, lent, cards) {
         CardCheck::Faulty(answer) => answer,
         CardCheck::Sound => {
             crate::filing::file(text, words, lent, cards);

@@ -1,6 +1,6 @@
 use mathlib.Core.Path.{_≡_, sym, ap, _∙_}
 use Rattle.ast_check.specs.Checks.{checkOption}
-use Rattle.store.specs.FilingCheckCapacity.{capacityOption}
+use Rattle.store_filing_check.specs.FilingRefusal.{capacityOption}
 use Rattle.store.proofs.Allowed.{opening-faulty, opening-barred, opening-capacity, opens}
 use Rattle.store.proofs.Entries.{open-short-text, open-short-words, open-refused, open-done}
 use Rattle.store.proofs.open.Statement.{statement}

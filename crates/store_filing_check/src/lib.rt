@@ -16,7 +16,7 @@ ghost use Rattle.definition.specs.Cards.{cardWords};
 ghost use Rattle.definition.specs.Refusals.{textCapacity, cardCapacity};
 ghost use Rattle.definition.specs.Store.{documentsAt, textUsed, cardsUsed};
 ghost use Rattle.ast_check.specs.Checks.{checkOption};
-ghost use Rattle.store.specs.FilingCheckCapacity.{capacityOption, capacityFor, lentRefusal};
+ghost use Rattle.store_filing_check.specs.FilingRefusal.{capacityOption, capacityFor, lentRefusal};
 
 // There is room for a document, or it is refused with this number.
 pub enum Capacity {

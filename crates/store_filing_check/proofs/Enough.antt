@@ -12,7 +12,7 @@ use Rattle.definition.specs.Cards.{cardWords, documentFault}
 use Rattle.definition.specs.Refusals.{textCapacity, documentCapacity, cardCapacity, refuse}
 use Rattle.definition.specs.Store.{documentCount, textUsed, cardsUsed}
 use Rattle.definition.proofs.Tests.{orElse-none, refuse-none}
-use Rattle.store.specs.FilingCheckCapacity.{capacityFor, lentRefusal}
+use Rattle.store_filing_check.specs.FilingRefusal.{capacityFor, lentRefusal}
 
 -- ---- 24 and 25.
 

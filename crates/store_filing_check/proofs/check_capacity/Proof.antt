@@ -2,9 +2,9 @@ use Prim.Native.Nat.{_/_}
 use native.Mathlib.Omega.{arith}
 use lib.ListN.{length}
 use Rattle.definition.specs.Cards.{cardWords}
-use Rattle.store.proofs.Enough.{text-full, cards-full, enough}
-use Rattle.store.proofs.filing_check.check_capacity.Statement.{statement}
-use Rattle.store.proofs.filing_check.check_capacity.Tie as tie
+use Rattle.store_filing_check.proofs.Enough.{text-full, cards-full, enough}
+use Rattle.store_filing_check.proofs.check_capacity.Statement.{statement}
+use Rattle.store_filing_check.proofs.check_capacity.Tie as tie
 use borrow.Author.Needs.{needs}
 
 sub-if1 : tie.Need-sub-if1

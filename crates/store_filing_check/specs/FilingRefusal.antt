@@ -10,8 +10,8 @@ use Rattle.definition.specs.Answers.{answer}
 use Rattle.definition.specs.Cards.{cardWords, documentFault}
 use Rattle.definition.specs.Refusals.{textCapacity, documentCapacity, cardCapacity, refuse}
 use Rattle.definition.specs.Store.{documentCount, textUsed, cardsUsed}
-use Rattle.store.specs.declared.filing_check.Capacity.{Capacity}
-use Rattle.store.specs.declared.filing_check.Capacity.the-variants.{Enough, Refused}
+use Rattle.store_filing_check.specs.declared.Capacity.{Capacity}
+use Rattle.store_filing_check.specs.declared.Capacity.the-variants.{Enough, Refused}
 
 abbrev pub capacityOption : Capacity → Option Answer
 capacityOption Enough = none

@@ -2,10 +2,10 @@ use mathlib.Core.Path.{sym, ap, _∙_}
 use native.Mathlib.Omega.{arith}
 use Rattle.definition.specs.Store.{documentCount, textUsed, cardsUsed}
 use Rattle.ast_check.specs.Checks.{checkOption}
-use Rattle.store.specs.FilingCheckCapacity.{capacityOption}
-use Rattle.store.proofs.Enough.{lent-faulty, lent-full, lent-capacity}
-use Rattle.store.proofs.filing_check.check_filing.Statement.{statement}
-use Rattle.store.proofs.filing_check.check_filing.Tie as tie
+use Rattle.store_filing_check.specs.FilingRefusal.{capacityOption}
+use Rattle.store_filing_check.proofs.Enough.{lent-faulty, lent-full, lent-capacity}
+use Rattle.store_filing_check.proofs.check_filing.Statement.{statement}
+use Rattle.store_filing_check.proofs.check_filing.Tie as tie
 use borrow.Author.Needs.{needs}
 
 check-document-requires : tie.Need-check-document-requires
