@@ -108,14 +108,14 @@ enum gimletaspen_error {
 /* How many error numbers there are: 1 and up. */
 #define GIMLETASPEN_ERROR_NUMBERS 16
 
-/* Why a call was refused; 0 is an accepted call. Where several hold, the first of 21, 22, 26, 7, 1, the first faulty card with its lowest number (2 to 5),
- * 6, 23, 24, 25 is told. docs/FORMAT.md says which call asks which. */
+/* Why a call was refused; 0 is an accepted call. Where several hold, the first of 21, 22, 26, 7, 1, the first faulty card with the first of 2, 3, 4, 27,
+ * 28, 5 that holds for it, 6, 23, 24, 25 is told. docs/FORMAT.md says which call asks which. */
 enum gimletaspen_refusal {
     GIMLETASPEN_ACCEPTED = 0,
     GIMLETASPEN_CARDS_BROKEN = 1,       /* the card words are not whole cards */
     GIMLETASPEN_CARD_KIND = 2,          /* a card's kind is none of those above */
     GIMLETASPEN_CARD_SPAN = 3,          /* its item is empty, past the text, outside its heading's item, or begins before the sibling in front of it ends */
-    GIMLETASPEN_CARD_NAME = 4,          /* its name is missing, or there and should not be, outside the item, no Name, or (21, 23) not just the item */
+    GIMLETASPEN_CARD_NAME = 4,          /* its name is outside the item or (21, 23) not just the item */
     GIMLETASPEN_CARD_ORDER = 5,         /* a part without heading, under a heading that has none of its kind, or after parts that it must precede */
     GIMLETASPEN_NOT_BUILT_IN = 6,       /* document 0 has an operation, fragment, schema definition or extension, or gives an error by itself */
     GIMLETASPEN_SLICE_SHORT = 7,        /* a slice to be written is shorter than its least length above */
@@ -124,10 +124,12 @@ enum gimletaspen_refusal {
     GIMLETASPEN_DOCUMENTS_FULL = 23,    /* the store holds 64 documents already */
     GIMLETASPEN_TEXT_FULL = 24,         /* its text would pass 65,536 bytes */
     GIMLETASPEN_CARDS_FULL = 25,        /* its cards would pass 2,300 */
-    GIMLETASPEN_ROWS_REFUSED = 26       /* the lent rows are not whole rows in the order of a catalogue, or their cards are not this store's */
+    GIMLETASPEN_ROWS_REFUSED = 26,      /* the lent rows are not whole rows in the order of a catalogue, or their cards are not this store's */
+    GIMLETASPEN_CARD_NAME_PRESENCE = 27, /* a card's name is missing, or there and should not be */
+    GIMLETASPEN_CARD_NAME_BYTES = 28    /* the bytes of a card's name are no Name */
 };
 
-/* A refusal, or 0. For 2 to 6 the number of the card in its own document, from 0; for an accepted call that fills a list how many origins or groups it
+/* A refusal, or 0. For 2 to 6, 27 and 28 the number of the card in its own document, from 0; for an accepted call that fills a list how many origins or groups it
  * wrote; else 0. */
 struct gimletaspen_answer {
     uint32_t number;

@@ -1,4 +1,5 @@
-"""Refusals 1 to 5 of lent cards, clause by clause, at opening and at filing. All expected answers are by hand from 01; None means that the cards pass."""
+"""Refusals 1 to 5, 27 and 28 of lent cards, clause by clause, at opening and at filing. All expected answers are by hand from the papers; None means that
+the cards pass."""
 from lib.cards import BY_HAND
 from lib.sizes import NONE
 
@@ -74,14 +75,19 @@ def items(new):
 
 
 def names(new):
-    table(new, '4: a name wrongly present', *[('schema', [kind, 0, 6, at, size], (4, 0)) for kind in (4, 11) for at, size in
-          ((0, 1), (1, 0), (0, 6), (5, 0), (6, 0), (1, 5), (NONE, 0), (0, NONE))], ('schema', [4, 0, 6, 0, 0], None, (6, 0)))
-    table(new, '4: a heading\'s name wrongly absent', *[('AB', [kind, 0, 2, 0, 0], (4, 0)) for kind in (2, 3, 5, 6, 7, 8, 9, 10, 12, 13, 14, 15, 16, 17)])
+    table(new, '27: a name wrongly present', *[('schema', [kind, 0, 6, at, size], (27, 0)) for kind in (4, 11) for at, size in
+          ((0, 1), (1, 0), (0, 6), (5, 0), (6, 0), (1, 5))], ('schema', [4, 0, 6, 0, 0], None, (6, 0)))
+    table(new, '27: a name wrongly present and no Name', *[('sch-ma', [kind, 0, 6, at, size], (27, 0)) for kind in (4, 11) for at, size in
+          ((0, 6), (3, 1), (2, 0))])
+    table(new, '4 before 27: a name wrongly present, outside its item', *[('schema', [kind, 0, 6, at, size], (4, 0)) for kind in (4, 11) for at, size in
+          ((7, 1), (7, 0), (6, 1), (NONE, 0), (0, NONE))], *[('schema', [kind, 2, 4, at, size], (4, 0)) for kind in (4, 11) for at, size in
+          ((0, 1), (1, 0), (1, 5), (0, 6))])
+    table(new, '27: a heading\'s name wrongly absent', *[('AB', [kind, 0, 2, 0, 0], (27, 0)) for kind in (2, 3, 5, 6, 7, 8, 9, 10, 12, 13, 14, 15, 16, 17)])
     headings = {20: 5, 21: 6, 22: 7, 23: 8, 24: 9, 25: 10, 26: 4, 27: 4, 28: 4}
-    table(new, '4: a part\'s name wrongly absent', *[
-        ('AB', [heading, 0, 2] + ([0, 0] if heading == 4 else [0, 1]) + [part, 1, 1, 0, 0], (4, 1)) for part, heading in headings.items()])
-    table(new, '4: kind 1 may have a name, a Name in its item', ('aa}', [1, 0, 3, 0, 0], None, (6, 0)), ('aa}', [1, 0, 3, 0, 1], None, (6, 0)),
-          ('aa}', [1, 0, 3, 1, 0], (4, 0)), ('aa}', [1, 0, 3, 1, 2], (4, 0)), ('aa}', [1, 0, 2, 1, 2], (4, 0)), ('aa}', [1, 1, 1, 0, 1], (4, 0)),
+    table(new, '27: a part\'s name wrongly absent', *[
+        ('AB', [heading, 0, 2] + ([0, 0] if heading == 4 else [0, 1]) + [part, 1, 1, 0, 0], (27, 1)) for part, heading in headings.items()])
+    table(new, '4 and 28: kind 1 may have a name, a Name in its item', ('aa}', [1, 0, 3, 0, 0], None, (6, 0)), ('aa}', [1, 0, 3, 0, 1], None, (6, 0)),
+          ('aa}', [1, 0, 3, 1, 0], (28, 0)), ('aa}', [1, 0, 3, 1, 2], (28, 0)), ('aa}', [1, 0, 2, 1, 2], (4, 0)), ('aa}', [1, 1, 1, 0, 1], (4, 0)),
           ('aa}', [1, 1, 1, 0, 0], None, (6, 0)))
     table(new, '4: a name outside its item', ('ABCDEF', [5, 2, 2, 1, 1], (4, 0)), ('ABCDEF', [5, 2, 2, 1, 2], (4, 0)), ('ABCDEF', [5, 2, 2, 3, 2], (4, 0)),
           ('ABCDEF', [5, 2, 2, 4, 1], (4, 0)), ('ABCDEF', [5, 2, 2, 1, 4], (4, 0)), ('ABCDEF', [5, 2, 2, 2, 2], None), ('ABCDEF', [5, 2, 2, 0, 1], (4, 0)),
@@ -91,19 +97,31 @@ def names(new):
           ('AB', [5, 0, 2, 2 ** 32 - 2, 3], (4, 0)))
     # The bytes beside each range of letters and digits.
     letters, digits, others = b'AZaz_', b'09', b'/:@[`{ -\n\x00\x7f\x80\xc1\xe9\xff'
-    table(new, '4: how a Name begins', *[(bytes([byte]) + b'a', [5, 0, 2, 0, 2],
-                                          None if byte in letters else (4, 0)) for byte in letters + digits + others])
-    table(new, '4: how a Name goes on', *[
-        (b'a' + bytes([byte]), [5, 0, 2, 0, 2], None if byte in letters + digits else (4, 0)) for byte in letters + digits + others])
-    table(new, '4: a Name to its last byte', (b'abcdefg-', [5, 0, 8, 0, 8], (4, 0)), (b'abcdefg-', [5, 0, 8, 0, 7], None),
-          (b'abc-efgh', [5, 0, 8, 0, 8], (4, 0)),
-          (b'1bcdefgh', [5, 0, 8, 0, 8], (4, 0)), (b'1bcdefgh', [5, 0, 8, 1, 7], None), (b'_', [5, 0, 1, 0, 1], None), (b'__', [5, 0, 2, 0, 2], None),
-          (b'abcdefgh', [5, 0, 8, 3, 0], (4, 0)), (b'abcdefgh', [5, 3, 5, 3, 0], (4, 0)))
+    table(new, '28: how a Name begins', *[(bytes([byte]) + b'a', [5, 0, 2, 0, 2],
+                                           None if byte in letters else (28, 0)) for byte in letters + digits + others])
+    table(new, '28: how a Name goes on', *[
+        (b'a' + bytes([byte]), [5, 0, 2, 0, 2], None if byte in letters + digits else (28, 0)) for byte in letters + digits + others])
+    table(new, '28: a Name to its last byte', (b'abcdefg-', [5, 0, 8, 0, 8], (28, 0)), (b'abcdefg-', [5, 0, 8, 0, 7], None),
+          (b'abc-efgh', [5, 0, 8, 0, 8], (28, 0)),
+          (b'1bcdefgh', [5, 0, 8, 0, 8], (28, 0)), (b'1bcdefgh', [5, 0, 8, 1, 7], None), (b'_', [5, 0, 1, 0, 1], None), (b'__', [5, 0, 2, 0, 2], None),
+          (b'abcdefgh', [5, 0, 8, 3, 0], (28, 0)), (b'abcdefgh', [5, 3, 5, 3, 0], (28, 0)), (b'ab', [5, 0, 2, 1, 0], (28, 0)))
+    kinds = (2, 3, 5, 6, 7, 8, 9, 10, 12, 13, 14, 15, 16, 17)
+    table(new, '28: of each heading, a name of no bytes and one with a mark', *[
+        ('A-', [kind, 0, 2] + span, (28, 0)) for kind in kinds for span in ([1, 0], [1, 1], [0, 2])])
+    table(new, '28: of each part', *[
+        ('A-BC', [heading, 0, 4] + ([0, 0] if heading == 4 else [0, 1]) + [part, 1, 2, 1, 2], (28, 1)) for part, heading in headings.items()])
+    table(new, '4 before 28: outside its item and no Name', ('A-B-', [5, 0, 2, 3, 1], (4, 0)), ('A-B-', [5, 2, 2, 1, 1], (4, 0)),
+          ('A-B-', [5, 0, 2, 3, 0], (4, 0)), ('A-B-', [6, 0, 4, 0, 1, 22, 2, 1, 3, 1], (4, 1)), ('A-B-', [6, 0, 4, 0, 1, 22, 2, 1, 1, 0], (4, 1)))
     for kind, heading in ((21, 6), (23, 8)):
         table(new, f'4: unequal to the item in {kind}', *[
             ('BBBB', [heading, 0, 4, 0, 1, kind] + span, want) for span, want in (
                 ([1, 2, 1, 1], (4, 1)), ([1, 2, 2, 1], (4, 1)), ([1, 1, 2, 1], (4, 1)), ([1, 1, 1, 2], (4, 1)), ([1, 2, 1, 2], None), ([1, 3, 1, 3], None),
-                ([0, 4, 0, 4], None), ([1, 2, 1, 0], (4, 1)))])
+                ([0, 4, 0, 4], None), ([1, 2, 1, 0], (4, 1)), ([1, 2, 2, 0], (4, 1)), ([1, 2, 0, 0], (27, 1)))])
+        table(new, f'28: the item of {kind} is no Name', *[
+            ('B-BB', [heading, 0, 4, 0, 1, kind] + span, want) for span, want in (
+                ([1, 2, 1, 2], (28, 1)), ([1, 1, 1, 1], (28, 1)), ([1, 2, 2, 1], (4, 1)), ([2, 2, 2, 2], None))])
+    table(new, '4: an interface\'s empty name is unequal to its item', ('A BB', [6, 0, 4, 0, 1, 21, 2, 2, 2, 0], (4, 1)),
+          ('A BB', [6, 0, 4, 0, 1, 21, 2, 2, 0, 0], (27, 1)), ('A BB', [6, 0, 4, 0, 1, 21, 2, 2, 2, 2], None))
     table(new, '4: text outside names is never looked at', (b'\xff\x00', [], None), (b'\xff\x00A\xfe', [5, 0, 4, 2, 1], None),
           (b'}{"A', [6, 0, 4, 3, 1], None))
 
@@ -149,20 +167,25 @@ def places(new):
 
 
 def which(new):
-    """The first faulty card, then the lowest number that holds for it."""
+    """The first faulty card, then the first that holds for it: 2, 3, 4, 27, 28, 5."""
+    table(new, '27 and 28 stand between 4 and 5', ('9', [22, 0, 1, 0, 1], (28, 0)), ('a', [22, 0, 1, 0, 1], (5, 0)), ('a', [22, 0, 1, 0, 0], (27, 0)),
+          ('9a', [22, 0, 1, 1, 1], (4, 0)), ('AB9', [8, 0, 3, 0, 1, 22, 2, 1, 2, 1], (28, 1)), ('ABC', [8, 0, 3, 0, 1, 22, 2, 1, 0, 0], (27, 1)),
+          ('ABC', [8, 0, 3, 0, 1, 22, 1, 1, 2, 1], (4, 1)), ('ABC', [8, 0, 3, 0, 1, 22, 2, 1, 2, 1], (5, 1)),
+          ('ABC', [5, 0, 4, 0, 0], (3, 0)), ('9BC', [5, 0, 0, 0, 1], (3, 0)), ('ABC', [18, 0, 1, 0, 0], (2, 0)), ('9BC', [19, 0, 1, 0, 1], (2, 0)),
+          ('ABC', [22, 0, 1, 0, 1, 5, 1, 1, 0, 0], (5, 0)), ('A9C', [22, 0, 1, 0, 1, 5, 1, 1, 1, 1], (5, 0)))
     table(new, '2 to 5: the lowest number of one card', (INT, [0, 0, 0, 0, 0], (2, 0)), (INT, [29, 11, 1, 11, 1], (2, 0)), (INT, [22, 0, 0, 0, 0], (3, 0)),
-          (INT, [22, 0, 11, 0, 0], (3, 0)), (INT, [22, 0, 2, 0, 0], (4, 0)), (INT, [23, 0, 2, 0, 1], (4, 0)), (INT, [5, 0, 11, 0, 0], (3, 0)),
-          ('ABC', [2, 0, 2, 0, 1, 22, 2, 1, 0, 0], (3, 1)), ('ABC', [2, 0, 2, 0, 1, 22, 1, 1, 0, 0], (4, 1)),
+          (INT, [22, 0, 11, 0, 0], (3, 0)), (INT, [22, 0, 2, 0, 0], (27, 0)), (INT, [23, 0, 2, 0, 1], (4, 0)), (INT, [5, 0, 11, 0, 0], (3, 0)),
+          ('ABC', [2, 0, 2, 0, 1, 22, 2, 1, 0, 0], (3, 1)), ('ABC', [2, 0, 2, 0, 1, 22, 1, 1, 0, 0], (27, 1)),
           ('ABC', [2, 0, 2, 0, 1, 22, 1, 1, 1, 1], (5, 1)),
           ('ABC', [5, 0, 3, 0, 1, 22, 1, 1, 2, 1], (4, 1)), ('ABC', [6, 0, 3, 0, 1, 22, 0, 2, 0, 1, 21, 1, 1, 1, 1], (3, 2)))
     table(new, '2 to 5: the first faulty card, not the lowest number', ('AB', [22, 0, 1, 0, 1, 99, 0, 1, 0, 1], (5, 0)),
-          ('ABC', [5, 0, 1, 0, 0, 99, 1, 1, 1, 1], (4, 0)), ('ABC', [5, 0, 0, 0, 1, 99, 1, 1, 1, 1], (3, 0)),
-          ('ABC', [6, 0, 3, 0, 1, 22, 1, 1, 0, 0, 22, 1, 0, 1, 1], (4, 1)),
+          ('ABC', [5, 0, 1, 0, 0, 99, 1, 1, 1, 1], (27, 0)), ('ABC', [5, 0, 0, 0, 1, 99, 1, 1, 1, 1], (3, 0)),
+          ('ABC', [6, 0, 3, 0, 1, 22, 1, 1, 0, 0, 22, 1, 0, 1, 1], (27, 1)),
           ('ABC', [6, 0, 3, 0, 1, 22, 1, 1, 1, 1, 21, 2, 1, 2, 1, 99, 0, 0, 0, 0], (5, 2)))
     good = [5, 0, 1, 0, 1, 5, 1, 1, 1, 1, 5, 2, 1, 2, 1]
     case = new('2 to 5: the card\'s number is that in its own document')
     case.file(INT, 'type A{n:Int}')
-    for number, faulty in ((2, [29, 3, 1, 3, 1]), (3, [5, 3, 2, 3, 1]), (4, [5, 3, 1, 3, 0])):
+    for number, faulty in ((2, [29, 3, 1, 3, 1]), (3, [5, 3, 2, 3, 1]), (4, [5, 3, 1, 2, 1]), (27, [5, 3, 1, 0, 0]), (28, [5, 3, 1, 3, 0])):
         for before in range(4):
             case.add(case.doc('ABCD', good[:BY_HAND * before] + faulty), (number, before))
     for before in range(4):

@@ -69,12 +69,13 @@ def lent_first(new):
     case.open(case.doc(INT))
     letters, words = one_letter(CARDS + 1, 3)
     long = letters + ' ' * (TEXT + 1 - len(letters))
-    for cards, want in ((words, (24, 0)), ([5, 0, 1, 0, 0], (4, 0)), ([5, 0, 1, 0, 1, 5, 1, 1, 1, 1], (6, 1))):
+    for cards, want in ((words, (24, 0)), ([5, 0, 1, 0, 0], (27, 0)), ([5, 0, 1, 0, 1, 5, 1, 1, 1, 1], (6, 1))):
         case.open(case.doc(long, cards), want)
     case.build(listing=listed('4 - -, 5 0 -'))
 
 
-FAULTY = [([5], (1, 0)), ([0, 0, 1, 0, 1], (2, 0)), ([5, 0, 3, 0, 1], (3, 0)), (ONE + [5, 1, 1, 0, 1], (4, 1)), (ONE + [22, 0, 1, 0, 1], (5, 1))]
+FAULTY = [([5], (1, 0)), ([0, 0, 1, 0, 1], (2, 0)), ([5, 0, 3, 0, 1], (3, 0)), (ONE + [5, 1, 1, 0, 1], (4, 1)),
+          (ONE + [5, 1, 1, 0, 0], (27, 1)), (ONE + [5, 1, 1, 1, 0], (28, 1)), (ONE + [22, 0, 1, 0, 1], (5, 1))]
 
 
 def full_store(new):

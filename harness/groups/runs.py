@@ -25,7 +25,7 @@ def refused_between(case, *documents):
 def by_hand(new):
     case = new('a drawing after each call, refused calls between')
     faulty = [(case.doc('A', [5, 0, 1, 0]), (1, 0)), (case.doc('A', [0, 0, 1, 0, 1]), (2, 0)), (case.doc('A', [5, 0, 2, 0, 1]), (3, 0)),
-              (case.doc('A', [5, 0, 1, 0, 0]), (4, 0)),
+              (case.doc('A', [5, 0, 1, 0, 0]), (27, 0)),
               (case.doc('A', [22, 0, 1, 0, 1]), (5, 0))]
     case.open(case.doc(INT))
     case.build(listing=listed('4 - -, 5 0 -'))

@@ -38,20 +38,21 @@ def name_in(text, card):
     return bytes(text[card.name:card.name + card.size])
 
 
-def has_name_fault(text, card):
+def name_fault(text, card):
+    """4, 27 or 28, the first in this order that holds for the card's name, or None. Of an absent name only 27 is asked."""
     if is_absent(card):
-        return card.kind not in (1, 4, 11)
-    if card.kind in (4, 11):
-        return True
+        return None if card.kind in (1, 4, 11) else Refusal.CARD_NAME_PRESENCE
     if card.name < card.item or card.name + card.size > end_of(card):
-        return True
-    if not is_name(name_in(text, card)):
-        return True
-    return card.kind in (21, 23) and (card.name, card.size) != (card.item, card.length)
+        return Refusal.CARD_NAME
+    if card.kind in (21, 23) and (card.name, card.size) != (card.item, card.length):
+        return Refusal.CARD_NAME
+    if card.kind in (4, 11):
+        return Refusal.CARD_NAME_PRESENCE
+    return None if is_name(name_in(text, card)) else Refusal.CARD_NAME_BYTES
 
 
 def card_fault(text, cards):
-    """The first faulty card with the lowest of 2 to 5 that holds for it: (number, card), or None."""
+    """The first faulty card with the first of 2, 3, 4, 27, 28, 5 that holds for it: (number, card), or None."""
     heading, last_heading, last_part = None, 0, None
     for number, card in enumerate(cards):
         if not (1 <= card.kind <= 17 or 20 <= card.kind <= 28):
@@ -65,8 +66,9 @@ def card_fault(text, cards):
             faulty = faulty or card.item < last_heading
         if faulty:
             return Refusal.CARD_SPAN, number
-        if has_name_fault(text, card):
-            return Refusal.CARD_NAME, number
+        named = name_fault(text, card)
+        if named:
+            return named, number
         if is_part:
             place = place_of(heading.kind, card.kind) if heading else None
             if place is None or (last_part and place < place_of(heading.kind, last_part.kind)):

@@ -50,6 +50,8 @@ class Refusal:
     TEXT_FULL = 24
     CARDS_FULL = 25
     ROWS_REFUSED = 26
+    CARD_NAME_PRESENCE = 27
+    CARD_NAME_BYTES = 28
 
 
 class Error:

@@ -101,10 +101,10 @@ def lent(title, text, words, wanted, is_built_in=False):
     same(title, model.lent_fault(text, in_full(words), is_built_in), wanted)
 
 
-lent('1.1 absent', b'aa}', [1, 0, 3, 1, 0], (4, 0))
+lent('1.1 absent', b'aa}', [1, 0, 3, 1, 0], (28, 0))
 lent('1.1 present', b'aa}', [1, 0, 3, 0, 1], None)
 lent('1.1 none', b'aa}', [1, 0, 3, 0, 0], None)
-lent('1.1 schema', b'schema', [4, 0, 6, 1, 0], (4, 0))
+lent('1.1 schema', b'schema', [4, 0, 6, 1, 0], (27, 0))
 lent('1.4', b'BBBB', [8, 0, 4, 0, 1, 23, 1, 2, 1, 1], (4, 1))
 lent('1.5', b'\xff\x00', [], None)
 lent('1.6 item', b'A', [5, NONE, 2, 0, 1], (3, 0))

@@ -1,6 +1,6 @@
 -- One law for each answer of each fault's test.
 use mathlib.Core.Path.{_≡_, refl, sym}
-use mathlib.Core.Bool.{Bool, true, false, _||_, not}
+use mathlib.Core.Bool.{Bool, true, false, _||_, not, and-false}
 use mathlib.Core.List.{List}
 use mathlib.Core.Option.{none, some}
 use Prim.Native.Nat.{ℕ, _+_, _-_, _<_, _≤_}
@@ -106,7 +106,7 @@ module _ (p : Place) (c : Card) where
 
   pub item-not-name : (c .kind ≡ 21 → ⊥) → (c .kind ≡ 23 → ⊥) → nameNotItem p c ≡ false
   unfolding nameNotItem
-  item-not-name n m = simp (ne-eqb (c .kind) 21 n, ne-eqb (c .kind) 23 m)
+  item-not-name n m = simp (ne-eqb (c .kind) 21 n, ne-eqb (c .kind) 23 m, and-false (not (isUnnamed c)))
 
   pub interface-item : c .kind ≡ 21 → (eqb (c .kind) 21 || eqb (c .kind) 23) ≡ true
   interface-item e = simp e
@@ -114,13 +114,18 @@ module _ (p : Place) (c : Card) where
   pub member-item : c .kind ≡ 23 → (eqb (c .kind) 21 || eqb (c .kind) 23) ≡ true
   member-item e = simp e
 
-  pub starts-differ : (eqb (c .kind) 21 || eqb (c .kind) 23) ≡ true → (c .nameAt ≡ c .itemAt → ⊥) → nameNotItem p c ≡ true
+  pub item-unnamed : isUnnamed c ≡ true → nameNotItem p c ≡ false
   unfolding nameNotItem
-  starts-differ e n = simp (e, ne-eqb (c .nameAt) (c .itemAt) n)
+  item-unnamed u = simp u
 
-  pub starts-equal : (eqb (c .kind) 21 || eqb (c .kind) 23) ≡ true → c .nameAt ≡ c .itemAt → not (eqb (c .nameLen) (c .itemLen)) ≡ nameNotItem p c
+  pub starts-differ : isUnnamed c ≡ false → (eqb (c .kind) 21 || eqb (c .kind) 23) ≡ true → (c .nameAt ≡ c .itemAt → ⊥) → nameNotItem p c ≡ true
   unfolding nameNotItem
-  starts-equal e n = simp (e, eq-eqb (c .nameAt) (c .itemAt) n)
+  starts-differ u e n = simp (u, e, ne-eqb (c .nameAt) (c .itemAt) n)
+
+  pub starts-equal : isUnnamed c ≡ false → (eqb (c .kind) 21 || eqb (c .kind) 23) ≡ true → c .nameAt ≡ c .itemAt →
+      not (eqb (c .nameLen) (c .itemLen)) ≡ nameNotItem p c
+  unfolding nameNotItem
+  starts-equal u e n = simp (u, e, eq-eqb (c .nameAt) (c .itemAt) n)
 
   module _ (h : Card) (at places : ℕ) (ea : at ≡ placeIn (partOrder (definitionOf (h .kind))) (c .kind))
       (ep : places ≡ length (partOrder (definitionOf (h .kind)))) where

@@ -1,4 +1,4 @@
-// The faults 2 to 5 of a card, one function each, in the order in which they are asked. Offsets are added as usize, so that no sum wraps.
+// The faults 2 to 5, 27 and 28 of a card, one function each, in the order in which they are asked. Offsets are added as usize, so that no sum wraps.
 use ast::Card;
 use ast::kinds;
 ghost use mathlib.Core.Path.{_≡_};
@@ -130,10 +130,13 @@ pub fn name_no_name(text: &[u8], card: Card) -> bool
     !name::is_valid_syntax(name::bytes_at(text, at, len))
 }
 
-// Of an implemented interface and a union member the item is the name: the two spans are equal, not only their bytes.
+// Of an implemented interface and a union member the item is the name: the two spans are equal, not only their bytes. An absent name is not asked.
 pub fn name_not_item(card: Card) -> bool
     ensures { λ r. ⌜ ((p : Place) → r ≡ nameNotItem p (cardOf card)) ⌝ }
 {
+    if is_unnamed(card) {
+        return false;
+    }
     let kind = card.kind;
     if kind != kinds::IMPLEMENTS_INTERFACE {
         if kind != kinds::UNION_MEMBER {

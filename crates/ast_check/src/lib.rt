@@ -50,7 +50,7 @@ fn next_neighbours(before: Neighbours, card: Card) -> Neighbours
     }
 }
 
-// The lowest number of a card's faults among its neighbours, 0 where it has none.
+// The number of the first of a card's faults among its neighbours, 0 where it has none.
 fn fault_among(text: &[u8], base: usize, size: usize, near: Neighbours, card: Card) -> u32
     ensures { λ r. ⌜ r ≡ faultAmong (placeOf (now (text .entry)) base size near) (cardOf card) faults ⌝ }
 {
@@ -71,17 +71,17 @@ fn fault_among(text: &[u8], base: usize, size: usize, near: Neighbours, card: Ca
     if crate::faults::item_outside_heading(heading, card) {
         return refusal::ITEM_MISPLACED;
     }
-    if crate::faults::name_amiss(card) {
-        return refusal::NAME_FAULTY;
-    }
     if crate::faults::name_outside_item(card) {
-        return refusal::NAME_FAULTY;
-    }
-    if crate::faults::name_no_name(text, card) {
-        return refusal::NAME_FAULTY;
+        return refusal::NAME_MISPLACED;
     }
     if crate::faults::name_not_item(card) {
-        return refusal::NAME_FAULTY;
+        return refusal::NAME_MISPLACED;
+    }
+    if crate::faults::name_amiss(card) {
+        return refusal::NAME_PRESENCE;
+    }
+    if crate::faults::name_no_name(text, card) {
+        return refusal::NAME_BYTES;
     }
     if crate::faults::misplaced(near, card) {
         return refusal::PART_MISPLACED;
@@ -89,14 +89,14 @@ fn fault_among(text: &[u8], base: usize, size: usize, near: Neighbours, card: Ca
     0
 }
 
-// The lowest number of a card's faults, with the heading and the part that stand before it.
+// The number of the first of a card's faults, with the heading and the part that stand before it.
 fn fault_after(text: &[u8], base: usize, size: usize, before: Neighbours, card: Card) -> u32
     ensures { λ r. ⌜ r ≡ faultAmong (placeWith (now (text .entry)) base size before card) (cardOf card) faults ⌝ }
 {
     fault_among(text, base, size, judged(before, card), card)
 }
 
-// The first faulty card among the cards of a document, with the lowest number of its faults. Offsets count in `text`, of which the document has
+// The first faulty card among the cards of a document, with the number of the first of its faults. Offsets count in `text`, of which the document has
 // the `size` bytes from `base` on. Words past the last whole card are not looked at.
 pub fn check_cards(text: &[u8], base: usize, size: usize, cards: &[u32]) -> CardCheck
     ensures { λ r. ⌜ checkOption r ≡ cardFault (now (text .entry)) base size (cardsOf (now (cards .entry))) ⌝ }

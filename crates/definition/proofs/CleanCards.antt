@@ -16,7 +16,7 @@ use Rattle.definition.specs.Cards.{placeAfter, faultFrom, cardFault}
 use Rattle.definition.specs.Headings.{Document}
 use Rattle.definition.proofs.Tests.{zero-one, and-true, or-false, chosen-none, chosen-zero}
 
--- A document whose cards have none of the faults 2 to 5.
+-- A document whose cards have none of the faults 2 to 5, 27 and 28.
 abbrev pub Faultless : Document → Type 0
 Faultless d = cardFault (d .text) 0 (length (d .text)) (d .cards) ≡ none
 
@@ -28,10 +28,10 @@ pub record Clean (p : Place) (c : Card) : Type 0 where
   pub inText : itemOutsideText p c ≡ false
   pub afterSibling : itemBeforeSiblingEnd p c ≡ false
   pub inHeading : itemOutsideHeading p c ≡ false
-  pub nameFits : nameAmiss p c ≡ false
   pub nameInItem : nameOutsideItem p c ≡ false
-  pub nameIsName : nameNoName p c ≡ false
   pub nameIsItem : nameNotItem p c ≡ false
+  pub nameFits : nameAmiss p c ≡ false
+  pub nameIsName : nameNoName p c ≡ false
   pub inPlace : misplaced p c ≡ false
 
 clean-of : (p : Place) (c : Card) → faultAmong p c faults ≡ 0 → Clean p c
@@ -42,10 +42,10 @@ clean-of p c e0 =
     let q3 = chosen-zero (itemOutsideText p c) 3 _ refl (q2 .1) in
     let q4 = chosen-zero (itemBeforeSiblingEnd p c) 3 _ refl (q3 .1) in
     let q5 = chosen-zero (itemOutsideHeading p c) 3 _ refl (q4 .1) in
-    let q6 = chosen-zero (nameAmiss p c) 4 _ refl (q5 .1) in
-    let q7 = chosen-zero (nameOutsideItem p c) 4 _ refl (q6 .1) in
-    let q8 = chosen-zero (nameNoName p c) 4 _ refl (q7 .1) in
-    let q9 = chosen-zero (nameNotItem p c) 4 _ refl (q8 .1) in
+    let q6 = chosen-zero (nameOutsideItem p c) 4 _ refl (q5 .1) in
+    let q7 = chosen-zero (nameNotItem p c) 4 _ refl (q6 .1) in
+    let q8 = chosen-zero (nameAmiss p c) 27 _ refl (q7 .1) in
+    let q9 = chosen-zero (nameNoName p c) 28 _ refl (q8 .1) in
     let q10 = chosen-zero (misplaced p c) 5 _ refl (q9 .1) in
     record {
       known = q1 .0;
@@ -53,10 +53,10 @@ clean-of p c e0 =
       inText = q3 .0;
       afterSibling = q4 .0;
       inHeading = q5 .0;
-      nameFits = q6 .0;
-      nameInItem = q7 .0;
-      nameIsName = q8 .0;
-      nameIsItem = q9 .0;
+      nameInItem = q6 .0;
+      nameIsItem = q7 .0;
+      nameFits = q8 .0;
+      nameIsName = q9 .0;
       inPlace = q10 .0;
     }
 

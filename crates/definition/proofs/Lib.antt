@@ -9,6 +9,7 @@ pub mod AddedHeadings
 pub mod DocumentHeadings
 pub mod CleanCards
 pub mod MovedCards
+pub mod SameFaults
 -- The store holds the account.
 pub mod StoreLayout
 pub mod Admitted

@@ -126,24 +126,23 @@ module _ (text own : List ℕ) (k : ℕ) (lies : (n m : ℕ) → n + m ≤ lengt
       go true u = rw (unnamed-moved k c, u)
       go false u = rw (unnamed-moved k c, u, nameAt-named k c u, nameLen-moved k c, lies (c .nameAt) (c .nameLen) w)
 
-  item-same : (h s : Option Card) (c : Card) → emptyItem (here own h s) c ≡ false →
-      nameNotItem (there text own k h s) (moved k c) ≡ nameNotItem (here own h s) c
-  unfolding nameNotItem emptyItem
-  item-same h s c f = go (isUnnamed c) refl
+  item-same : (h s : Option Card) (c : Card) → nameNotItem (there text own k h s) (moved k c) ≡ nameNotItem (here own h s) c
+  unfolding nameNotItem
+  item-same h s c = go (isUnnamed c) refl
     where
       go : (b : Bool) → isUnnamed c ≡ b → nameNotItem (there text own k h s) (moved k c) ≡ nameNotItem (here own h s) c
-      go true u =
-          let q = unnamed-parts c u in
-          let d : eqb (c .nameLen) (c .itemLen) ≡ false = ne-eqb (c .nameLen) (c .itemLen) (λ r. eqb-false (c .itemLen) 0 f (omega arith)) in
+      go true u = rw (unnamed-moved k c, u)
+      go false u =
           rw (
+            unnamed-moved k c,
+            u,
             kind-moved k c,
             nameLen-moved k c,
             itemLen-moved k c,
-            d,
-            and-false (eqb (moved k c .nameAt) (moved k c .itemAt)),
-            and-false (eqb (c .nameAt) (c .itemAt)),
+            nameAt-named k c u,
+            itemAt-moved k c,
+            eqb-shift (c .nameAt) (c .itemAt) k,
           )
-      go false u = rw (kind-moved k c, nameLen-moved k c, itemLen-moved k c, nameAt-named k c u, itemAt-moved k c, eqb-shift (c .nameAt) (c .itemAt) k)
 
   place-same : (h s : Option Card) (c : Card) → misplaced (there text own k h s) (moved k c) ≡ misplaced (here own h s) c
   unfolding misplaced misplacedUnder moved
@@ -159,10 +158,10 @@ module _ (text own : List ℕ) (k : ℕ) (lies : (n m : ℕ) → n + m ≤ lengt
       choices _ (itemOutsideText (here own h s) c) 3 _ _ (text-same h s c) (λ q3.
       choices _ (itemBeforeSiblingEnd (here own h s) c) 3 _ _ (sibling-same h s c) (λ q4.
       choices _ (itemOutsideHeading (here own h s) c) 3 _ _ (heading-same h s c) (λ q5.
-      choices _ (nameAmiss (here own h s) c) 4 _ _ (amiss-same h s c) (λ q6.
-      choices _ (nameOutsideItem (here own h s) c) 4 _ _ (outside-same h s c) (λ q7.
-      choices _ (nameNoName (here own h s) c) 4 _ _ (name-same h s c (name-within own (length own) h s c q3 q7)) (λ q8.
-      choices _ (nameNotItem (here own h s) c) 4 _ _ (item-same h s c q2) (λ q9.
+      choices _ (nameOutsideItem (here own h s) c) 4 _ _ (outside-same h s c) (λ q6.
+      choices _ (nameNotItem (here own h s) c) 4 _ _ (item-same h s c) (λ q7.
+      choices _ (nameAmiss (here own h s) c) 27 _ _ (amiss-same h s c) (λ q8.
+      choices _ (nameNoName (here own h s) c) 28 _ _ (name-same h s c (name-within own (length own) h s c q3 q6)) (λ q9.
       choices _ (misplaced (here own h s) c) 5 _ _ (place-same h s c) (λ q10. refl))))))))))
 
 -- The first faulty card, its number and its fault are the same: in the document's own text and, moved by k, in a text that has it at k.

@@ -94,7 +94,7 @@ itemEnd c = c .itemAt + c .itemLen
 unfoldable pub nameEnd : Card → ℕ
 nameEnd c = c .nameAt + c .nameLen
 
--- ---- The faults 2 to 5 of a card.
+-- ---- The faults 2 to 5, 27 and 28 of a card.
 
 -- What a card is judged by. Offsets count in `bytes`, of which the document's own text is the part of `size` bytes from `base` on (a lent document:
 -- all of it, from 0). A part has the heading that it follows. The sibling is the previous heading of a heading, and of a part the previous
@@ -126,21 +126,22 @@ itemBeforeSiblingEnd p c = found (p .sibling) (λ s. ltb (c .itemAt) (itemEnd s)
 unfoldable pub itemOutsideHeading : Place → Card → Bool
 itemOutsideHeading p c = found (p .heading) (λ h. ltb (c .itemAt) (h .itemAt) || ltb (itemEnd h) (itemEnd c)) false
 
--- 4: a name present in 4 or 11, or absent in another kind but 1, where it is optional,
-unfoldable pub nameAmiss : Place → Card → Bool
-nameAmiss p c = choose (eqb (c .kind) 4 || eqb (c .kind) 11) (not (isUnnamed c)) (not (eqb (c .kind) 1) && isUnnamed c)
-
--- outside its item,
+-- 4: a name outside its item,
 unfoldable pub nameOutsideItem : Place → Card → Bool
 nameOutsideItem p c = not (isUnnamed c) && (ltb (c .nameAt) (c .itemAt) || ltb (itemEnd c) (nameEnd c))
 
--- of bytes that are no Name,
+-- or in 21 and 23 another span than the item. "Number 4 keeps the other two causes, and for an absent name neither holds." (2.1)
+unfoldable pub nameNotItem : Place → Card → Bool
+nameNotItem p c =
+    not (isUnnamed c) && ((eqb (c .kind) 21 || eqb (c .kind) 23) && not (eqb (c .nameAt) (c .itemAt) && eqb (c .nameLen) (c .itemLen)))
+
+-- 27: "A name wrongly present or absent" (2.1): present in 4 or 11, or absent in another kind but 1, where it is optional.
+unfoldable pub nameAmiss : Place → Card → Bool
+nameAmiss p c = choose (eqb (c .kind) 4 || eqb (c .kind) 11) (not (isUnnamed c)) (not (eqb (c .kind) 1) && isUnnamed c)
+
+-- 28: "bytes that are no Name" (2.1).
 unfoldable pub nameNoName : Place → Card → Bool
 nameNoName p c = not (isUnnamed c) && not (isName (bytesAt (p .bytes) (c .nameAt) (c .nameLen)))
-
--- or in 21 and 23 another span than the item.
-unfoldable pub nameNotItem : Place → Card → Bool
-nameNotItem p c = (eqb (c .kind) 21 || eqb (c .kind) 23) && not (eqb (c .nameAt) (c .itemAt) && eqb (c .nameLen) (c .itemLen))
 
 -- 5: a part without heading, of a kind that its heading lacks, or placed before its sibling's kind in the heading's order.
 unfoldable pub misplacedUnder : Place → Card → Card → Bool
@@ -151,7 +152,7 @@ misplacedUnder p c h =
 unfoldable pub misplaced : Place → Card → Bool
 misplaced p c = isPart (c .kind) && found (p .heading) (misplacedUnder p c) true
 
--- The faults in the order in which they are asked.
+-- The faults in the order in which they are asked: 27 and 28 are "both placed straight after 4 for the same card" (2.1).
 pub record Fault : Type 0 where
   pub number : ℕ
   pub holds : Place → Card → Bool
@@ -166,10 +167,10 @@ faults =
     fault 3 itemOutsideText ∷
     fault 3 itemBeforeSiblingEnd ∷
     fault 3 itemOutsideHeading ∷
-    fault 4 nameAmiss ∷
     fault 4 nameOutsideItem ∷
-    fault 4 nameNoName ∷
     fault 4 nameNotItem ∷
+    fault 27 nameAmiss ∷
+    fault 28 nameNoName ∷
     fault 5 misplaced ∷
     []
 
@@ -187,7 +188,7 @@ placeAfter bytes base size h s c =
     (record { bytes = bytes; base = base; size = size; heading = h; sibling = s })
     (record { bytes = bytes; base = base; size = size; heading = none; sibling = h })
 
--- The first faulty card among cards numbered from i on, with its lowest number; h is the heading before them, s the part before them under h.
+-- The first faulty card among cards numbered from i on, with the first fault that holds; h is the heading before them, s the part before them under h.
 unfoldable pub faultFrom : List ℕ → ℕ → ℕ → ℕ → Option Card → Option Card → List Card → Option Answer
 faultFrom bytes base size i h s [] = none
 faultFrom bytes base size i h s (c ∷ cs) =

@@ -25,7 +25,8 @@ use Rattle.definition.specs.Calls.{openedAccount as openedWith, filing, 
 use Rattle.definition.specs.Unfolded.{unfolded}
 use Rattle.definition.specs.Shown.{∅, Source, source, shows, shown, collected, merged, asked, scalarInt}
 
--- ---- Refusals of a lent document: 1 to 6, 23, 24, 25. The first faulty card decides, then its lowest number.
+-- ---- Refusals of a lent document: 1 to 6, 27 and 28, 23, 24, 25. The first faulty card decides, then the first that holds of 2, 3, 4,
+-- 27, 28 and 5.
 
 refused-1 : documentFault (bytes "scalar Int") (5 ∷ 0 ∷ 10 ∷ 7 ∷ []) ≡ some (answer 1 0)
 unfolding unfolded
@@ -41,10 +42,48 @@ refused-3 : documentFault (bytes "scalar Int") (5 ∷ 4294967295 ∷ 2 ∷ 0 ∷
 unfolding unfolded
 refused-3 = refl
 
--- A schema's name must be the pair 0, 0: another pair of length 0 is a present name.
-refused-4 : documentFault (bytes "schema") (4 ∷ 0 ∷ 6 ∷ 1 ∷ 0 ∷ []) ≡ some (answer 4 0)
+-- A schema's name outside its item: 4 comes before 27, though the name is wrongly present as well.
+refused-4 : documentFault (bytes "schema") (4 ∷ 0 ∷ 6 ∷ 7 ∷ 1 ∷ []) ≡ some (answer 4 0)
 unfolding unfolded
 refused-4 = refl
+
+-- An interface whose name is empty but present: it is another span than the item.
+refused-4-interface : documentFault (bytes "A BB") (6 ∷ 0 ∷ 4 ∷ 0 ∷ 1 ∷ 21 ∷ 2 ∷ 2 ∷ 2 ∷ 0 ∷ []) ≡ some (answer 4 1)
+unfolding unfolded
+refused-4-interface = refl
+
+-- A schema's name must be the pair 0, 0: another pair of length 0 is a present name.
+refused-27 : documentFault (bytes "schema") (4 ∷ 0 ∷ 6 ∷ 1 ∷ 0 ∷ []) ≡ some (answer 27 0)
+unfolding unfolded
+refused-27 = refl
+
+refused-27-present : documentFault (bytes "schema") (4 ∷ 0 ∷ 6 ∷ 0 ∷ 6 ∷ []) ≡ some (answer 27 0)
+unfolding unfolded
+refused-27-present = refl
+
+-- An interface without a name: 4 is never told of an absent one.
+refused-27-interface : documentFault (bytes "A BB") (6 ∷ 0 ∷ 4 ∷ 0 ∷ 1 ∷ 21 ∷ 2 ∷ 2 ∷ 0 ∷ 0 ∷ []) ≡ some (answer 27 1)
+unfolding unfolded
+refused-27-interface = refl
+
+-- An operation may lack a name.
+accepted-operation : documentFault (bytes "{a}") (1 ∷ 0 ∷ 3 ∷ 0 ∷ 0 ∷ []) ≡ none
+unfolding unfolded
+accepted-operation = refl
+
+-- A name that is present and empty is no Name.
+refused-28 : documentFault (bytes "ab") (5 ∷ 0 ∷ 2 ∷ 1 ∷ 0 ∷ []) ≡ some (answer 28 0)
+unfolding unfolded
+refused-28 = refl
+
+-- 28 comes before 5, by its place and not by its number.
+refused-28-part : documentFault (bytes "9") (22 ∷ 0 ∷ 1 ∷ 0 ∷ 1 ∷ []) ≡ some (answer 28 0)
+unfolding unfolded
+refused-28-part = refl
+
+refused-5-part : documentFault (bytes "a") (22 ∷ 0 ∷ 1 ∷ 0 ∷ 1 ∷ []) ≡ some (answer 5 0)
+unfolding unfolded
+refused-5-part = refl
 
 -- A part without heading, before an unknown kind.
 refused-5 : documentFault (bytes "ab") (22 ∷ 0 ∷ 1 ∷ 0 ∷ 1 ∷ 99 ∷ 1 ∷ 1 ∷ 1 ∷ 1 ∷ []) ≡ some (answer 5 0)

@@ -8,6 +8,7 @@ pub mod Names
 pub mod Answers
 -- Cards, and what merging documents gives.
 pub mod Cards
+pub mod NameFaults
 pub mod Headings
 pub mod Catalogue
 pub mod Errors

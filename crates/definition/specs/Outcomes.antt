@@ -1,7 +1,8 @@
 -- The public entries: of each, the answer and the contents at exit of every slice that is lent to be written. First what an account answers, with the
 -- refusals that hang on it and on what is lent; then the same over a store, with 21 and 22 before them.
 -- "Order: 21, 22, 26, 7, 1, then the first faulty card with its lowest of 2 to 5, 6, 23, 24, 25. Opening skips 22. 7 is asked of slices to be written, 26 of
--- rows to be read, 23 of filing alone." A refused call changes nothing.
+-- rows to be read, 23 of filing alone." 2.1 puts 27 and 28 straight after 4 for a card. A refused call changes
+-- nothing.
 use mathlib.Core.Path.{_≡_}
 use mathlib.Core.List.{List, [], _∷_, _++_, List·Permᴰ}
 use mathlib.Core.Bool.{Bool, true, false, _||_}

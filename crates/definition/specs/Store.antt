@@ -104,7 +104,7 @@ accountIn text words = record {
 unfoldable pub tooShort : List ℕ → List ℕ → Bool
 tooShort text words = ltb (length text) textCapacity || ltb (length words) wordsCapacity
 
--- ---- "22: counts, switches or rows that filing can't leave, or stored cards that 2 to 6 refuse." Only the used part is asked.
+-- ---- "22: counts, switches or rows that filing can't leave, or stored cards that 2 to 6 refuse." Only the used part is asked. 27 and 28 "count within 22" (2.1).
 
 -- The counts and switches: 1 to 64 documents, each switch 0 or 1, no more text and cards than there is room for.
 unfoldable pub countsSound : List ℕ → Bool
@@ -136,7 +136,7 @@ unfoldable pub rowsSound : List ℕ → List DocumentRow → Bool
 rowsSound words rs =
     rowsTouch (textUsed words) 0 rs && cardsCounted (cardsUsed words) 0 rs && switchesRise (ignoreWord words) 0 rs && zeroUnignored rs
 
--- Every document's cards pass 2 to 5 against its own text,
+-- Every document's cards pass 2 to 5, 27 and 28 against its own text,
 unfoldable pub cardsSound : List ℕ → List DocumentRow → List Card → Bool
 cardsSound text [] cs = true
 cardsSound text (r ∷ rs) cs =

@@ -7,7 +7,13 @@ pub const UNKNOWN_KIND: u32 = 2;
 
 pub const ITEM_MISPLACED: u32 = 3;
 
-pub const NAME_FAULTY: u32 = 4;
+// A name outside its item or, of an interface or a member, another span than it.
+pub const NAME_MISPLACED: u32 = 4;
+
+// A name that is wrongly present or absent, and bytes that are no Name: asked after 4 and before 5.
+pub const NAME_PRESENCE: u32 = 27;
+
+pub const NAME_BYTES: u32 = 28;
 
 pub const PART_MISPLACED: u32 = 5;
 

@@ -27,7 +27,7 @@ pub enum StoreCheck {
     Refused(u32),
 }
 
-// Every document's cards pass 2 to 5 against its own text.
+// Every document's cards pass 2 to 5, 27 and 28 against its own text.
 fn cards_sound(text: &[u8], words: &[u32]) -> bool
     requires { ⌜ SoundRows (now words) ⌝ }
     ensures { λ r. ⌜ r ≡ cardsSound (now (text .entry)) (documentRows (now (words .entry))) (storedCards (now (words .entry))) ⌝ }

@@ -57,28 +57,28 @@ start-6 c = start-5 (c .before .before)
 
 passed-6 : (c : tie.Else6) → Passed (start-6 c) 6
 unfolding faults fault place
-passed-6 c = passed-5 (c .before .before) ∙ fault-passed _ _ _ _ (sym (c .before .name-amiss .ensures (place (start-6 c))) ∙ c .if6 .left)
+passed-6 c = passed-5 (c .before .before) ∙ fault-passed _ _ _ _ (sym (c .before .name-outside-item .ensures (place (start-6 c))) ∙ c .if6 .left)
 
 abbrev start-7 : tie.Else7 → tie.Start
 start-7 c = start-6 (c .before .before)
 
 passed-7 : (c : tie.Else7) → Passed (start-7 c) 7
 unfolding faults fault place
-passed-7 c = passed-6 (c .before .before) ∙ fault-passed _ _ _ _ (sym (c .before .name-outside-item .ensures (place (start-7 c))) ∙ c .if7 .left)
+passed-7 c = passed-6 (c .before .before) ∙ fault-passed _ _ _ _ (sym (c .before .name-not-item .ensures (place (start-7 c))) ∙ c .if7 .left)
 
 abbrev start-8 : tie.Else8 → tie.Start
 start-8 c = start-7 (c .before .before)
 
 passed-8 : (c : tie.Else8) → Passed (start-8 c) 8
 unfolding faults fault place
-passed-8 c = passed-7 (c .before .before) ∙ fault-passed _ _ _ _ (sym (c .before .name-no-name .ensures (place (start-8 c)) refl) ∙ c .if8 .left)
+passed-8 c = passed-7 (c .before .before) ∙ fault-passed _ _ _ _ (sym (c .before .name-amiss .ensures (place (start-8 c))) ∙ c .if8 .left)
 
 abbrev start-9 : tie.Else9 → tie.Start
 start-9 c = start-8 (c .before .before)
 
 passed-9 : (c : tie.Else9) → Passed (start-9 c) 9
 unfolding faults fault place
-passed-9 c = passed-8 (c .before .before) ∙ fault-passed _ _ _ _ (sym (c .before .name-not-item .ensures (place (start-9 c))) ∙ c .if9 .left)
+passed-9 c = passed-8 (c .before .before) ∙ fault-passed _ _ _ _ (sym (c .before .name-no-name .ensures (place (start-9 c)) refl) ∙ c .if9 .left)
 
 abbrev start-10 : tie.Else10 → tie.Start
 start-10 c = start-9 (c .before .before)
@@ -130,41 +130,41 @@ returns-5 c =
     let failed = c .before .before in
     sym (passed-4 failed ∙ fault-holds _ _ _ _ (sym (c .before .item-outside-heading .ensures (place (start-4 failed)) refl) ∙ c .if5 .taken))
 
-name-amiss-requires : tie.Need-name-amiss-requires
-name-amiss-requires c κs = search needs
+name-outside-item-requires : tie.Need-name-outside-item-requires
+name-outside-item-requires c κs = search needs
 
 returns-6 : tie.Need-returns-6
 unfolding faults fault place
 returns-6 c =
     let failed = c .before .before in
-    sym (passed-5 failed ∙ fault-holds _ _ _ _ (sym (c .before .name-amiss .ensures (place (start-5 failed))) ∙ c .if6 .taken))
+    sym (passed-5 failed ∙ fault-holds _ _ _ _ (sym (c .before .name-outside-item .ensures (place (start-5 failed))) ∙ c .if6 .taken))
 
-name-outside-item-requires : tie.Need-name-outside-item-requires
-name-outside-item-requires c κs = search needs
+name-not-item-requires : tie.Need-name-not-item-requires
+name-not-item-requires c κs = search needs
 
 returns-7 : tie.Need-returns-7
 unfolding faults fault place
 returns-7 c =
     let failed = c .before .before in
-    sym (passed-6 failed ∙ fault-holds _ _ _ _ (sym (c .before .name-outside-item .ensures (place (start-6 failed))) ∙ c .if7 .taken))
+    sym (passed-6 failed ∙ fault-holds _ _ _ _ (sym (c .before .name-not-item .ensures (place (start-6 failed))) ∙ c .if7 .taken))
 
-name-no-name-requires : tie.Need-name-no-name-requires
-name-no-name-requires c κs = search needs
+name-amiss-requires : tie.Need-name-amiss-requires
+name-amiss-requires c κs = search needs
 
 returns-8 : tie.Need-returns-8
 unfolding faults fault place
 returns-8 c =
     let failed = c .before .before in
-    sym (passed-7 failed ∙ fault-holds _ _ _ _ (sym (c .before .name-no-name .ensures (place (start-7 failed)) refl) ∙ c .if8 .taken))
+    sym (passed-7 failed ∙ fault-holds _ _ _ _ (sym (c .before .name-amiss .ensures (place (start-7 failed))) ∙ c .if8 .taken))
 
-name-not-item-requires : tie.Need-name-not-item-requires
-name-not-item-requires c κs = search needs
+name-no-name-requires : tie.Need-name-no-name-requires
+name-no-name-requires c κs = search needs
 
 returns-9 : tie.Need-returns-9
 unfolding faults fault place
 returns-9 c =
     let failed = c .before .before in
-    sym (passed-8 failed ∙ fault-holds _ _ _ _ (sym (c .before .name-not-item .ensures (place (start-8 failed))) ∙ c .if9 .taken))
+    sym (passed-8 failed ∙ fault-holds _ _ _ _ (sym (c .before .name-no-name .ensures (place (start-8 failed)) refl) ∙ c .if9 .taken))
 
 misplaced-requires : tie.Need-misplaced-requires
 misplaced-requires c κs = search needs
@@ -193,13 +193,13 @@ fault-among-spec =
     returns-4
     item-outside-heading-requires
     returns-5
-    name-amiss-requires
-    returns-6
     name-outside-item-requires
-    returns-7
-    name-no-name-requires
-    returns-8
+    returns-6
     name-not-item-requires
+    returns-7
+    name-amiss-requires
+    returns-8
+    name-no-name-requires
     returns-9
     misplaced-requires
     returns-10
