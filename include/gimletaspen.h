@@ -32,6 +32,7 @@ extern "C" {
 #define GIMLETASPEN_ERROR_WORDS 6900    /* a slice for error rows: 2,300 of three words */
 #define GIMLETASPEN_ORIGIN_WORDS 2304   /* a slice for origins or extensions */
 #define GIMLETASPEN_GROUP_WORDS 9200    /* a slice for groups of implementers */
+#define GIMLETASPEN_READ_CARD_WORDS 11500 /* a slice for the cards of a text that is read: 2,300 of five words */
 
 /* How many words one card has, and one row or error row. */
 #define GIMLETASPEN_CARD_WORDS 5
@@ -109,7 +110,7 @@ enum gimletaspen_error {
 #define GIMLETASPEN_ERROR_NUMBERS 16
 
 /* Why a call was refused; 0 is an accepted call. Where several hold, the first of 21, 22, 26, 7, 1, the first faulty card with the first of 2, 3, 4, 27,
- * 28, 5 that holds for it, 6, 23, 24, 25 is told. docs/FORMAT.md says which call asks which. */
+ * 28, 5 that holds for it, 6, 23, 24, 25 is told; of a text that is read, the first of 31, 24, 29 or 30, 25. docs/FORMAT.md says which call asks which. */
 enum gimletaspen_refusal {
     GIMLETASPEN_ACCEPTED = 0,
     GIMLETASPEN_CARDS_BROKEN = 1,       /* the card words are not whole cards */
@@ -126,11 +127,14 @@ enum gimletaspen_refusal {
     GIMLETASPEN_CARDS_FULL = 25,        /* its cards would pass 2,300 */
     GIMLETASPEN_ROWS_REFUSED = 26,      /* the lent rows are not whole rows in the order of a catalogue, or their cards are not this store's */
     GIMLETASPEN_CARD_NAME_PRESENCE = 27, /* a card's name is missing, or there and should not be */
-    GIMLETASPEN_CARD_NAME_BYTES = 28    /* the bytes of a card's name are no Name */
+    GIMLETASPEN_CARD_NAME_BYTES = 28,   /* the bytes of a card's name are no Name */
+    GIMLETASPEN_NOT_IN_GRAMMAR = 29,    /* no text of the type language goes on so: at a token, at a byte that begins nothing, or at the text's end */
+    GIMLETASPEN_NESTED_TOO_DEEP = 30,   /* a value or a list type opens a 33rd level */
+    GIMLETASPEN_READ_CARDS_SHORT = 31   /* the slice for the cards of a text is shorter than its least length above */
 };
 
-/* A refusal, or 0. For 2 to 6, 27 and 28 the number of the card in its own document, from 0; for an accepted call that fills a list how many origins or groups it
- * wrote; else 0. */
+/* A refusal, or 0. `card` is, for 2 to 6, 27 and 28, the number of the card in its own document, from 0; for 29 and 30 the place in the text, in bytes; for an
+ * accepted call that fills a slice how many cards, origins, extensions or groups it wrote; else 0. */
 struct gimletaspen_answer {
     uint32_t number;
     size_t card;
@@ -181,6 +185,11 @@ struct gimletaspen_subtype_lookup {
     uint32_t refusal;
     uint32_t yes;
 };
+
+/* Reads a text of the type language (GraphQL, October 2021, type definitions and extensions alone, in UTF-8) into the cards that it is filed with. The slice
+ * has at least GIMLETASPEN_READ_CARD_WORDS words. Answers 0 and how many cards there are: the slice begins with their words, GIMLETASPEN_CARD_WORDS each. Asks
+ * 31, 24 (of this text alone), 29 or 30, whichever comes first in the text, and 25 last. No store is lent. */
+struct gimletaspen_answer gimletaspen_parse(const uint8_t *text, size_t text_length, uint32_t *cards, size_t cards_length);
 
 /* Files document 0, the built-in definitions, over whatever the store held; both switches are off then. */
 struct gimletaspen_answer gimletaspen_open(

@@ -1,19 +1,22 @@
 """A case of the replay program while it is made: calls with the answers that are expected of them.
 
 Each call is written down and done by the model. An answer that is also known otherwise is held against the model's, and a difference stops the making:
-what the group says by hand (`want`), the oracle's listings and lookups, and for 22 and 26 a second telling (told.py)."""
+what the group says by hand (`want`), the oracle's listings and lookups, and for 22 and 26 a second telling (told.py). What reading a text gives is told by
+lib/reader, and where that accepts it tools/cards is the second telling."""
 import os
 
 from lib import model
-from lib.cards import cards_of, in_bytes, in_full, words_of
+from lib.cards import BY_HAND, cards_of, in_bytes, in_full, words_of
+from lib.reader.reading import parsed
 from lib.sizes import (
-    ADOPT, CARDS_USED, ERRORS_LENT, GROUPS_LENT, IGNORE, NONE, ORIGINS_LENT, ROWS_LENT, TEXT, TEXT_USED, WORDS, Refusal, card_at, in_rows, tallies_of)
+    ADOPT, CARDS_LENT, CARDS_USED, ERRORS_LENT, GROUPS_LENT, IGNORE, NONE, ORIGINS_LENT, ROWS_LENT, TEXT, TEXT_USED, WORDS, Refusal, card_at, in_rows,
+    tallies_of)
 from lib.told import are_rows_drawable, asked, can_be_left, field_words, is_answer, question_of, shown
 
 # How long a file of a case may be, for the replay program to read it; a text may have one byte more.
 MOST_FILE = 65536
-# How many answers were decided by whom; one that several know counts for the first of hand, oracle, twice told, model.
-decided = {'hand': 0, 'oracle': 0, 'twice told': 0, 'model': 0}
+# How many answers were decided by whom; one that several know counts for the first of hand, oracle, twice told, reader, model.
+decided = {'hand': 0, 'oracle': 0, 'twice told': 0, 'reader': 0, 'model': 0}
 
 
 def as_bytes(name):
@@ -53,6 +56,8 @@ class Case:
         # The account of the run, as long as it is known from the calls alone: documents with their ignore switch, and both switches.
         self.account = None
         self.twice = None, None
+        # The document that texts to be read are gathered in, and its bytes so far.
+        self.read_from, self.read_bytes = None, bytearray()
 
     def doc(self, text, by_hand=None):
         """A document's number in the folder, with cards written by hand or, where there are none, those of the text."""
@@ -127,6 +132,35 @@ class Case:
         self.held.text[:], self.held.words[:] = text, words
         self.account = copied(account)
         self.note('restore')
+
+    # Reading
+
+    def stretch(self, text):
+        """A document that has the text somewhere, and where: texts to be read share documents."""
+        if self.read_from is None or (text not in self.read_bytes and len(self.read_bytes) + len(text) > MOST_FILE + 1):
+            self.documents.append(None)
+            self.read_from, self.read_bytes = len(self.documents) - 1, bytearray()
+        if text not in self.read_bytes:
+            self.read_bytes += text
+        self.documents[self.read_from] = bytes(self.read_bytes), []
+        start = self.read_bytes.index(text)
+        return self.read_from, start, start + len(text)
+
+    def parse(self, text, want=None, cards=None, lent=CARDS_LENT):
+        """Reads a text into a slice; `want` is the answer by hand, `cards` the words by hand, five a card. Returns the cards' words."""
+        text = as_bytes(text)
+        number, second, told = parsed(text, lent)
+        words = words_of(told)
+        if number == 0 and told != cards_of(text):
+            raise Wrong(f'{self.title}: {text!r}: tools/cards has other cards')
+        if want is not None and tuple(want) != (number, second):
+            raise Wrong(f'{self.title}: {text!r}: by hand {want}, by the reader {(number, second)}')
+        if cards is not None and cards != [word for card in told for word in card[:BY_HAND]]:
+            raise Wrong(f'{self.title}: {text!r}: by hand {cards}, by the reader {words}')
+        document, start, end = self.stretch(text)
+        title = 'hand' if want is not None else 'reader' if number else 'twice told'
+        self.call(f'parse {document} {start} {end} {lent}', [number, second] + words, None, title)
+        return words
 
     # Opening, filing, turning on
 

@@ -2,7 +2,8 @@
 import os
 
 from lib import folders, model
-from lib.cards import in_words
+from lib.cards import in_words, words_of
+from lib.reader.reading import parsed
 from lib.sizes import ADOPT, GROUPS_LENT, IGNORE, NONE, ORIGINS_LENT, ROWS_LENT, TEXT, WORDS, tallies_of
 from lib.told import field_words, shown
 
@@ -36,6 +37,10 @@ class Replay:
         return self.rows[:self.rows_lent]
 
     # Calls
+
+    def parse(self, document, start, end, lent, *wanted):
+        number, second, cards = parsed(self.read(f'd{int(document)}.txt')[int(start):int(end)], int(lent))
+        return [number, second] + words_of(cards), wanted
 
     def open(self, document, *wanted):
         return self.lent().open(*self.document(document)), wanted
@@ -122,7 +127,7 @@ class Replay:
 
 
 CALLS = [b'open', b'add_ast', b'adopt_orphan_extensions', b'ignore_builtin_redefinitions', b'build', b'tallies', b'check_rows', b'root_operation',
-         b'type_field', b'is_subtype', b'iter_origins', b'extensions', b'implementers_map']
+         b'type_field', b'is_subtype', b'iter_origins', b'extensions', b'implementers_map', b'parse']
 
 
 def replayed(folder, title):

@@ -19,6 +19,10 @@ WORDS = FIRST_CARD + CARD * CARDS
 ROW = 3
 ROWS = CARDS + 4
 ROWS_LENT, ERRORS_LENT, ORIGINS_LENT, GROUPS_LENT = ROW * ROWS, ROW * CARDS, ROWS, 4 * CARDS
+# That of the cards which reading a text writes: 11,500.
+CARDS_LENT = CARD * CARDS
+# How many levels of lists and objects a value may have, and of lists a type.
+LEVELS = 32
 
 
 def document_at(index, word=0):
@@ -52,6 +56,9 @@ class Refusal:
     ROWS_REFUSED = 26
     CARD_NAME_PRESENCE = 27
     CARD_NAME_BYTES = 28
+    NOT_IN_GRAMMAR = 29
+    NESTED_TOO_DEEP = 30
+    READ_CARDS_SHORT = 31
 
 
 class Error:

@@ -7,12 +7,15 @@ import shutil
 import sys
 
 import loader
-from groups import card_faults, collections, errors, examples, limits, lookups, merges, orders, refusals, row_faults, runs, store_faults
+from groups import (
+    card_faults, collections, errors, examples, limits, lookups, merges, orders, reading, reading_bytes, reading_states, refusals, row_faults, runs,
+    store_faults)
 from lib import case, told
 
 GROUPS = [
     ('examples of 01', examples), ('faulty cards', card_faults), ('6, 7 and 21', refusals), ('22', store_faults), ('limits', limits), ('26', row_faults),
-    ('order of refusals', orders), ('errors', errors), ('merges', merges), ('lookups', lookups), ('random collections', collections), ('runs', runs)]
+    ('order of refusals', orders), ('errors', errors), ('merges', merges), ('lookups', lookups), ('random collections', collections), ('runs', runs),
+    ('reading', reading), ('reading in every state', reading_states), ('reading every byte', reading_bytes)]
 
 
 def made(group):

@@ -12,8 +12,8 @@ from loader import HEADER, ORACLE
 from lib import folders, model, sizes
 from lib.cards import CARD, cards_of, in_bytes, in_full, words_of
 from lib.sizes import (
-    ADOPT, CARDS, CARDS_USED, DOCUMENTS, ERRORS, ERRORS_LENT, FIRST_CARD, GROUPS_LENT, HELD, IGNORE, NONE, ORIGINS_LENT, ROW, ROWS_LENT, TEXT, TEXT_USED,
-    WORDS, card_at, document_at)
+    ADOPT, CARDS, CARDS_LENT, CARDS_USED, DOCUMENTS, ERRORS, ERRORS_LENT, FIRST_CARD, GROUPS_LENT, HELD, IGNORE, NONE, ORIGINS_LENT, ROW, ROWS_LENT, TEXT,
+    TEXT_USED, WORDS, card_at, document_at)
 
 INT = 'scalar Int'
 failed = []
@@ -32,7 +32,8 @@ def same(title, got, wanted):
 
 header = folders.read(HEADER).decode()
 for name, size in (('TEXT_BYTES', TEXT), ('STORE_WORDS', WORDS), ('ROW_WORDS', ROWS_LENT), ('ERROR_WORDS', ERRORS_LENT), ('ORIGIN_WORDS', ORIGINS_LENT),
-                   ('GROUP_WORDS', GROUPS_LENT), ('CARD_WORDS', CARD), ('WORDS_PER_ROW', ROW), ('CARDS_AT', FIRST_CARD), ('ERROR_NUMBERS', len(ERRORS))):
+                   ('GROUP_WORDS', GROUPS_LENT), ('READ_CARD_WORDS', CARDS_LENT), ('CARD_WORDS', CARD), ('WORDS_PER_ROW', ROW), ('CARDS_AT', FIRST_CARD),
+                   ('ERROR_NUMBERS', len(ERRORS))):
     same(f'the header\'s {name}', [size], [int(told) for told in re.findall(rf'#define GIMLETASPEN_{name} (\d+)', header)])
 
 

@@ -6,11 +6,12 @@ use Rattle.definition.specs.declared.OperationType.{OperationType}
 use Rattle.definition.specs.Answers.{answer}
 use Rattle.definition.specs.Outcomes.{StoreOutcome}
 use Rattle.definition.specs.Calls.{Call, opening, filing, adopting, ignoring, building, checking, rootAsked, fieldAsked, subtypeAsked, originsAsked}
-use Rattle.definition.specs.Calls.{extensionsAsked, implementersAsked, Reply, answered, named, Store, store, leaves, stepStore, runStore}
+use Rattle.definition.specs.Calls.{extensionsAsked, implementersAsked, parsing, Reply, answered, named, Store, store, leaves, stepStore, runStore}
 use Rattle.definition.specs.Runs.{Start, firstStore, Ran}
 use Rattle.definition.proofs.Demand3.{runs-agree}
 use Rattle.api.specs.Statements.{open-steps, add-ast-steps, adopt-orphan-extensions-steps, ignore-builtin-redefinitions-steps, build-steps}
-use Rattle.api.specs.Statements.{check-rows-steps, root-operation-steps, type-field-steps, is-subtype-steps, iter-origins-steps, extensions-steps, implementers-map-steps}
+use Rattle.api.specs.Statements.{check-rows-steps, root-operation-steps, type-field-steps, is-subtype-steps, iter-origins-steps, extensions-steps}
+use Rattle.api.specs.Statements.{implementers-map-steps, parse-steps}
 use Rattle.api.specs.Entries.{Done, AllDone, EntriesAgree}
 use Rattle.api.proofs.LookupOutcomes.{finds-field, tells-subtype}
 
@@ -43,6 +44,8 @@ done-steps s (extensionsAsked rows list) t r d =
     both s t r _ (d .3) (d .2) ∙ extensions-steps (s .text) (s .words) rows list (d .0 .answer) (d .0 .list) (d .1)
 done-steps s (implementersAsked rows list) t r d =
     both s t r _ (d .3) (d .2) ∙ implementers-map-steps (s .text) (s .words) rows list (d .0 .answer) (d .0 .list) (d .1)
+done-steps s (parsing source cards) t r d =
+    both s t r _ (d .3) (d .2) ∙ parse-steps (s .text) (s .words) source cards (d .0 .answer) (d .0 .list) (d .1)
 
 all-ran : (s : Store) (cs : List Call) (rs : List Reply) → AllDone s cs rs → Ran s cs rs
 all-ran s [] [] d = d
@@ -82,6 +85,7 @@ step-done s (subtypeAsked rows general other) = (_, tells-subtype _ _ refl, refl
 step-done s (originsAsked rows list) = (_, refl, refl, refl)
 step-done s (extensionsAsked rows list) = (_, refl, refl, refl)
 step-done s (implementersAsked rows list) = (_, refl, refl, refl)
+step-done s (parsing source cards) = (_, refl, refl, refl)
 
 pub run-done : (s : Store) (cs : List Call) → AllDone s cs (runStore s cs)
 unfolding runStore

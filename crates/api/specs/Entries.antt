@@ -9,10 +9,10 @@ use Rattle.definition.specs.declared.SubtypeLookup.{SubtypeLookup}
 use Rattle.definition.specs.Answers.{answer}
 use Rattle.definition.specs.Outcomes.{BuildOutcome, RootName, ListOutcome}
 use Rattle.definition.specs.Calls.{Call, opening, filing, adopting, ignoring, building, checking, rootAsked, fieldAsked, subtypeAsked, originsAsked}
-use Rattle.definition.specs.Calls.{extensionsAsked, implementersAsked, Reply, answered, built, named, fielded, subtyped, listed}
+use Rattle.definition.specs.Calls.{extensionsAsked, implementersAsked, parsing, Reply, answered, built, named, fielded, subtyped, listed}
 use Rattle.definition.specs.Calls.{Store, openedAccount, runAccount}
 use Rattle.api.specs.Promised.{Opens, Files, Adopts, Ignores, Builds, ChecksRows, NamesRoot, FindsField, TellsSubtype}
-use Rattle.api.specs.Promised.{ListsOrigins, ListsExtensions, MapsImplementers}
+use Rattle.api.specs.Promised.{ListsOrigins, ListsExtensions, MapsImplementers, Parses}
 
 -- An entry did a call that was lent the store s, left the store t and replied: its promise holds of what it answered and left, and that is the reply. An
 -- entry that only reads is lent a store that it can't write, so t is s.
@@ -34,6 +34,7 @@ Done s (extensionsAsked rows list) t reply =
     (o : ListOutcome) × ListsExtensions (s .text) (s .words) rows list (o .answer) (o .list) × (reply ≡ listed o) × (t ≡ s)
 Done s (implementersAsked rows list) t reply =
     (o : ListOutcome) × MapsImplementers (s .text) (s .words) rows list (o .answer) (o .list) × (reply ≡ listed o) × (t ≡ s)
+Done s (parsing source cards) t reply = (o : ListOutcome) × Parses source cards (o .answer) (o .list) × (reply ≡ listed o) × (t ≡ s)
 
 -- Calls that entries did one after another, each lent the store as the last one left it, with the replies.
 abbrev pub AllDone : Store → List Call → List Reply → Type 0

@@ -14,7 +14,7 @@ use Rattle.definition.specs.Answers.{fieldRefusal, fieldNumber, fieldMeta, fiel
 use Rattle.definition.specs.Lookups.{span}
 use Rattle.definition.specs.Outcomes.{StoreOutcome, BuildOutcome, RootName, ListOutcome, open-store, add-ast, adopt-orphan-extensions}
 use Rattle.definition.specs.Outcomes.{ignore-builtin-redefinitions, build}
-use Rattle.definition.specs.Outcomes.{check-rows, root-operation, type-field, is-subtype, iter-origins, extensions, implementers-map}
+use Rattle.definition.specs.Outcomes.{check-rows, root-operation, type-field, is-subtype, iter-origins, extensions, implementers-map, parse}
 
 -- ---- The calls that write the store.
 
@@ -80,3 +80,8 @@ ListsExtensions text words rows list r list' = _≡_ {A = ListOutcome} (record {
 
 abbrev pub MapsImplementers : List ℕ → List ℕ → List ℕ → List ℕ → Answer → List ℕ → Type 0
 MapsImplementers text words rows list r list' = _≡_ {A = ListOutcome} (record { answer = r; list = list' }) (implementers-map text words rows list)
+
+-- ---- Reading a text. (2.2)
+
+abbrev pub Parses : List ℕ → List ℕ → Answer → List ℕ → Type 0
+Parses text cards r cards' = _≡_ {A = ListOutcome} (record { answer = r; list = cards' }) (parse text cards)

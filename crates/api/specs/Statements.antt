@@ -18,10 +18,10 @@ use Rattle.definition.specs.Lists.{choose}
 use Rattle.definition.specs.Answers.{metaNumber, explicitCard, fieldRefusal, fieldNumber, fieldMeta, fieldCard, subtypeRefusal, subtypeNumber}
 use Rattle.definition.specs.Outcomes.{BuildOutcome, RootName, ListOutcome}
 use Rattle.definition.specs.Calls.{Call, opening, filing, adopting, ignoring, building, checking, rootAsked, fieldAsked, subtypeAsked, originsAsked}
-use Rattle.definition.specs.Calls.{extensionsAsked, implementersAsked}
+use Rattle.definition.specs.Calls.{extensionsAsked, implementersAsked, parsing}
 use Rattle.definition.specs.Calls.{Reply, answered, built, named, fielded, subtyped, listed, Store, store, leaves, stepStore}
 use Rattle.api.specs.Promised.{Opens, Files, Adopts, Ignores, Builds, ChecksRows, NamesRoot, SameField, SameSubtype, FindsField, TellsSubtype}
-use Rattle.api.specs.Promised.{ListsOrigins, ListsExtensions, MapsImplementers}
+use Rattle.api.specs.Promised.{ListsOrigins, ListsExtensions, MapsImplementers, Parses}
 
 -- ---- An answer's numbers leave one answer.
 
@@ -102,7 +102,8 @@ module _ (text words : List ℕ) where
     unfolding stepStore store
     check-rows-steps r e = ap (λ (a : Answer). (store text words, answered a)) e
 
-    pub root-operation-steps : (op : OperationType) (name : RootName) → NamesRoot text words rows op name → Steps text words (rootAsked rows op) text words (named name)
+    pub root-operation-steps : (op : OperationType) (name : RootName) → NamesRoot text words rows op name →
+        Steps text words (rootAsked rows op) text words (named name)
     unfolding stepStore store
     root-operation-steps op name e = ap (λ (n : RootName). (store text words, named n)) e
 
@@ -133,3 +134,10 @@ module _ (text words : List ℕ) where
           Steps text words (implementersAsked rows list) text words (listed (record { answer = r; list = list' }))
       unfolding stepStore store
       implementers-map-steps e = ap (λ (o : ListOutcome). (store text words, listed o)) e
+
+  -- ---- Reading a text, whatever the store.
+
+  pub parse-steps : (source cards : List ℕ) (r : Answer) (cards' : List ℕ) → Parses source cards r cards' →
+      Steps text words (parsing source cards) text words (listed (record { answer = r; list = cards' }))
+  unfolding stepStore store
+  parse-steps source cards r cards' e = ap (λ (o : ListOutcome). (store text words, listed o)) e

@@ -9,6 +9,7 @@ use definition::layout::GROUPS_CAPACITY;
 use definition::layout::ORIGINS_CAPACITY;
 ghost use Rattle.api.specs.Promised.{Opens, Files, Adopts, Ignores, Builds};
 ghost use Rattle.api.specs.Promised.{ChecksRows, partIn, LiesIn, NamesRoot, FindsField, TellsSubtype, ListsOrigins, ListsExtensions, MapsImplementers};
+ghost use Rattle.api.specs.Promised.{Parses};
 
 pub mod answers;
 pub mod refusals;
@@ -163,4 +164,11 @@ pub fn implementers_map(text: &[u8], words: &[u32], rows: &[u32], list: &mut [u3
         number: 0,
         card: groups,
     }
+}
+
+// Reads a text of the type language into cards, as they are filed with it. No store is needed.
+pub fn parse(text: &[u8], cards: &mut [u32]) -> Answer
+    ensures { λ r. ⌜ Parses (now (text .entry)) (now (cards .entry)) r (now (cards .exit)) ⌝ }
+{
+    parser::parse(text, cards)
 }

@@ -54,7 +54,7 @@ errors-back (e ∷ es) rest = ap (λ l. e ∷ l) (errors-back es rest)
 
 -- ---- Written at the beginning of a slice.
 
-written-starts : (xs ys : List ℕ) → written xs 0 ys ≡ ys ++ drop (0 + length ys) xs
+pub written-starts : (xs ys : List ℕ) → written xs 0 ys ≡ ys ++ drop (0 + length ys) xs
 unfolding written
 written-starts xs ys = ap (λ l. l ++ drop (0 + length ys) xs) (take-all (length ys) ys (omega arith))
 

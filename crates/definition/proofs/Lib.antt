@@ -16,6 +16,7 @@ pub mod Admitted
 pub mod StoreHolds
 pub mod RootNames
 pub mod StoreAgrees
+pub mod ParseOutcome
 pub mod RefusalNumbers
 pub mod StoreSound
 pub mod StoreWrites

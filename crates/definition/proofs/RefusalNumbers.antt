@@ -28,11 +28,12 @@ use Rattle.definition.specs.Store.{accountIn, tooShort, storeRefusal, op
 use Rattle.definition.specs.LentRows.{held, lentRows, rowClauses, passes, rowsRefusal}
 use Rattle.definition.specs.Lookups.{Block, typeNamed, isPartNamed, metaField, fieldOf, fieldNamed, isSubtype}
 use Rattle.definition.specs.Outcomes.{open-store, add-ast, turned, unchanged, accepted, unbuilt, mergedInto, isShort, buildOf, checkOf, fieldOfType}
-use Rattle.definition.specs.Outcomes.{subtypeAnswer, unlisted, listedIn, unlessRefused, originsOf, extensionsIn, implementersOf}
+use Rattle.definition.specs.Outcomes.{subtypeAnswer, parse, unlisted, listedIn, unlessRefused, originsOf, extensionsIn, implementersOf}
 use Rattle.definition.specs.Calls.{Call, opening, filing, adopting, ignoring, building, checking, rootAsked, fieldAsked, subtypeAsked, originsAsked}
-use Rattle.definition.specs.Calls.{extensionsAsked, implementersAsked, Reply, orRefused, step, runAccount}
+use Rattle.definition.specs.Calls.{extensionsAsked, implementersAsked, parsing, Reply, orRefused, step, runAccount}
 use Rattle.definition.specs.Runs.{Accepted, refusal}
 use Rattle.definition.proofs.Tests.{or-false}
+use Rattle.definition.proofs.ParseOutcome.{parse-is}
 
 -- ---- Neither 0 nor a number of the store.
 
@@ -243,6 +244,10 @@ listing-own a rows capacity lent count ws = go (eqb (rowsRefusal (a .documents) 
     go true false = refl
     go false c = rows-number (a .documents) rows
 
+parse-own : (text lent : List ℕ) → isOfStore (parse text lent .answer .number) ≡ false
+unfolding unlisted listedIn
+parse-own text lent = parse-is text lent (λ o. isOfStore (o .answer .number) ≡ false) (λ n ws. refl) refl refl refl (λ p. refl) (λ p. refl)
+
 step-own : (a : Account) (c : Call) → Own (step a c .1)
 unfolding step checkOf originsOf extensionsIn implementersOf
 step-own a (opening text ws) = refused-own a _ (openingRefusal text ws) (opening-numbered text ws)
@@ -257,6 +262,7 @@ step-own a (subtypeAsked rows general other) = subtype-own a rows general other
 step-own a (originsAsked rows lent) = listing-own a rows originsCapacity lent _ _
 step-own a (extensionsAsked rows lent) = listing-own a rows originsCapacity lent _ _
 step-own a (implementersAsked rows lent) = listing-own a rows groupsCapacity lent _ _
+step-own a (parsing text lent) = parse-own text lent
 
 abbrev pub NotOfStore : Reply → Type 0
 NotOfStore r = (refusal r ≡ 21 → ⊥) × (refusal r ≡ 22 → ⊥)

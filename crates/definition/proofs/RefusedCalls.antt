@@ -13,13 +13,14 @@ use Rattle.definition.specs.Account.{Account}
 use Rattle.definition.specs.Refusals.{document, openingRefusal, filingRefusal, rowsCapacity, errorsCapacity, originsCapacity, groupsCapacity}
 use Rattle.definition.specs.Store.{accountIn, tooShort, storeRefusal, openedText, openedWords, filedText, filedWords, adoptingWords, ignoringWords}
 use Rattle.definition.specs.LentRows.{rowsRefusal}
-use Rattle.definition.specs.Outcomes.{StoreOutcome, unchanged, accepted, open-store, add-ast, turned, adopt-orphan-extensions}
+use Rattle.definition.specs.Outcomes.{parse, StoreOutcome, unchanged, accepted, open-store, add-ast, turned, adopt-orphan-extensions}
 use Rattle.definition.specs.Outcomes.{ignore-builtin-redefinitions, unbuilt, mergedInto, isShort, buildOf, build, unlisted, listedIn, unlessRefused}
 use Rattle.definition.specs.Outcomes.{originsOf, extensionsIn, implementersOf, iter-origins, extensions, implementers-map}
 use Rattle.definition.specs.Calls.{opening, filing, adopting, ignoring, building, checking, rootAsked, fieldAsked, subtypeAsked, originsAsked}
-use Rattle.definition.specs.Calls.{extensionsAsked, implementersAsked, Store, store, leaves, Effect, writes, reads, effect, storeStep, stepStore}
+use Rattle.definition.specs.Calls.{extensionsAsked, implementersAsked, parsing, Store, store, leaves, Effect, writes, reads, effect, storeStep, stepStore}
 use Rattle.definition.specs.Calls.{onlyReads}
 use Rattle.definition.specs.Demands.{RefusedLeaves, ReadOnlyLeaves}
+use Rattle.definition.proofs.ParseOutcome.{parse-is}
 
 -- ---- Calls that write into the store.
 
@@ -102,6 +103,12 @@ listing-stays a n rows capacity lent count ws = go (eqb n 0) (eqb (rowsRefusal (
     go true false d r = refl
     go false c d r = refl
 
+pub parse-stays : (text lent : List ℕ) → (parse text lent .answer .number ≡ 0 → ⊥) → parse text lent .list ≡ lent
+unfolding unlisted listedIn
+parse-stays text lent =
+    parse-is text lent (λ o. (o .answer .number ≡ 0 → ⊥) → o .list ≡ lent) (λ n ws r. absurd (r refl)) (λ r. refl) (λ r. refl) (λ r. refl)
+    (λ p r. refl) (λ p r. refl)
+
 pub refused-leaves : RefusedLeaves
 unfolding stepStore leaves adopt-orphan-extensions ignore-builtin-redefinitions iter-origins extensions implementers-map originsOf extensionsIn implementersOf
 refused-leaves s (opening lent ws) r = (left-as s (open-store (s .text) (s .words) lent ws) (opening-stays (s .text) (s .words) lent ws r), refl)
@@ -127,6 +134,7 @@ refused-leaves s (extensionsAsked rows lent) r =
     (refl, ap (λ l. l ∷ []) (listing-stays (accountIn (s .text) (s .words)) (storeRefusal (s .text) (s .words)) rows originsCapacity lent _ _ r))
 refused-leaves s (implementersAsked rows lent) r =
     (refl, ap (λ l. l ∷ []) (listing-stays (accountIn (s .text) (s .words)) (storeRefusal (s .text) (s .words)) rows groupsCapacity lent _ _ r))
+refused-leaves s (parsing text lent) r = (refl, ap (λ l. l ∷ []) (parse-stays text lent r))
 
 pub read-only-leaves : ReadOnlyLeaves
 unfolding stepStore

@@ -14,7 +14,8 @@ use Rattle.definition.specs.Answers.{answer}
 use Rattle.definition.specs.Account.{Account}
 use Rattle.definition.specs.Refusals.{document, openingRefusal, filingRefusal}
 use Rattle.definition.specs.Calls.{Call, opening, filing, adopting, ignoring, building, checking, rootAsked, fieldAsked, subtypeAsked, originsAsked}
-use Rattle.definition.specs.Calls.{extensionsAsked, implementersAsked, answered, openedAccount, joined, adoptingFrom, ignoringFrom, orRefused, step}
+use Rattle.definition.specs.Calls.{extensionsAsked, implementersAsked, parsing, answered, openedAccount, joined, adoptingFrom, ignoringFrom, orRefused}
+use Rattle.definition.specs.Calls.{step}
 use Rattle.definition.specs.Calls.{accountAfter, Store, stepStore, runStore}
 use Rattle.definition.specs.Runs.{storeAfter, OpenedAt, NoneOpenedBetween}
 use Rattle.definition.proofs.Tests.{zero-one}
@@ -76,6 +77,7 @@ step-later a (subtypeAsked rows general other) n = later-same a
 step-later a (originsAsked rows lent) n = later-same a
 step-later a (extensionsAsked rows lent) n = later-same a
 step-later a (implementersAsked rows lent) n = later-same a
+step-later a (parsing text lent) n = later-same a
 
 -- ---- Between two places of a run of a store s that holds the account a.
 

@@ -12,7 +12,8 @@ use Rattle.definition.specs.Store.{accountIn, tooShort, storeRefusal}
 use Rattle.definition.specs.Outcomes.{unchanged, accepted, open-store, add-ast, turned, adopt-orphan-extensions, ignore-builtin-redefinitions, build}
 use Rattle.definition.specs.Outcomes.{check-rows, root-operation, type-field, is-subtype, iter-origins, extensions, implementers-map}
 use Rattle.definition.specs.Calls.{Call, opening, filing, adopting, ignoring, building, checking, rootAsked, fieldAsked, subtypeAsked, originsAsked}
-use Rattle.definition.specs.Calls.{extensionsAsked, implementersAsked, Reply, answered, built, named, fielded, subtyped, listed, openedAccount, joined}
+use Rattle.definition.specs.Calls.{extensionsAsked, implementersAsked, parsing, Reply, answered, built, named, fielded, subtyped, listed, openedAccount}
+use Rattle.definition.specs.Calls.{joined}
 use Rattle.definition.specs.Calls.{adoptingFrom, ignoringFrom, orRefused, step, runAccount, Store, store, leaves, stepStore, runStore, accountAfter}
 use Rattle.definition.specs.Runs.{storeAfter}
 use Rattle.definition.proofs.StoreHolds.{LaidOut, account-held, refusal-held, long-held, adopting-held, ignoring-held, opening-held, filing-held}
@@ -73,6 +74,10 @@ module _ (s : Store) (a : Account) (h : HoldsIn s a) where
   unfolding stepStore step
   kept-implementers rows lent = record { reply = ap listed (unfold implementers-map in rw (sound, same)); holds = h }
 
+  kept-parsing : (text lent : List ℕ) → Same (stepStore s (parsing text lent)) (step a (parsing text lent))
+  unfolding stepStore step
+  kept-parsing text lent = record { reply = refl; holds = h }
+
   kept-adopting : Same (stepStore s adopting) (step a adopting)
   unfolding stepStore step leaves store adopt-orphan-extensions turned orRefused accepted adoptingFrom
   kept-adopting = rw sound (record { reply = refl; holds = adopting-held (s .text) (s .words) (a .documents) (a .adopt) (a .ignore) h })
@@ -110,6 +115,7 @@ module _ (s : Store) (a : Account) (h : HoldsIn s a) where
   kept (originsAsked rows lent) = kept-origins rows lent
   kept (extensionsAsked rows lent) = kept-extensions rows lent
   kept (implementersAsked rows lent) = kept-implementers rows lent
+  kept (parsing text lent) = kept-parsing text lent
 
 -- ---- All calls.
 

@@ -13,7 +13,8 @@ use Rattle.definition.specs.Account.{Account}
 use Rattle.definition.specs.Refusals.{document, openingRefusal, filingRefusal}
 use Rattle.definition.specs.Outcomes.{StoreOutcome, BuildOutcome, RootName, ListOutcome, open-store, add-ast, adopt-orphan-extensions}
 use Rattle.definition.specs.Outcomes.{ignore-builtin-redefinitions, build, check-rows, root-operation, type-field, is-subtype, iter-origins, extensions}
-use Rattle.definition.specs.Outcomes.{implementers-map, buildOf, checkOf, rootOf, fieldOfType, subtypeAnswer, originsOf, extensionsIn, implementersOf}
+use Rattle.definition.specs.Outcomes.{implementers-map, parse, buildOf, checkOf, rootOf, fieldOfType, subtypeAnswer, originsOf, extensionsIn}
+use Rattle.definition.specs.Outcomes.{implementersOf}
 
 -- A call, with all that it is lent besides the store.
 pub data Call : Type 0 where
@@ -29,6 +30,7 @@ pub data Call : Type 0 where
   originsAsked : List ℕ → List ℕ → Call
   extensionsAsked : List ℕ → List ℕ → Call
   implementersAsked : List ℕ → List ℕ → Call
+  parsing : List ℕ → List ℕ → Call
 
 -- What a call answers, with the contents at exit of the slices lent to be written.
 pub data Reply : Type 0 where
@@ -97,6 +99,8 @@ effect (originsAsked rows lent) = reads (λ a. listed (originsOf a rows lent)) (
 effect (extensionsAsked rows lent) = reads (λ a. listed (extensionsIn a rows lent)) (λ t w. listed (extensions t w rows lent)) (lent ∷ [])
 effect (implementersAsked rows lent) =
     reads (λ a. listed (implementersOf a rows lent)) (λ t w. listed (implementers-map t w rows lent)) (lent ∷ [])
+-- A text is read without a store.
+effect (parsing text lent) = reads (λ a. listed (parse text lent)) (λ t w. listed (parse text lent)) (lent ∷ [])
 
 -- The account after a call, and the reply.
 abbrev pub accountStep : Account → Effect → Account × Reply

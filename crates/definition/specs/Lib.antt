@@ -13,6 +13,15 @@ pub mod Headings
 pub mod Catalogue
 pub mod Errors
 pub mod Merge
+-- The type language: its grammar and its texts, what a text is read as, and the cards of what was read (2.2). GrammarSets, Machine and the function
+-- `reading` need not be believed: parser_laws proves that it comes to what Promise says, and that nothing else does.
+pub mod Grammar
+pub mod Derivation
+pub mod Lexical
+pub mod GrammarSets
+pub mod Machine
+pub mod ItemCards
+pub mod Reading
 -- What is held and where, and what is refused.
 pub mod Account
 pub mod Refusals
@@ -21,6 +30,9 @@ pub mod LentRows
 -- The public entries.
 pub mod Lookups
 pub mod Outcomes
+-- What is promised of reading a text.
+pub mod Promise
+pub mod ReadCards
 -- Demand 3.
 pub mod Calls
 pub mod Runs
@@ -31,3 +43,4 @@ pub mod Unfolded
 pub mod Shown
 pub mod Table
 pub mod Examples
+pub mod ReadingExamples

@@ -65,6 +65,11 @@ module _ {ℓ} {A : Type ℓ} where
   orElse (some a) o = some a
   orElse none o = o
 
+-- x is an element of the list.
+pub data Among {A : Type 0} (x : A) : List A → Type 0 where
+  here : {xs : List A} → Among x (x ∷ xs)
+  there : {y : A} {xs : List A} → Among x xs → Among x (y ∷ xs)
+
 -- P holds of every element.
 abbrev pub All {ℓ} : {A : Type ℓ} → (A → Type 0) → List A → Type 0
 All P [] = Unit {0}

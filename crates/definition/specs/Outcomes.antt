@@ -20,12 +20,17 @@ use Rattle.definition.specs.declared.SubtypeLookup.the-variants.{Subtype
 use Rattle.definition.specs.Lists.{choose, found, flatMap, written}
 use Rattle.definition.specs.Names.{bytesAt}
 use Rattle.definition.specs.Answers.{answer}
+use Rattle.definition.specs.Cards.{wordsOfCard}
+use Rattle.definition.specs.ItemCards.{cardsRead}
+use Rattle.definition.specs.Reading.{Reading, accepted as acceptedBy, refused, reading}
 use Rattle.definition.specs.Headings.{Document, NamedCard}
 use Rattle.definition.specs.Catalogue.{Row}
 use Rattle.definition.specs.Errors.{Error}
 use Rattle.definition.specs.Merge.{Merged, merge, errorNumbers, tallies}
 use Rattle.definition.specs.Account.{Account}
-use Rattle.definition.specs.Refusals.{document, openingRefusal, filingRefusal, rowsCapacity, errorsCapacity, groupsCapacity, originsCapacity}
+use Rattle.definition.specs.Refusals.{document, openingRefusal, filingRefusal, textCapacity, cardCapacity, readCardsCapacity, rowsCapacity}
+use Rattle.definition.specs.Refusals.{errorsCapacity}
+use Rattle.definition.specs.Refusals.{groupsCapacity, originsCapacity}
 use Rattle.definition.specs.Store.{accountIn, tooShort, storeRefusal, openedText, openedWords, filedText, filedWords, adoptingWords, ignoringWords}
 use Rattle.definition.specs.LentRows.{held, lentRows, rowsRefusal, nameNumbered}
 use Rattle.definition.specs.Lookups.{Span, span, rootRow, rootCard, rootSpan, fieldNamed, isSubtype, originList, extensionList, Group, groups, groupWords}
@@ -199,7 +204,7 @@ is-subtype text words rows general other =
     let done = subtypeAnswer (accountIn text words) rows general other in
     choose (eqb n 0) done (SubtypeRefused n)
 
--- ---- Lookups that fill a slice: 21, 22, 26, 7. The answer is 0 and how many origins or groups were written.
+-- ---- Calls that fill a slice.
 
 pub record ListOutcome : Type 0 where
   pub answer : Answer
@@ -210,6 +215,25 @@ unlisted lent n = record { answer = answer n 0; list = lent }
 
 unfoldable pub listedIn : List ℕ → ℕ → List ℕ → ListOutcome
 listedIn lent count ws = record { answer = answer 0 count; list = written lent 0 ws }
+
+-- ---- Reading a text, which needs no store. (2.2)
+
+-- "Accepted, it returns 0 and the card count": the slice begins with the cards' words. 29 and 30 return their place in the text; 25 is asked last.
+abbrev pub parsed : List ℕ → Reading → ListOutcome
+parsed lent (acceptedBy es) =
+    let cs = cardsRead es in
+    let done = listedIn lent (length cs) (flatMap wordsOfCard cs) in
+    choose (ltb cardCapacity (length cs)) (unlisted lent 25) done
+parsed lent (refused n p) = record { answer = answer n p; list = lent }
+
+-- `parse`: 31, 24, then 29 or 30 by place in the text, 25.
+unfoldable pub parse : List ℕ → List ℕ → ListOutcome
+parse text lent =
+    let done = parsed lent (reading text) in
+    let tried = choose (ltb textCapacity (length text)) (unlisted lent 24) done in
+    choose (isShort readCardsCapacity lent) (unlisted lent 31) tried
+
+-- ---- Lookups that fill a slice: 21, 22, 26, 7. The answer is 0 and how many origins or groups were written.
 
 -- 26, then 7, else what is done.
 unfoldable pub unlessRefused : Account → List ℕ → ℕ → List ℕ → ListOutcome → ListOutcome

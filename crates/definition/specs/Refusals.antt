@@ -2,13 +2,13 @@
 use mathlib.Core.List.{List, [], _∷_, _++_}
 use mathlib.Core.Bool.{Bool, true, false, _||_}
 use mathlib.Core.Option.{Option, none, some}
-use Prim.Native.Nat.{ℕ, _+_}
+use Prim.Native.Nat.{ℕ, _+_, _*_}
 use lib.Dec.{eqb, leb, ltb}
 use lib.ListN.{length}
 use Rattle.definition.specs.declared.Answer.{Answer}
 use Rattle.definition.specs.Lists.{choose, found, first, orElse}
 use Rattle.definition.specs.Answers.{answer}
-use Rattle.definition.specs.Cards.{Card, cardsOf, documentFault, isExtension}
+use Rattle.definition.specs.Cards.{Card, cardWords, cardsOf, documentFault, isExtension}
 use Rattle.definition.specs.Headings.{Document}
 use Rattle.definition.specs.Errors.{Error}
 use Rattle.definition.specs.Merge.{merge}
@@ -25,6 +25,10 @@ documentCapacity = 64
 
 abbrev pub cardCapacity : ℕ
 cardCapacity = 2300
+
+-- In the slice that a text's cards are read into: "a card slice under 11,500 words" (2.2) has no room for them all.
+abbrev pub readCardsCapacity : ℕ
+readCardsCapacity = cardCapacity * cardWords
 
 -- In slices to be written: "rows shorter than 6,912 words, errors than 6,900, groups than 9,200, a list of origins than 2,304".
 abbrev pub rowsCapacity : ℕ

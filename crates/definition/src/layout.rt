@@ -52,3 +52,5 @@ pub const ERRORS_CAPACITY: usize = 6900;
 pub const GROUPS_CAPACITY: usize = 9200;
 
 pub const ORIGINS_CAPACITY: usize = 2304;
+
+pub const READ_CARDS_CAPACITY: usize = CARD_WORDS * CARD_CAPACITY;

@@ -7,8 +7,8 @@ pub mod refusal;
 // The word that stands for no card, `-` in 01.
 pub const ABSENT: u32 = 4294967295;
 
-// A refusal and, for 2 to 6, 27 and 28, the number of the card in its document, else 0. An accepted call answers 0 and 0; a call that fills a slice
-// answers 0 and how many things it wrote. A lent document may have more cards than 32 bits count, so the card's number is a usize.
+// A refusal and, for 2 to 6, 27 and 28, the number of the card in its document, for 29 and 30 the place in the text, else 0. An accepted call answers 0 and
+// 0; a call that fills a slice answers 0 and how many things it wrote. A lent document may have more cards than 32 bits count, so the card's number is a usize.
 #[repr(C)]
 pub struct Answer {
     pub number: u32,

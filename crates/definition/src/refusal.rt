@@ -33,3 +33,10 @@ pub const TEXT_FULL: u32 = 24;
 pub const CARDS_FULL: u32 = 25;
 
 pub const ROWS_UNSOUND: u32 = 26;
+
+// Of a text that is read: what no text of the grammar has there, a level too deep, and a slice with no room for the cards.
+pub const NOT_IN_GRAMMAR: u32 = 29;
+
+pub const NESTED_TOO_DEEP: u32 = 30;
+
+pub const CARD_SLICE_TOO_SHORT: u32 = 31;

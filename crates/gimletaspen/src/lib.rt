@@ -13,7 +13,7 @@ use definition::OperationType;
 ghost use mathlib.Core.Path.{_≡_};
 ghost use lib.ListN.{length};
 ghost use Rattle.definition.specs.Outcomes.{type-field, is-subtype};
-ghost use Rattle.api.specs.Promised.{Opens, Files, Adopts, Ignores, Builds, ChecksRows, ListsOrigins, ListsExtensions, MapsImplementers};
+ghost use Rattle.api.specs.Promised.{Opens, Files, Adopts, Ignores, Builds, ChecksRows, Parses, ListsOrigins, ListsExtensions, MapsImplementers};
 ghost use Rattle.gimletaspen.specs.Exported.{rootNamed, copiedName, FieldNumbers, SubtypeNumbers};
 
 // The four numbers of `type_field`'s answer: the refusal or 0, what became of the field, which one was found, and the card.
@@ -215,4 +215,11 @@ pub extern "C" fn gimletaspen_implementers_map(
         (now (list .exit)) ⌝ }
 {
     api::implementers_map(text, words, rows, list)
+}
+
+#[no_mangle]
+pub extern "C" fn gimletaspen_parse(text: &[u8], cards: &mut [u32]) -> Answer
+    ensures { λ r. ⌜ Parses (now (text .entry)) (now (cards .entry)) r (now (cards .exit)) ⌝ }
+{
+    api::parse(text, cards)
 }

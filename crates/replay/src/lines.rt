@@ -7,6 +7,7 @@ use crate::expected::report::count_unended;
 use crate::filing::run_filing;
 use crate::filing::run_switch;
 use crate::lookups::run_lookup;
+use crate::reading::run_parse;
 use replay_calls::calls::parse::find_byte;
 use replay_calls::steps::buffers;
 use replay_calls::steps::change::run_change;
@@ -140,5 +141,6 @@ fn run_call(
             let rows = first_words(rows, lent.rows);
             asked(lent, run_lookup(lookup, line, text, words, rows))
         }
+        Call::Parse => asked(lent, run_parse(folder, line)),
     }
 }

@@ -129,7 +129,7 @@ fn run_filling(filling: Filling, line: &[u8], text: &[u8], words: &[u32], rows: 
     let answer = fill(filling, l, text, words, rows, &mut list);
     let verdict = hold_answer(answer, given[1], given[2]);
     if let Verdict::Passed = verdict {
-        return hold_list(line, &list);
+        return hold_list(line, 4, &list);
     }
     verdict
 }

@@ -5,6 +5,7 @@ mod expected;
 mod filing;
 mod lines;
 mod lookups;
+mod reading;
 
 use crate::expected::report;
 use crate::expected::report::Tally;

@@ -102,19 +102,19 @@ fn hold_bytes(came: &[u8], expected: &[u8]) -> Verdict {
     Verdict::Other
 }
 
-// The words of the line behind the first four are those written, and all past them stayed.
-pub fn hold_list(line: &[u8], list: &[u32]) -> Verdict
+// The words of the line from word `from` on are those written, and all past them stayed.
+pub fn hold_list(line: &[u8], from: usize, list: &[u32]) -> Verdict
     requires { ⌜ length (now line) ≤ callsCapacity ⌝ }
 {
     let n = count_words(line);
-    if n < 4 {
+    if n < from {
         return Verdict::Malformed;
     }
-    let written = n - 4;
+    let written = n - from;
     if list.len() < written {
         return Verdict::Malformed;
     }
-    if !are_numbers(line, word_place(line, 4), &list[..written]) {
+    if !are_numbers(line, word_place(line, from), &list[..written]) {
         return Verdict::Other;
     }
     let untouched = buffers::list();

@@ -36,6 +36,8 @@ pub enum Call {
     TurnOn(Switch),
     Build,
     Look(Lookup),
+    // Reading a text into cards.
+    Parse,
 }
 
 // The changes of what is lent.
@@ -87,7 +89,7 @@ pub fn command_of(line: &[u8]) -> Command {
 fn named(name: &[u8]) -> Command {
     match place_of(
         name,
-        b"open add_ast adopt_orphan_extensions ignore_builtin_redefinitions build tallies",
+        b"open add_ast adopt_orphan_extensions ignore_builtin_redefinitions build tallies parse",
     ) {
         0 => Command::Call(Call::File(Filing::Open)),
         1 => Command::Call(Call::File(Filing::AddAst)),
@@ -95,6 +97,7 @@ fn named(name: &[u8]) -> Command {
         3 => Command::Call(Call::TurnOn(Switch::IgnoreBuiltinRedefinitions)),
         4 => Command::Call(Call::Build),
         5 => Command::Tallies,
+        6 => Command::Call(Call::Parse),
         _ => lookup_of(name),
     }
 }

@@ -19,8 +19,8 @@ word-place-requires c κs = search needs
 
 slice-aggregate-are-numbers : tie.Need-slice-aggregate-are-numbers
 slice-aggregate-are-numbers c =
-    sym (length-take-le (c .before .before .before .before .count-words .result - 4)
-    (c .before .before .before .before .before .before .before .args .list .now) (c .before .before .if2 .left))
+    let start = c .before .before .before .before .before .before .before in
+    sym (length-take-le (c .before .before .before .before .count-words .result - start .args .from) (start .args .list .now) (c .before .before .if2 .left))
 
 are-numbers-requires : tie.Need-are-numbers-requires
 are-numbers-requires c κs = search needs

@@ -1,0 +1,3 @@
+-- What the parser's functions promise.
+pub mod Symbols
+pub mod Headings

@@ -1,0 +1,24 @@
+-- What is proved of the reading of texts: that it is what is promised, and that nothing else is; and the steps that code goes by.
+pub mod Tests
+pub mod Facts
+pub mod Sound
+pub mod Theory
+pub mod Viability
+pub mod Walking
+pub mod Right
+pub mod Steps
+pub mod Picking
+pub mod Pieces
+pub mod Gluing
+pub mod Places
+pub mod Items
+pub mod Cutting
+pub mod Real
+pub mod Promised
+pub mod Marked
+pub mod Ahead
+pub mod Lined
+pub mod Phases
+pub mod Chained
+pub mod Holding
+pub mod Filed

@@ -1,0 +1,85 @@
+use mathlib.Core.Path.{_≡_, sym, ap, _∙_}
+use Prim.Native.Nat.{_+_, _-_, _≤_}
+use native.Mathlib.Nat.{add-sub-cancel-left}
+use native.Mathlib.Omega.{arith}
+use lib.ListN.{length, drop}
+use Rattle.definition.specs.Lexical.{plain}
+use Rattle.parser_lexer.specs.Strings.{stringOf}
+use Rattle.parser_lexer.proofs.StringLaws.{string-goes, plain-closes, plain-broken, plain-goes, plain-end}
+use Rattle.parser_lexer.proofs.strings.plain_string.Statement.{statement}
+use Rattle.parser_lexer.proofs.strings.plain_string.Tie as tie
+use borrow.Author.Needs.{needs}
+
+abbrev Inv-loop : tie.InvT-loop
+Inv-loop text at i₀ i = (at ≤ i) × (stringOf 1 (plain 0 (drop (at + 1) text)) ≡ stringOf (i - at) (plain 0 (drop i text)))
+
+abbrev μ-loop : tie.MeasureT-loop
+μ-loop text at i₀ i = length text - i
+
+add-i : tie.Need-add-i Inv-loop μ-loop
+add-i c = search needs
+
+loop-holds : tie.Need-loop-holds Inv-loop μ-loop
+loop-holds c = (omega arith, simp add-sub-cancel-left)
+
+shared-slice-read-if1 : tie.Need-shared-slice-read-if1 Inv-loop μ-loop
+shared-slice-read-if1 c = search needs
+
+sub-t9 : tie.Need-sub-t9 Inv-loop μ-loop
+sub-t9 c = search needs
+
+add-t10 : tie.Need-add-t10 Inv-loop μ-loop
+add-t10 c = search needs
+
+returns : tie.Need-returns Inv-loop μ-loop
+returns c = sym (c .before .before .before .loop .inv .1 ∙ ap (stringOf _)
+    (plain-closes (c .before .before .before .before .before .args .text .now) (c .before .before .before .loop .i) (c .before .before .loop-test .taken)
+    (c .if1 .taken)))
+
+plain-part-requires : tie.Need-plain-part-requires Inv-loop μ-loop
+plain-part-requires c κs = search needs
+
+returns-2 : tie.Need-returns-2 Inv-loop μ-loop
+returns-2 c = sym (c .before .before .before .before .before .loop .inv .1 ∙
+    ap (stringOf _) (plain-broken (c .before .before .before .before .before .before .before .args .text .now)
+    (c .before .before .before .before .before .loop .i) (c .before .before .before .before .loop-test .taken) (c .before .before .if1 .left) _
+    (c .before .plain-part .ensures .0) (c .if2 .taken)))
+
+add-i-2 : tie.Need-add-i-2 Inv-loop μ-loop
+add-i-2 c = search needs
+
+loop-less : tie.Need-loop-less Inv-loop μ-loop
+loop-less c = search needs
+
+loop-again : tie.Need-loop-again Inv-loop μ-loop
+loop-again c =
+    let goes = plain-goes (c .before .before .before .before .before .before .before .args .text .now) (c .before .before .before .before .before .loop .i)
+    (c .before .before .before .before .loop-test .taken) (c .before .before .if1 .left) _ (c .before .plain-part .ensures .0) (c .if2 .left) in (
+      omega arith,
+      c .before .before .before .before .before .loop .inv .1 ∙
+          string-goes (plain 0) (c .before .before .before .before .before .before .before .args .text .now)
+          (c .before .before .before .before .before .before .before .args .at) (c .before .before .before .before .before .loop .i)
+          (c .before .plain-part .result) (c .before .before .before .before .before .loop .inv .0) goes,
+    )
+
+returns-3 : tie.Need-returns-3 Inv-loop μ-loop
+returns-3 c = sym (c .before .loop .inv .1 ∙ ap (stringOf _) (plain-end (c .before .before .before .args .text .now) (c .before .loop .i) (c .loop-test .left)))
+
+pub plain-string-spec : {M : Type 1} → statement M
+plain-string-spec =
+    tie.close
+    (tie.spec
+    Inv-loop
+    μ-loop
+    add-i
+    loop-holds
+    shared-slice-read-if1
+    sub-t9
+    add-t10
+    returns
+    plain-part-requires
+    returns-2
+    add-i-2
+    loop-less
+    loop-again
+    returns-3)

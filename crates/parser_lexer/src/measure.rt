@@ -1,0 +1,7 @@
+// A measurement that may fail.
+
+// So many bytes; or what was begun is broken.
+pub enum Measure {
+    Bytes(usize),
+    Broken,
+}

@@ -1,0 +1,2 @@
+-- What the parser's functions promise.
+pub mod Reads
