@@ -162,6 +162,13 @@ static void print_list(struct gimletaspen_answer answer) {
     putchar('\n');
 }
 
+/* The name of a stored card is a span of the store's text. */
+static void print_name(uint32_t card) {
+    const uint32_t *stored = words + GIMLETASPEN_CARDS_AT + GIMLETASPEN_CARD_WORDS * (size_t)card;
+    fwrite(text + stored[GIMLETASPEN_WORD_NAME_OFFSET], 1, stored[GIMLETASPEN_WORD_NAME_LENGTH], stdout);
+}
+
+/* In the order in which the library writes the groups. */
 static void answer_implementers(void) {
     struct gimletaspen_answer answer = gimletaspen_implementers_map(DRAWN, list, GIMLETASPEN_GROUP_WORDS);
     stop_if_refused(answer.number, 0);
@@ -169,8 +176,10 @@ static void answer_implementers(void) {
     const uint32_t *group = list;
     for (size_t i = 0; i < answer.card; i++) {
         size_t size = GROUP_CARDS + (size_t)group[1] + group[2];
+        printf(" : ");
+        print_name(group[0]);
         for (size_t j = 0; j < size; j++)
-            print_word(j ? " " : " : ", group[j]);
+            print_word(" ", group[j]);
         group += size;
     }
     putchar('\n');

@@ -251,7 +251,7 @@ struct gimletaspen_answer gimletaspen_extensions(
     uint32_t *list, size_t list_length);
 
 /* A group for each interface that a type lists: the first card that names it, how many objects and how many interfaces list it, then the cards of these
- * types, so 3 + objects + interfaces words. The list has at least GIMLETASPEN_GROUP_WORDS words. */
+ * types, so 3 + objects + interfaces words. Groups stand in the order of the rows of their first words. The list has at least GIMLETASPEN_GROUP_WORDS words. */
 struct gimletaspen_answer gimletaspen_implementers_map(
     const uint8_t *text, size_t text_length, const uint32_t *words, size_t words_length, const uint32_t *rows, size_t rows_length,
     uint32_t *list, size_t list_length);

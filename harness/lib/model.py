@@ -476,7 +476,7 @@ class Store:
         return list(dict.fromkeys(origin for origin in self.origins(words) if origin != NONE))
 
     def implementers(self, words):
-        """By the interface's name: naming card, object count, interface count, the types' cards in the rows' order."""
+        """By the interface's name, in the order of the naming cards' rows: naming card, object count, interface count, the types' cards in the rows' order."""
         groups = {}
         for (what, card, _), parts in self.catalogue(words)[1].values():
             listed = {}
@@ -572,7 +572,7 @@ def answer(store, words, line):
         return shown([len(listed)] + listed)
     if line == b'implementers':
         groups = store.implementers(words)
-        return ' : '.join([str(len(groups))] + [shown(groups[name]) for name in sorted(groups)])
+        return ' : '.join([str(len(groups))] + [f'{name.decode()} {shown(group)}' for name, group in groups.items()])
     sys.exit(f'no question: {line!r}')
 
 

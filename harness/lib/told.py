@@ -53,7 +53,7 @@ def asked(what, documents, adopt, questions=()):
 
 
 def is_answer(line, question, got, call):
-    """Whether the oracle's line says what the model does; groups in any order."""
+    """Whether the oracle's line says what the model does; groups group by group, as the Rust's map has no order."""
     word = question.split(' ')[0]
     if word == 'field':
         return field_words(line) == tuple(got)
@@ -62,7 +62,9 @@ def is_answer(line, question, got, call):
     if word == 'root':
         return line.encode() == call.split(b' ')[2]
     if word == 'implementers':
-        return sorted(line.split(' : ')[1:]) == sorted(shown(group) for group in groups_in(got[2:])) and int(line.split(' ')[0]) == got[1]
+        # a group begins with the interface's name, which its naming card tells too
+        told = [group.split(' ', 1)[1] for group in line.split(' : ')[1:]]
+        return sorted(told) == sorted(shown(group) for group in groups_in(got[2:])) and int(line.split(' ')[0]) == got[1]
     return line == shown(got[1:])
 
 

@@ -37,8 +37,8 @@ def run(words, folder):
     return done.stdout.decode('utf-8', 'replace')
 
 
-def grouped(text):
-    """Answers with the groups of implementers in one order, as theirs is open."""
+def by_name(text):
+    """Answers with the groups of implementers sorted, each of which begins with its interface's name: the Rust's map has no order."""
     lines = text.split('\n')
     return '\n'.join(' : '.join(line.split(' : ')[:1] + sorted(line.split(' : ')[1:])) for line in lines)
 
@@ -61,10 +61,13 @@ class Comparison:
             pairs.append(('listing', expected, run(self.listing, folder)))
         if not is_refused and os.path.exists(os.path.join(folder, 'questions')):
             answers = run([ORACLE, 'ask', '.'], folder)
-            pairs.append(('oracle and model, answers', answers, grouped(model.answers(folder))))
+            by_model = model.answers(folder)
+            pairs.append(('oracle and model, answers', answers, by_name(by_model)))
             if self.ask:
-                pairs.append(('answers', answers, run(self.ask, folder)))
-        found = [(title, wanted, got) for title, wanted, got in pairs if grouped(wanted) != grouped(got)]
+                got = run(self.ask, folder)
+                pairs.append(('answers, groups by name', answers, by_name(got)))
+                pairs.append(('answers and model, groups in order', by_model, got))
+        found = [(title, wanted, got) for title, wanted, got in pairs if wanted != got]
         return found, is_refused
 
 

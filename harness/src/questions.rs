@@ -116,7 +116,8 @@ fn list(words: Vec<u32>) -> String {
     text
 }
 
-/// The count of groups, then each group behind a colon: naming card, objects, interfaces, the types' cards in catalogue order.
+/// The count of groups, then each group behind a colon: the interface's name, naming card, objects, interfaces, the types' cards in catalogue order. The map
+/// has no order, so the groups are sorted by name.
 fn answer_implementers(schema: &Schema) -> String {
     let map = schema.implementers_map();
     let mut groups: Vec<(&Name, &Implementers)> = map.iter().collect();
@@ -126,7 +127,7 @@ fn answer_implementers(schema: &Schema) -> String {
         let mut places: Vec<usize> = group.iter().map(|ty| schema.types.get_index_of(ty).unwrap()).collect();
         places.sort();
         let (objects, interfaces) = (group.objects.len(), group.interfaces.len());
-        text += &format!(" : {} {objects} {interfaces}", name_card(name.location()));
+        text += &format!(" : {name} {} {objects} {interfaces}", name_card(name.location()));
         for place in places {
             let (_, found) = schema.types.get_index(place).unwrap();
             text += &format!(" {}", item_card(found.location()));

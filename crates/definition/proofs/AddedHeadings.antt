@@ -3,7 +3,7 @@ use mathlib.Core.Path.{_≡_, _∙_, ap}
 use mathlib.Core.List.{List, [], _∷_, _++_, append-assoc, append-nil}
 use mathlib.Core.Option.{some}
 use Prim.Native.Nat.{ℕ, _+_}
-use Rattle.definition.specs.Lists.{Prefix, filter, firsts}
+use Rattle.definition.specs.Lists.{filter, firsts}
 use Rattle.definition.specs.Headings.{Heading, isTypeDefinition, sameNamed, definition, definesType, extensionsOf, definedTypes}
 use Rattle.definition.specs.Catalogue.{Component, alikeComponents, ofExtensions, kept, listOfKind, typeComponents}
 use Rattle.definition.specs.Errors.{readingErrors}
@@ -37,10 +37,14 @@ pub listed-append : (cs ds : List Component) (k : ℕ) → listOfKind (cs ++ ds)
 unfolding listOfKind
 listed-append cs ds k = simp (filter-append, map-append)
 
-pub kept-grow : (hs more : List Heading) (d : Heading) → Prefix (kept (typeComponents hs d)) (kept (typeComponents (hs ++ more) d))
-unfolding kept
-kept-grow hs more d = (_, ap (firsts alikeComponents []) (components-grow hs more d) ∙ firsts-append alikeComponents [] _ _)
+-- What added headings bring to it.
+unfoldable pub added : List Heading → List Heading → Heading → List Component
+added hs more d = firsts alikeComponents (kept (typeComponents hs d)) (ofExtensions (extensionsOf (d .kind + 7) (d .name) more))
+
+pub kept-grow : (hs more : List Heading) (d : Heading) → kept (typeComponents (hs ++ more) d) ≡ kept (typeComponents hs d) ++ added hs more d
+unfolding kept added
+kept-grow hs more d = ap (firsts alikeComponents []) (components-grow hs more d) ∙ firsts-append alikeComponents [] _ _
 
 pub lists-grow : (hs more : List Heading) (d : Heading) (k : ℕ) →
-    Prefix (listOfKind (kept (typeComponents hs d)) k) (listOfKind (kept (typeComponents (hs ++ more) d)) k)
-lists-grow hs more d k = let g = kept-grow hs more d in (listOfKind (g .0) k, rw (g .1) (listed-append _ _ k))
+    listOfKind (kept (typeComponents (hs ++ more) d)) k ≡ listOfKind (kept (typeComponents hs d)) k ++ listOfKind (added hs more d) k
+lists-grow hs more d k = rw (kept-grow hs more d) (listed-append (kept (typeComponents hs d)) (added hs more d) k)

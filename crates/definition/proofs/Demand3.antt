@@ -3,7 +3,7 @@ use mathlib.Core.Path.{_≡_, refl, sym, _∙_, ap}
 use mathlib.Core.List.{List, [], _∷_, _++_}
 use mathlib.Core.Bool.{Bool, true, false}
 use mathlib.Core.Option.{Option, none, some}
-use Prim.Native.Nat.{ℕ, suc, _≤_}
+use Prim.Native.Nat.{ℕ, suc, _≤_, _<_}
 use native.Mathlib.Omega.{arith}
 use lib.Dec.{eqb}
 use lib.ListN.{take, getElem?}
@@ -17,9 +17,9 @@ use Rattle.definition.specs.Outcomes.{buildOf, build}
 use Rattle.definition.specs.Calls.{Call, opening, building, Reply, answered, built, openedAccount, joined, adoptingFrom, ignoringFrom, orRefused, step}
 use Rattle.definition.specs.Calls.{runAccount, accountAfter, Store, store, leaves, stepStore, runStore}
 use Rattle.definition.specs.Runs.{Accepted, Holds, Start, storeLeft, firstStore, firstAccount, storeAfter, Ran, storeAt, BuiltAt, NoneOpenedBetween}
-use Rattle.definition.specs.Growth.{rowsOf, readingErrorsOf}
-use Rattle.definition.specs.Demands.{OpeningHolds, FilingHolds, AdoptingHolds, IgnoringHolds, Agrees, RunsAgree, StoreHoldsAccount, NeverArise, OpensAnew, Growing, BuiltRowsPass}
-use Rattle.definition.specs.Demands.{Bounded, BuildsBounded, Demand3}
+use Rattle.definition.specs.Growth.{rowsOf, readingErrorsOf, Grown, OrderKept}
+use Rattle.definition.specs.Demands.{OpeningHolds, FilingHolds, AdoptingHolds, IgnoringHolds, Agrees, RunsAgree, StoreHoldsAccount, NeverArise}
+use Rattle.definition.specs.Demands.{OpensAnew, Growing, GroupsKeepOrder, BuiltRowsPass, Bounded, BuildsBounded, Demand3}
 use Rattle.definition.proofs.Tests.{zero-one}
 use Rattle.definition.proofs.StoreHolds.{account-held, long-held, sound-held, opening-held, filing-held, adopting-held, ignoring-held}
 use Rattle.definition.proofs.StoreAgrees.{HoldsIn, agree, holds-after, same as account-same, sound as store-sound}
@@ -193,13 +193,21 @@ module _ (b : Start) (calls : List Call) where
           zero-one (cc (d .call))
       go false e = let w = eqb-false k j e in n k u (omega arith) q
 
+  between : (i j : ℕ) → i < j → NoneOpenedBetween (firstStore b) calls i j →
+      (o p : BuildOutcome) → BuiltAt (firstStore b) calls i o → BuiltAt (firstStore b) calls j p →
+      Grown (storeAt (firstStore b) calls i) (storeAt (firstStore b) calls j) o p ×
+      OrderKept (storeAt (firstStore b) calls i) (storeAt (firstStore b) calls j) o p
+  between i j l n o p d e =
+      let x = at i o d in
+      let y = at j p e in
+      grown (storeAt (firstStore b) calls i) (storeAt (firstStore b) calls j) (accountAt (suc i)) (accountAt (suc j)) (holdsAt (suc i)) (holdsAt (suc j))
+      (later i j (omega arith) (none-opened i j p e n)) o p (x .0) (y .0) (x .1) (y .1)
+
 pub growing : Growing
-growing b calls i j l n o p d e =
-    let x = at b calls i o d in
-    let y = at b calls j p e in
-    grown (storeAt (firstStore b) calls i) (storeAt (firstStore b) calls j) (accountAt b calls (suc i)) (accountAt b calls (suc j)) (holdsAt b calls (suc i))
-    (holdsAt b calls (suc j))
-    (later b calls i j (omega arith) (none-opened b calls i j p e n)) o p (x .0) (y .0) (x .1) (y .1)
+growing b calls i j l n o p d e = between b calls i j l n o p d e .0
+
+pub groups-keep-order : GroupsKeepOrder
+groups-keep-order b calls i j l n o p d e = between b calls i j l n o p d e .1
 
 pub built-rows-pass : BuiltRowsPass
 built-rows-pass b calls i j l n o d =

@@ -202,6 +202,22 @@ module _ (P : NamedCard → Type 0) where
   unfolding headings held
   headings-cards ds a = from-cards true 0 ds a
 
+-- The cards of documents that are numbered from n on have numbers from n on, and as many as there are cards.
+abbrev pub From : ℕ → ℕ → NamedCard → Type 0
+From n m p = (n ≤ p .number) × (p .number < n + m)
+
+numbers-from : (n : ℕ) (ps : List NamedCard) → Numbered n ps → All (From n (length ps)) ps
+numbers-from n [] a = tt
+numbers-from n (p ∷ ps) a =
+    let e = a .0 in
+    let r = numbers-from (n + 1) ps (a .1) in
+    ((omega arith, omega arith), all-to (From (n + 1) (length ps)) (From n (length (p ∷ ps))) (λ q b. (omega arith, omega arith)) ps r)
+
+pub headings-from : (b : Bool) (n : ℕ) (ds : List Document) → All (OfCards (From n (cardsHeld ds))) (headingsFrom b n ds)
+headings-from b n ds =
+    let a : All (From n (length (heldFrom n ds))) (heldFrom n ds) = numbers-from n (heldFrom n ds) (held-numbered n ds) in
+    from-cards (From n (cardsHeld ds)) b n ds (rw (from-length n ds) at a)
+
 -- Each card is found by its number.
 abbrev pub Found : List NamedCard → NamedCard → Type 0
 Found ps p = getElem? ps (p .number) ≡ some p

@@ -4,6 +4,7 @@ pub mod Tests
 pub mod Lists
 pub mod All
 pub mod Sums
+pub mod Within
 -- Headings of documents, and cards as they are stored.
 pub mod AddedHeadings
 pub mod DocumentHeadings
@@ -30,6 +31,7 @@ pub mod BuildsGrow
 pub mod RowBound
 pub mod ErrorBound
 pub mod Bounds
+pub mod GroupOrder
 pub mod PartKinds
 pub mod RowOrder
 pub mod RowCards

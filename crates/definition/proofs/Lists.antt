@@ -27,6 +27,15 @@ module _ {ℓ κ} {A : Type ℓ} {B : Type κ} where
   flatMap-append f [] ys = simp flatMap-nil
   flatMap-append f (x ∷ xs) ys = simp (flatMap-cons, flatMap-append f xs ys, append-assoc)
 
+module _ {ℓ κ μ} {A : Type ℓ} {B : Type κ} {C : Type μ} where
+  pub map-flatMap : (f : B → C) (g : A → List B) (xs : List A) → map f (flatMap g xs) ≡ flatMap (λ x. map f (g x)) xs
+  map-flatMap f g [] = simp flatMap-nil
+  map-flatMap f g (x ∷ xs) = simp (flatMap-cons, map-append, map-flatMap f g xs)
+
+  pub flatMap-map : (f : B → List C) (g : A → B) (xs : List A) → flatMap f (map g xs) ≡ flatMap (λ x. f (g x)) xs
+  flatMap-map f g [] = simp flatMap-nil
+  flatMap-map f g (x ∷ xs) = simp (flatMap-cons, flatMap-map f g xs)
+
 module _ {ℓ} {A : Type ℓ} (p : A → Bool) where
   pub filter-nil : filter p [] ≡ []
   unfolding filter

@@ -1,7 +1,7 @@
 -- The premises can be met: over every store that is long enough, `scalar Int` is opened and a list of calls is run, with two drawings, a refused
 -- filing and an opening in it; the theorems of Demand3 are applied to it.
 use mathlib.Core.Path.{_≡_, refl, sym, _∙_, ap}
-use mathlib.Core.List.{List, [], _∷_, _++_}
+use mathlib.Core.List.{List, [], _∷_, _++_, map}
 use mathlib.Core.Bool.{Bool, true, false}
 use mathlib.Core.Option.{Option, none, some}
 use Prim.Native.Nat.{ℕ, _≤_}
@@ -11,21 +11,23 @@ use lib.ListN.{length, replicate, take, getElem?}
 use borrow.Author.Tests.{le-ltb, eqb-true, eqb-false}
 use Rattle.definition.specs.declared.FieldFound.the-variants.{Explicit}
 use Rattle.definition.specs.declared.FieldLookup.the-variants.{Found}
+use Rattle.definition.specs.Lists.{here, there, done, skip, keep}
 use Rattle.definition.specs.Names.{bytes}
 use Rattle.definition.specs.Answers.{answer}
 use Rattle.definition.specs.Headings.{Heading}
 use Rattle.definition.specs.Account.{Account}
 use Rattle.definition.specs.Refusals.{openingRefusal, textCapacity, rowsCapacity, errorsCapacity}
 use Rattle.definition.specs.Store.{tooShort, wordsCapacity}
+use Rattle.definition.specs.Lookups.{Group, groups}
 use Rattle.definition.specs.Outcomes.{BuildOutcome, open-store, accepted, buildOf, type-field, check-rows}
 use Rattle.definition.specs.Calls.{Call, opening, filing, adopting, building, Reply, answered, built, openedAccount as openedWith, step, runAccount}
 use Rattle.definition.specs.Calls.{accountAfter, runStore}
 use Rattle.definition.specs.Runs.{Accepted, Start, firstStore, storeAfter, storeAt, BuiltAt, NoneOpenedBetween}
-use Rattle.definition.specs.Growth.{Brings, rowsOf, documentsIn, Grown}
+use Rattle.definition.specs.Growth.{Brings, listIn, listOf, Names, NamesBefore, ImplementedBy, rowsOf, documentsIn, cardsIn, builtRows, Grown}
 use Rattle.definition.specs.Unfolded.{unfolded}
 use Rattle.definition.specs.Shown.{Source, source, scalarInt}
 use Rattle.definition.proofs.Tests.{zero-one}
-use Rattle.definition.proofs.Demand3.{agrees, opens-anew, growing, built-rows-pass}
+use Rattle.definition.proofs.Demand3.{agrees, opens-anew, growing, groups-keep-order, built-rows-pass}
 
 abbrev typeA : Source
 typeA = source "type A{n:Int}" (6 ∷ 0 ∷ 13 ∷ 5 ∷ 1 ∷ 22 ∷ 7 ∷ 5 ∷ 7 ∷ 1 ∷ [])
@@ -151,3 +153,87 @@ n-again : type-field (storeAt (firstStore zeros) calls 5 .text) (storeAt (firstS
     Found (Explicit 2)
 n-again =
     grows (replicate textCapacity 0) (replicate wordsCapacity 0) (omega arith) (omega arith) .types (bytes "A") headingA A-brought .field (bytes "n") 2 n-found
+
+-- ---- The order of groups, over the same store: adopting, `A` and `B` are types of extensions, until a definition brings `B`.
+
+abbrev adopters : Source
+adopters =
+    source "type Q implements K{a:Int} extend type A implements I{a:Int} extend type B implements J{a:Int}"
+    (6 ∷ 0 ∷ 26 ∷ 5 ∷ 1 ∷ 21 ∷ 18 ∷ 1 ∷ 18 ∷ 1 ∷ 22 ∷ 20 ∷ 5 ∷ 20 ∷ 1 ∷
+    13 ∷ 27 ∷ 33 ∷ 39 ∷ 1 ∷ 21 ∷ 52 ∷ 1 ∷ 52 ∷ 1 ∷ 22 ∷ 54 ∷ 5 ∷ 54 ∷ 1 ∷
+    13 ∷ 61 ∷ 33 ∷ 73 ∷ 1 ∷ 21 ∷ 86 ∷ 1 ∷ 86 ∷ 1 ∷ 22 ∷ 88 ∷ 5 ∷ 88 ∷ 1 ∷ [])
+
+abbrev typeB : Source
+typeB = source "type B{b:Int}" (6 ∷ 0 ∷ 13 ∷ 5 ∷ 1 ∷ 22 ∷ 7 ∷ 5 ∷ 7 ∷ 1 ∷ [])
+
+abbrev adoptions : List Call
+adoptions = adopting ∷ filing (adopters .text) (adopters .words) ∷ building rows errors ∷ filing (typeB .text) (typeB .words) ∷ building rows errors ∷ []
+
+opened : Account
+opened = openedWith (scalarInt .text) (scalarInt .words)
+
+undefined : BuildOutcome
+undefined = buildOf (accountAfter opened (take 2 adoptions)) rows errors
+
+defined : BuildOutcome
+defined = buildOf (accountAfter opened (take 4 adoptions)) rows errors
+
+adoption-replies : runStore (firstStore zeros) adoptions ≡
+    answered (answer 0 0) ∷ answered (answer 0 0) ∷ built undefined ∷ answered (answer 0 0) ∷ built defined ∷ []
+unfolding unfolded start opened undefined defined
+adoption-replies = agrees zeros adoptions ∙ refl
+
+undefined-built : BuiltAt (firstStore zeros) adoptions 2 undefined
+unfolding unfolded undefined opened
+undefined-built = record { rows = rows; errors = errors; call = refl; reply = ap (λ l. getElem? l 2) adoption-replies; unrefused = refl }
+
+defined-built : BuiltAt (firstStore zeros) adoptions 4 defined
+unfolding unfolded defined opened
+defined-built = record { rows = rows; errors = errors; call = refl; reply = ap (λ l. getElem? l 4) adoption-replies; unrefused = refl }
+
+abbrev groupsAt : ℕ → BuildOutcome → List Group
+groupsAt i o = groups (cardsIn (storeAt (firstStore zeros) adoptions i)) (builtRows o)
+
+-- Cards 2, 5 and 8 name `K`, `I` and `J`. When `B` is brought, the groups of 5 and 8 change places,
+named-first : map (λ g. g .naming) (groupsAt 2 undefined) ≡ 2 ∷ 5 ∷ 8 ∷ []
+unfolding unfolded storeAfter start undefined opened rowsOf
+named-first = refl
+
+named-then : map (λ g. g .naming) (groupsAt 4 defined) ≡ 2 ∷ 8 ∷ 5 ∷ []
+unfolding unfolded storeAfter start defined opened rowsOf
+named-then = refl
+
+-- and the group of 2, which stood before that of 8, stands before it again: 2 is a 21 of `Q`, which a definition had brought.
+filing-opens-none : (text words lent cards : List ℕ) → _≡_ {A = Option Call} (some (filing text words)) (some (opening lent cards)) → ⊥
+filing-opens-none text words lent cards e = zero-one cc
+
+none-opened-between : NoneOpenedBetween (firstStore zeros) adoptions 2 4
+none-opened-between k low high o =
+    let w : k ≡ 3 = omega arith in
+    filing-opens-none (typeB .text) (typeB .words) (o .text) (o .cards) (sym (ap (getElem? adoptions) w) ∙ o .call)
+
+abbrev headingQ : Heading
+headingQ = record {
+  number = 1;
+  kind = 6;
+  name = bytes "Q";
+  builtIn = false;
+  ignored = false;
+  parts = record { number = 2; kind = 21; name = bytes "K" } ∷ record { number = 3; kind = 22; name = bytes "a" } ∷ [];
+}
+
+Q-brought : Brings (documentsIn (storeAt (firstStore zeros) adoptions 2)) (bytes "Q") headingQ
+unfolding unfolded storeAfter start
+Q-brought = refl
+
+Q-implements : ImplementedBy (cardsIn (storeAt (firstStore zeros) adoptions 2)) (builtRows undefined) (bytes "Q") 2
+unfolding unfolded storeAfter start undefined opened rowsOf listOf listIn
+Q-implements = here
+
+K-before-J : NamesBefore (groupsAt 4 defined) 2 8
+K-before-J =
+    let before : NamesBefore (groupsAt 2 undefined) 2 8 = rw named-first (keep (skip (keep done))) in
+    let two : Names (groupsAt 4 defined) 2 = rw named-then here in
+    let eight : Names (groupsAt 4 defined) 8 = rw named-then (there here) in
+    groups-keep-order zeros adoptions 2 4 (omega arith) none-opened-between undefined defined undefined-built defined-built (bytes "Q") headingQ Q-brought 2 8
+    Q-implements before two eight

@@ -16,13 +16,15 @@ use Rattle.definition.specs.Catalogue.{typeRow}
 use Rattle.definition.specs.Merge.{merge}
 use Rattle.definition.specs.Account.{Account}
 use Rattle.definition.specs.LentRows.{held, lentRows, rowsRefusal}
-use Rattle.definition.specs.Lookups.{isRowOf, fieldNamed, isSubtype}
+use Rattle.definition.specs.Lookups.{isRowOf, fieldNamed, isSubtype, groups}
 use Rattle.definition.specs.Outcomes.{BuildOutcome, wordsOfError, checkOf, check-rows, fieldOfType, type-field, subtypeAnswer, is-subtype}
 use Rattle.definition.specs.Calls.{Store}
-use Rattle.definition.specs.Growth.{Brings, cardOf, placeOf, listOf, rowsOf, readingErrorsOf, documentsIn, TypeGrown, Grown}
+use Rattle.definition.specs.Growth.{Brings, cardOf, placeOf, listOf, Names, NamesBefore, ImplementedBy, rowsOf, readingErrorsOf, documentsIn, TypeGrown}
+use Rattle.definition.specs.Growth.{Grown, OrderKept}
 use Rattle.definition.proofs.Lists.{flatMap-append}
 use Rattle.definition.proofs.BuiltWords.{rows-back, rowWordsOf, readingWordsOf}
 use Rattle.definition.proofs.BuildsGrow.{errors-begin, card-found, brings-stays, same-place, lists-begin, same-field, same-subtype, same-member}
+use Rattle.definition.proofs.GroupOrder.{order-stays}
 use Rattle.definition.proofs.RowsPass.{built-unrefused}
 use Rattle.definition.proofs.RowsStay.{rows-stay}
 use Rattle.definition.proofs.Admitted.{Admitted}
@@ -71,6 +73,12 @@ module _ (a b : Account) (s : Admitted (a .documents)) (t : Admitted (b .documen
       (flatMap wordsOfError (g .0), ap (flatMap wordsOfError) (g .1) ∙ flatMap-append wordsOfError (merge (a .adopt) (a .documents) .readingErrors) (g .0))
 
   module _ (n : List ℕ) (d : Heading) (h : Brings (a .documents) n d) where
+    order-grows : (i j : ℕ) → ImplementedBy (held (a .documents)) (lentRows (rowWordsOf a)) n i →
+        NamesBefore (groups (held (a .documents)) (lentRows (rowWordsOf a))) i j →
+        Names (groups (held (b .documents)) (lentRows (rowWordsOf b))) i → Names (groups (held (b .documents)) (lentRows (rowWordsOf b))) j →
+        NamesBefore (groups (held (b .documents)) (lentRows (rowWordsOf b))) i j
+    order-grows i j = rw (rows-read a, rows-read b, l .1) (order-stays (a .adopt) (b .adopt) (a .documents) (l .0) (s .cards) n d h i j)
+
     later : Brings (b .documents) n d
     later = rw (l .1) (brings-stays (a .documents) (l .0) n d h)
 
@@ -150,5 +158,10 @@ module _ (s t : Store) (a b : Account) (hs : HoldsIn s a) (ht : HoldsIn t b) (l 
             ∙ rw rp (member-grows a b u v l n d g z m (rw ro at (sym (subtype-store s a hs (rowsOf o) n m) ∙ y)));
       }
 
-  pub grown : Grown s t o p
-  grown = record { types = kept; errors = rw (eo, ep) (errors-grow a b (hs .admitted) (ht .admitted) l) }
+  order-kept : OrderKept s t o p
+  order-kept n d h i j =
+      rw (documents-are s a hs, documents-are t b ht, ro, rp)
+      (order-grows a b (hs .admitted) (ht .admitted) l n d (rw (documents-are s a hs) at h) i j)
+
+  pub grown : Grown s t o p × OrderKept s t o p
+  grown = (record { types = kept; errors = rw (eo, ep) (errors-grow a b (hs .admitted) (ht .admitted) l) }, order-kept)

@@ -8,7 +8,7 @@ use mathlib.Core.Option.{Option, none, some}
 use Prim.Native.Nat.{ℕ, _+_}
 use lib.Dec.{leb}
 use lib.ListN.{length, length-map}
-use Rattle.definition.specs.Lists.{All, Prefix, choose, found, filter, any, find, takeUntil, firsts}
+use Rattle.definition.specs.Lists.{All, Prefix, choose, found, filter, any, find, takeUntil, flatMap, firsts}
 use Rattle.definition.specs.Names.{sameName, bytes}
 use Rattle.definition.specs.Answers.{absent}
 use Rattle.definition.specs.Headings.{Heading, NamedCard, isTypeDefinition, isNamed, sameNamed, extensionsOf, isOf, definition, definesType, definedTypes}
@@ -26,38 +26,64 @@ use Rattle.definition.proofs.Tests.{and-true}
 use Rattle.definition.proofs.Lists.{first-append-some, first-map-some, first-both, any-both, any-append, before-append, before-both, before-map}
 use Rattle.definition.proofs.All.{all-append, all-left, all-filter, all-firsts, all-map, all-flatMap, all-every, all-to, all-with, first-cong, any-cong}
 use Rattle.definition.proofs.All.{before-cong, all-found}
-use Rattle.definition.proofs.AddedHeadings.{types-grow, lists-grow, definition-stays}
+use Rattle.definition.proofs.AddedHeadings.{types-grow, added, lists-grow, definition-stays}
 use Rattle.definition.proofs.DocumentHeadings.{Named}
-use Rattle.definition.proofs.BuiltRows.{partRows, list-under, typeBlock, adoptedBlock, adoptees, built-blocks, row-named}
+use Rattle.definition.proofs.BuiltRows.{partRows, list-under, adoptedParts, typeBlock, adoptedBlock, adoptees, built-blocks, row-named}
 use Rattle.definition.proofs.BuiltTypes.{among-types, named-types, built-types, in-types}
 
 -- What holds of the numbers of all parts holds of the cards under a type.
 module _ (P : ℕ → Type 0) where
-  abbrev OfParts : Heading → Type 0
+  abbrev pub OfParts : Heading → Type 0
   OfParts h = All (λ p. P (p .number)) (h .parts)
 
   of-components : (o : ℕ) (h : Heading) → OfParts h → All (λ c. P (c .part .number)) (components o h)
   unfolding components component
   of-components o h a = all-map (λ c. P (c .part .number)) (component o) (h .parts) a
 
-  of-type : (hs : List Heading) (d : Heading) → All OfParts hs → OfParts d → All (λ c. P (c .part .number)) (kept (typeComponents hs d))
-  unfolding kept typeComponents ofExtensions extensionsOf ownComponents
-  of-type hs d a e =
-      all-firsts (λ c. P (c .part .number)) alikeComponents [] _
-      (all-append (λ c. P (c .part .number)) (components absent d) _ (of-components absent d e)
-      (all-flatMap (λ c. P (c .part .number)) ownComponents (filter (isOf (d .kind + 7) (d .name)) hs)
-      (all-to OfParts (λ h. All (λ c. P (c .part .number)) (ownComponents h)) (λ h b. of-components _ h b) (filter (isOf (d .kind + 7) (d .name)) hs)
-      (all-filter OfParts (isOf (d .kind + 7) (d .name)) hs a))))
+  of-extensions : (k : ℕ) (n : List ℕ) (hs : List Heading) → All OfParts hs → All (λ c. P (c .part .number)) (ofExtensions (extensionsOf k n hs))
+  unfolding ofExtensions extensionsOf ownComponents
+  of-extensions k n hs a =
+      all-flatMap (λ c. P (c .part .number)) ownComponents (filter (isOf k n) hs)
+      (all-to OfParts (λ h. All (λ c. P (c .part .number)) (ownComponents h)) (λ h b. of-components _ h b) (filter (isOf k n) hs)
+      (all-filter OfParts (isOf k n) hs a))
 
   of-listed : (cs : List Component) (k : ℕ) → All (λ c. P (c .part .number)) cs → All (λ r. P (r .card)) (listOfKind cs k)
   unfolding listOfKind componentRow
   of-listed cs k a = all-map (λ r. P (r .card)) componentRow (filter (isComponentOf k) cs) (all-filter (λ c. P (c .part .number)) (isComponentOf k) cs a)
 
+  of-block : (cs : List Component) → All (λ c. P (c .part .number)) cs → All (λ r. P (r .card)) (flatMap (listOfKind (kept cs)) underType)
+  unfolding kept
+  of-block cs a =
+      all-flatMap (λ r. P (r .card)) (listOfKind (kept cs)) underType
+      (all-every (λ k. All (λ r. P (r .card)) (listOfKind (kept cs) k))
+      (λ k. of-listed (kept cs) k (all-firsts (λ c. P (c .part .number)) alikeComponents [] cs a)) underType)
+
   pub of-rows : (hs : List Heading) (d : Heading) → All OfParts hs → OfParts d → All (λ r. P (r .card)) (partRows hs d)
-  unfolding partRows
+  unfolding partRows typeComponents
   of-rows hs d a e =
-      all-flatMap (λ r. P (r .card)) (listOfKind (kept (typeComponents hs d))) underType
-      (all-every (λ k. All (λ r. P (r .card)) (listOfKind (kept (typeComponents hs d)) k)) (λ k. of-listed _ k (of-type hs d a e)) underType)
+      of-block (typeComponents hs d) (all-append (λ c. P (c .part .number)) (components absent d) (ofExtensions (extensionsOf (d .kind + 7) (d .name) hs))
+      (of-components absent d e) (of-extensions (d .kind + 7) (d .name) hs a))
+
+  pub of-adopted : (hs : List Heading) (g : Heading) → All OfParts hs → All (λ r. P (r .card)) (adoptedParts hs g)
+  unfolding adoptedParts
+  of-adopted hs g a = of-block (ofExtensions (extensionsOf (g .kind) (g .name) hs)) (of-extensions (g .kind) (g .name) hs a)
+
+-- Each list of a type begins with what it was, and then holds cards of the added headings.
+pub parts-grow : (P : ℕ → Type 0) (hs more : List Heading) (d : Heading) (k : ℕ) → All (OfParts P) more →
+    (new : List Row) × (filter (isRowOf k) (partRows (hs ++ more) d) ≡ filter (isRowOf k) (partRows hs d) ++ new) × All (λ r. P (r .card)) new
+unfolding added
+parts-grow P hs more d k a = go (list-under k)
+  where
+    go : ((hs : List Heading) (d : Heading) → filter (isRowOf k) (partRows hs d) ≡ []) ⊎
+        ((hs : List Heading) (d : Heading) → filter (isRowOf k) (partRows hs d) ≡ listOfKind (kept (typeComponents hs d)) k) →
+        (new : List Row) × (filter (isRowOf k) (partRows (hs ++ more) d) ≡ filter (isRowOf k) (partRows hs d) ++ new) × All (λ r. P (r .card)) new
+    go (inl e) = ([], simp e, tt)
+    go (inr e) = (
+      listOfKind (added hs more d) k,
+      simp e (lists-grow hs more d k),
+      of-listed P (added hs more d) k (all-firsts (λ c. P (c .part .number)) alikeComponents (kept (typeComponents hs d))
+          (ofExtensions (extensionsOf (d .kind + 7) (d .name) more)) (of-extensions P (d .kind + 7) (d .name) more a)),
+    )
 
 -- One drawing: a type that a definition brings is found with its block, at its place.
 module _ (ps : List NamedCard) (n : List ℕ) (a : Bool) (hs : List Heading) (named : All (Named ps) hs) (d : Heading) (h : definition n hs ≡ some d) where
@@ -130,19 +156,14 @@ module _ (ps ps′ : List NamedCard) (a b : Bool) (hs more : List Heading) (name
         ∙ before-append (isNamed n) (definedTypes hs) (firsts sameNamed (definedTypes hs) (filter isTypeDefinition more)) d (among-types ps n a hs named ∙ h)))
         ∙ sym (place-found ps′ n b (hs ++ more) named′ d later))
 
-    -- Each of its lists begins with what it was.
-    parts-grow : (k : ℕ) → Prefix (filter (isRowOf k) (partRows hs d)) (filter (isRowOf k) (partRows (hs ++ more) d))
-    parts-grow k = go (list-under k)
-      where
-        go : ((hs : List Heading) (d : Heading) → filter (isRowOf k) (partRows hs d) ≡ []) ⊎
-            ((hs : List Heading) (d : Heading) → filter (isRowOf k) (partRows hs d) ≡ listOfKind (kept (typeComponents hs d)) k) →
-            Prefix (filter (isRowOf k) (partRows hs d)) (filter (isRowOf k) (partRows (hs ++ more) d))
-        go (inl e) = ([], simp e)
-        go (inr e) = let g = lists-grow hs more d k in (g .0, simp e (g .1))
+    lists-begin : (k : ℕ) → Prefix (filter (isRowOf k) (partRows hs d)) (filter (isRowOf k) (partRows (hs ++ more) d))
+    lists-begin k =
+        let g = parts-grow (λ i. Unit {0}) hs more d k (all-every (OfParts (λ i. Unit {0})) (λ h. all-every (λ p. Unit {0}) (λ p. tt) (h .parts)) more) in
+        (g .0, g .1)
 
     pub lists-stay : (k : ℕ) → Prefix (listOf ps (rows a hs) n k) (listOf ps′ (rows b (hs ++ more)) n k)
     lists-stay k =
-        let g = parts-grow k in
+        let g = lists-begin k in
         (g .0, list-found ps′ n b (hs ++ more) named′ d later k ∙ (g .1 ∙ ap (λ l. l ++ g .0) (sym (list-found ps n a hs named d h k))))
 
     -- The two stores give the parts under it the same names.
@@ -167,7 +188,7 @@ module _ (ps ps′ : List NamedCard) (a b : Bool) (hs more : List Heading) (name
         find (isPartNamed ps k m) (partRows hs d) ≡ some r → find (isPartNamed ps′ k m) (partRows (hs ++ more) d) ≡ some r
     unfolding isPartNamed
     first-stays k m r e =
-        let g = parts-grow k in
+        let g = lists-begin k in
         first-both (isRowOf k) (isRowNamed ps′ m) (partRows (hs ++ more) d)
         ∙ (ap (find (isRowNamed ps′ m)) (g .1)
         ∙ first-append-some (isRowNamed ps′ m) (filter (isRowOf k) (partRows hs d)) (g .0) r
@@ -177,7 +198,7 @@ module _ (ps ps′ : List NamedCard) (a b : Bool) (hs more : List Heading) (name
     any-stays : (k : ℕ) (m : List ℕ) → lists ps k m (typeBlock hs d) ≡ true → lists ps′ k m (typeBlock (hs ++ more) d) ≡ true
     unfolding lists isPartNamed typeBlock
     any-stays k m e =
-        let g = parts-grow k in
+        let g = lists-begin k in
         let f : any (isRowNamed ps′ m) (filter (isRowOf k) (partRows hs d)) ≡ true =
         sym (any-cong (isRowNamed ps m) (isRowNamed ps′ m) (filter (isRowOf k) (partRows hs d)) (alike-named k m))
         ∙ (sym (any-both (isRowOf k) (isRowNamed ps m) (partRows hs d)) ∙ e) in

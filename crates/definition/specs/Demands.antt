@@ -21,7 +21,7 @@ use Rattle.definition.specs.Calls.{Call, Reply, opening, answered, opene
 use Rattle.definition.specs.Calls.{runStore, accountAfter, effect, lentTo, onlyReads}
 use Rattle.definition.specs.Runs.{Accepted, Holds, Start, storeLeft, firstStore, firstAccount, storeAfter, Ran, storeAt, BuiltAt, NoneOpenedBetween, refusal}
 use Rattle.definition.specs.Runs.{leftIn}
-use Rattle.definition.specs.Growth.{rowsOf, builtRows, Grown}
+use Rattle.definition.specs.Growth.{rowsOf, builtRows, Grown, OrderKept}
 
 -- ==== The store holds the account. All of it holds of any text and words, not of runs alone.
 
@@ -133,6 +133,13 @@ Growing =
     (b : Start) (calls : List Call) (i j : ℕ) → i < j → NoneOpenedBetween (firstStore b) calls i j →
     (o p : BuildOutcome) → BuiltAt (firstStore b) calls i o → BuiltAt (firstStore b) calls j p →
     Grown (storeAt (firstStore b) calls i) (storeAt (firstStore b) calls j) o p
+
+-- Groups keep their order, where the first card is a 21 of a type that a definition had brought (2.3).
+abbrev pub GroupsKeepOrder : Type 0
+GroupsKeepOrder =
+    (b : Start) (calls : List Call) (i j : ℕ) → i < j → NoneOpenedBetween (firstStore b) calls i j →
+    (o p : BuildOutcome) → BuiltAt (firstStore b) calls i o → BuiltAt (firstStore b) calls j p →
+    OrderKept (storeAt (firstStore b) calls i) (storeAt (firstStore b) calls j) o p
 
 -- Drawn rows are never refused with 26: neither over the store as the drawing left it, nor over any store of the run after it, with no accepted
 -- opening between.

@@ -282,3 +282,14 @@ implementers-listed : asked school (λ a rows. implementersOf a rows (replicate 
     some (listedIn (replicate groupsCapacity 0) 1 (3 ∷ 2 ∷ 0 ∷ 2 ∷ 5 ∷ []))
 unfolding unfolded
 implementers-listed = refl
+
+-- An early extension's 21 has a lower number than its definition's, and a later row: the group that card 5 names, `I`, stands before that of card 2, `J`.
+abbrev early : Source
+early =
+    source "extend type A implements J{a:Int} type A implements I{b:Int}"
+    (13 ∷ 0 ∷ 33 ∷ 12 ∷ 1 ∷ 21 ∷ 25 ∷ 1 ∷ 25 ∷ 1 ∷ 22 ∷ 27 ∷ 5 ∷ 27 ∷ 1 ∷ 6 ∷ 34 ∷ 26 ∷ 39 ∷ 1 ∷ 21 ∷ 52 ∷ 1 ∷ 52 ∷ 1 ∷ 22 ∷ 54 ∷ 5 ∷ 54 ∷ 1 ∷ [])
+
+implementers-in-row-order : asked (collected false false scalarInt (early ∷ [])) (λ a rows. implementersOf a rows (replicate groupsCapacity 0)) ≡
+    some (listedIn (replicate groupsCapacity 0) 2 (5 ∷ 1 ∷ 0 ∷ 4 ∷ 2 ∷ 1 ∷ 0 ∷ 4 ∷ []))
+unfolding unfolded
+implementers-in-row-order = refl

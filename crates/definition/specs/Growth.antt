@@ -1,18 +1,18 @@
 -- 01, "The plain account of a run": in what words an earlier drawing is compared with a later one.
 use mathlib.Core.Path.{_≡_}
-use mathlib.Core.List.{List, []}
+use mathlib.Core.List.{List, [], _∷_, map}
 use mathlib.Core.Option.{Option, none, some}
 use Prim.Native.Nat.{ℕ, _*_}
 use lib.ListN.{length, take}
 use Rattle.definition.specs.declared.FieldFound.the-variants.{Explicit}
 use Rattle.definition.specs.declared.FieldLookup.the-variants.{Found}
 use Rattle.definition.specs.declared.SubtypeLookup.the-variants.{Subtype}
-use Rattle.definition.specs.Lists.{Prefix, found, filter, takeUntil}
+use Rattle.definition.specs.Lists.{Prefix, Among, Within, found, filter, takeUntil}
 use Rattle.definition.specs.Headings.{Document, NamedCard, Heading, headings, definition}
 use Rattle.definition.specs.Catalogue.{Row}
 use Rattle.definition.specs.Store.{accountIn}
 use Rattle.definition.specs.LentRows.{held, lentRows, isTypeRow, isTypeRowNamed}
-use Rattle.definition.specs.Lookups.{Block, typeNamed, isRowOf}
+use Rattle.definition.specs.Lookups.{Block, typeNamed, isRowOf, Group, groups}
 use Rattle.definition.specs.Outcomes.{BuildOutcome, type-field, is-subtype}
 use Rattle.definition.specs.Calls.{Store}
 
@@ -36,6 +36,20 @@ listIn k b = filter (isRowOf k) (b .parts)
 
 unfoldable pub listOf : List NamedCard → List Row → List ℕ → ℕ → List Row
 listOf cs rs n k = found (typeNamed cs rs n) (listIn k) []
+
+-- ---- Groups, as `implementers_map` lists them.
+
+-- Card c names one of them.
+abbrev pub Names : List Group → ℕ → Type 0
+Names gs c = Among c (map (λ g. g .naming) gs)
+
+-- The group that card c names stands before the one that card d names.
+abbrev pub NamesBefore : List Group → ℕ → ℕ → Type 0
+NamesBefore gs c d = Within (c ∷ d ∷ []) (map (λ g. g .naming) gs)
+
+-- Card c is a 21 of the type n.
+abbrev pub ImplementedBy : List NamedCard → List Row → List ℕ → ℕ → Type 0
+ImplementedBy cs rs n c = Among c (map (λ r. r .card) (listOf cs rs n 21))
 
 -- ---- A drawing.
 
@@ -79,3 +93,13 @@ pub record TypeGrown (s t : Store) (o p : BuildOutcome) (n : List ℕ) (d : Head
 pub record Grown (s t : Store) (o p : BuildOutcome) : Type 0 where
   pub types : (n : List ℕ) (d : Heading) → Brings (documentsIn s) n d → TypeGrown s t o p n d
   pub errors : Prefix (readingErrorsOf o) (readingErrorsOf p)
+
+-- The groups of two naming cards, the first a 21 of a type that a definition had brought at the earlier, keep their order, if both cards still name.
+-- Such a type keeps its place, and all that stood after it stands after it again. Of two adopted types the second may change places with the first: it
+-- does when a definition brings it (proofs/RunExamples.antt). And a card may lose its group to one that names the interface in a row before.
+abbrev pub OrderKept : Store → Store → BuildOutcome → BuildOutcome → Type 0
+OrderKept s t o p =
+    (n : List ℕ) (e : Heading) → Brings (documentsIn s) n e → (c d : ℕ) → ImplementedBy (cardsIn s) (builtRows o) n c →
+    NamesBefore (groups (cardsIn s) (builtRows o)) c d →
+    Names (groups (cardsIn t) (builtRows p)) c → Names (groups (cardsIn t) (builtRows p)) d →
+    NamesBefore (groups (cardsIn t) (builtRows p)) c d

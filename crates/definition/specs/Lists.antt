@@ -70,6 +70,12 @@ pub data Among {A : Type 0} (x : A) : List A → Type 0 where
   here : {xs : List A} → Among x (x ∷ xs)
   there : {y : A} {xs : List A} → Among x xs → Among x (y ∷ xs)
 
+-- xs is ys with some elements left out, the others in their order.
+pub data Within {A : Type 0} : List A → List A → Type 0 where
+  done : Within [] []
+  skip : {y : A} {xs ys : List A} → Within xs ys → Within xs (y ∷ ys)
+  keep : {x : A} {xs ys : List A} → Within xs ys → Within (x ∷ xs) (x ∷ ys)
+
 -- P holds of every element.
 abbrev pub All {ℓ} : {A : Type ℓ} → (A → Type 0) → List A → Type 0
 All P [] = Unit {0}

@@ -185,7 +185,7 @@ groupOf cs is i =
       cards = map typeCard same;
     }
 
--- The groups, in the order of their naming cards' rows.
+-- "Groups now stand in the order of their naming cards' rows." (2.3): of the rows, not of the cards' numbers.
 unfoldable pub groups : List NamedCard → List Row → List Group
 groups cs rs =
     let is = allImplementing cs rs in

@@ -4,7 +4,7 @@
 -- rows to be read, 23 of filing alone." 2.1 puts 27 and 28 straight after 4 for a card. A refused call changes
 -- nothing.
 use mathlib.Core.Path.{_≡_}
-use mathlib.Core.List.{List, [], _∷_, _++_, List·Permᴰ}
+use mathlib.Core.List.{List, [], _∷_, _++_}
 use mathlib.Core.Bool.{Bool, true, false, _||_}
 use mathlib.Core.Option.{Option, none, some}
 use Prim.Native.Nat.{ℕ, _+_}
@@ -274,18 +274,9 @@ extensions text words rows lent =
     let done = extensionsIn (accountIn text words) rows lent in
     choose (eqb n 0) done (unlisted lent n)
 
--- `implementers_map`, with the groups in the order of their naming cards' rows.
+-- `implementers_map`: "Groups now stand in the order of their naming cards' rows." (2.3)
 unfoldable pub implementers-map : List ℕ → List ℕ → List ℕ → List ℕ → ListOutcome
 implementers-map text words rows lent =
     let n = storeRefusal text words in
     let done = implementersOf (accountIn text words) rows lent in
     choose (eqb n 0) done (unlisted lent n)
-
--- 01 leaves the order of groups open: what `implementers_map` may leave is the defined groups, each exactly once, in any order.
-abbrev pub ImplementersLeft : List ℕ → List ℕ → List ℕ → List ℕ → Answer → List ℕ → Type 0
-ImplementersLeft text words rows lent a list =
-    let asked = implementers-map text words rows lent .answer in
-    (order : List Group) ×
-    List·Permᴰ order (groups (held (accountIn text words .documents)) (lentRows rows)) ×
-    (a ≡ asked) ×
-    (list ≡ choose (eqb (asked .number) 0) (written lent 0 (flatMap groupWords order)) lent)
