@@ -13,9 +13,8 @@ use Rattle.definition.specs.Cards.{isRoot}
 use Rattle.definition.specs.Headings.{Heading, isKind, isNamed, isOf, sameNamed, directives, directiveNamed, standing, numberOf}
 use Rattle.definition.specs.Catalogue.{Row, row, directiveRow, directiveRowAt, directiveRows}
 use Rattle.definition.specs.Store.{cardsUsed}
-use Rattle.definition.proofs.Lists.{filter-yes, filter-no}
+use Rattle.definition.proofs.Lists.{filter-yes, filter-no, sameName-eq, sameName-refl}
 use Rattle.definition.proofs.All.{all-filter, all-firsts, all-every, all-to}
-use Rattle.name.proofs.Laws.{same-equal, same-self}
 use Rattle.store_reader.specs.Stored.{cardName, builtInAt}
 use Rattle.from_ast_index.specs.Index.{headingNumber}
 use Rattle.from_ast_index.proofs.Lists.{chosen-both, filter-map, filter-both, firsts-map}
@@ -53,7 +52,7 @@ all-members : (gs hs : List Heading) → All (λ h. any (isNamed (h .name)) (gs 
 unfolding isNamed
 all-members gs [] = tt
 all-members gs (h ∷ hs) = (
-  any-inside (isNamed (h .name)) gs h hs (same-self (h .name)),
+  any-inside (isNamed (h .name)) gs h hs (sameName-refl (h .name)),
   rw (← append-assoc gs (h ∷ []) hs) (all-members (gs ++ (h ∷ [])) hs),
 )
 
@@ -162,7 +161,7 @@ module _ (text words : List ℕ) (hs : List Heading) (all : All (At text words) 
         one = s .one;
         is = s .is;
         stored = s .holds .0 .0;
-        named = at-name text words (s .one) (s .holds .0) ∙ sym (same-equal (h .name) (s .one .name) (s .holds .1));
+        named = at-name text words (s .one) (s .holds .0) ∙ sym (sameName-eq (h .name) (s .one .name) (s .holds .1));
       }
 
   all-directives : All DirectiveAt (directives hs)

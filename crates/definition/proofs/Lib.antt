@@ -1,6 +1,7 @@
 -- The laws of the definitions and, over them, demand 3. Each file comes after those that it leans on.
 -- Lists.
 pub mod Tests
+pub mod NamesInOrder
 pub mod Lists
 pub mod All
 pub mod Sums

@@ -7,7 +7,10 @@ use Prim.Native.Nat.{ℕ}
 use lib.Dec.{eqb}
 use borrow.Author.Tests.{eqb-true, eq-eqb}
 use Rattle.definition.specs.Lists.{Prefix, filter, any, find, takeUntil, flatMap, firsts, repeats}
-use Rattle.definition.specs.Names.{sameName}
+use Rattle.definition.specs.declared.NameOrder.{NameOrder}
+use Rattle.definition.specs.declared.NameOrder.the-variants.{Before, Equal, After}
+use Rattle.definition.specs.Names.{compareNames, isEqual, sameName}
+use Rattle.definition.proofs.NamesInOrder.{equal-names, equal-itself}
 use Rattle.definition.proofs.Tests.{zero-one}
 
 module _ {ℓ κ} {A : Type ℓ} {B : Type κ} where
@@ -329,19 +332,16 @@ module _ {ℓ} {A : Type ℓ} (alike : A → A → Bool) (q : A → Bool) (same 
 -- names are the same where their bytes are
 pub sameName-eq : (m n : List ℕ) → sameName m n ≡ true → m ≡ n
 unfolding sameName
-sameName-eq [] [] h = refl
-sameName-eq [] (b ∷ ys) h = cc
-sameName-eq (a ∷ xs) [] h = cc
-sameName-eq (a ∷ xs) (b ∷ ys) h = go (eqb a b) refl (sameName-eq xs ys)
+sameName-eq m n h = go (compareNames m n) refl h
   where
-    go : (t : Bool) → eqb a b ≡ t → (sameName xs ys ≡ true → xs ≡ ys) → _≡_ {A = List ℕ} (a ∷ xs) (b ∷ ys)
-    go true e ih = let p : a ≡ b = eqb-true a b e in let q : xs ≡ ys = ih (rw e at h) in cc
-    go false e ih = let z : false ≡ true = rw e at h in cc
+    go : (o : NameOrder) → compareNames m n ≡ o → isEqual o ≡ true → m ≡ n
+    go Before e f = let z : false ≡ true = f in cc
+    go Equal e f = equal-names m n e
+    go After e f = let z : false ≡ true = f in cc
 
 pub sameName-refl : (n : List ℕ) → sameName n n ≡ true
 unfolding sameName
-sameName-refl [] = refl
-sameName-refl (a ∷ xs) = rw (eq-eqb a a refl) (sameName-refl xs)
+sameName-refl n = ap isEqual (equal-itself n)
 
 module _ {ℓ κ} {A : Type ℓ} {B : Type κ} (p : B → Bool) (f : A → B) where
   pub first-map-some : (xs : List A) (y : A) → find (λ x. p (f x)) xs ≡ some y → find p (map f xs) ≡ some (f y)

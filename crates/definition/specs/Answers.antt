@@ -1,6 +1,8 @@
 -- The numbers and values of each answer's cases: 01's where it gives them, else chosen here (docs/DECISIONS.md, 37).
 use Prim.Native.Nat.{ℕ}
 use Rattle.definition.specs.declared.Answer.{Answer}
+use Rattle.definition.specs.declared.NameOrder.{NameOrder}
+use Rattle.definition.specs.declared.NameOrder.the-variants.{Before, Equal, After}
 use Rattle.definition.specs.declared.OperationType.{OperationType}
 use Rattle.definition.specs.declared.OperationType.the-variants.{Query, Mutation, Subscription}
 use Rattle.definition.specs.declared.FieldFound.{FieldFound}
@@ -17,6 +19,12 @@ absent = 4294967295
 -- A refusal's number, or 0, and a card's number or a count.
 abbrev pub answer : ℕ → ℕ → Answer
 answer n c = record { number = n; card = c }
+
+-- How a name stands to another: 0 before, 1 equal, 2 after.
+abbrev pub orderNumber : NameOrder → ℕ
+orderNumber Before = 0
+orderNumber Equal = 1
+orderNumber After = 2
 
 -- "26 query, 27 mutation, 28 subscription"
 abbrev pub rootKind : OperationType → ℕ

@@ -5,6 +5,7 @@
 -- Lists, names and answers.
 pub mod Lists
 pub mod Names
+pub mod NameOrders
 pub mod Answers
 -- Cards, and what merging documents gives.
 pub mod Cards

@@ -1,6 +1,6 @@
 -- Unfolds every definition: a closed example says `unfolding unfolded` and is proved by `refl`. Written by tools/unfolded.
 use Rattle.definition.specs.Lists.{filter as filter·Lists, find as find·Lists, any as any·Lists, all as all·Lists, takeUntil as takeUntil·Lists, written as written·Lists, flatMap as flatMap·Lists, chunks as chunks·Lists, firsts as firsts·Lists, repeats as repeats·Lists}
-use Rattle.definition.specs.Names.{isNameStart as isNameStart·Names, isNameByte as isNameByte·Names, isName as isName·Names, bytesAt as bytesAt·Names, sameName as sameName·Names, bytes as bytes·Names}
+use Rattle.definition.specs.Names.{isNameStart as isNameStart·Names, isNameByte as isNameByte·Names, isName as isName·Names, bytesAt as bytesAt·Names, compareNames as compareNames·Names, sameName as sameName·Names, bytes as bytes·Names}
 use Rattle.definition.specs.Cards.{cardFrom as cardFrom·Cards, wordsOfCard as wordsOfCard·Cards, cardsFrom as cardsFrom·Cards, cardsOf as cardsOf·Cards, isHeading as isHeading·Cards, isPart as isPart·Cards, isRoot as isRoot·Cards, isType as isType·Cards, isExtension as isExtension·Cards, definitionOf as definitionOf·Cards, partOrder as partOrder·Cards, placeIn as placeIn·Cards, isUnnamed as isUnnamed·Cards, itemEnd as itemEnd·Cards, nameEnd as nameEnd·Cards, unknownKind as unknownKind·Cards, emptyItem as emptyItem·Cards, itemOutsideText as itemOutsideText·Cards, itemBeforeSiblingEnd as itemBeforeSiblingEnd·Cards, itemOutsideHeading as itemOutsideHeading·Cards, nameOutsideItem as nameOutsideItem·Cards, nameNotItem as nameNotItem·Cards, nameAmiss as nameAmiss·Cards, nameNoName as nameNoName·Cards, misplacedUnder as misplacedUnder·Cards, misplaced as misplaced·Cards, fault as fault·Cards, faults as faults·Cards, faultAmong as faultAmong·Cards, placeAfter as placeAfter·Cards, faultFrom as faultFrom·Cards, cardFault as cardFault·Cards, brokenCards as brokenCards·Cards, documentFault as documentFault·Cards}
 use Rattle.definition.specs.Grammar.{words as words·Grammar, placeOf as placeOf·Grammar, sortOfName as sortOfName·Grammar, within as within·Grammar, rule as rule·Grammar}
 use Rattle.definition.specs.Derivation.{tokensOf as tokensOf·Derivation}
@@ -22,5 +22,5 @@ use Rattle.definition.specs.Calls.{openedAccount as openedAccount·Calls
 use Rattle.definition.specs.Shown.{source as source·Shown, openSource as openSource·Shown, fileSource as fileSource·Shown, fileSources as fileSources·Shown, switched as switched·Shown, collected as collected·Shown, merged as merged·Shown, shown as shown·Shown, wordsOfRows as wordsOfRows·Shown, asked as asked·Shown, scalarInt as scalarInt·Shown}
 
 unfoldable pub unfolded : Unit {0}
-unfolding filter·Lists find·Lists any·Lists all·Lists takeUntil·Lists written·Lists flatMap·Lists chunks·Lists firsts·Lists repeats·Lists isNameStart·Names isNameByte·Names isName·Names bytesAt·Names sameName·Names bytes·Names cardFrom·Cards wordsOfCard·Cards cardsFrom·Cards cardsOf·Cards isHeading·Cards isPart·Cards isRoot·Cards isType·Cards isExtension·Cards definitionOf·Cards partOrder·Cards placeIn·Cards isUnnamed·Cards itemEnd·Cards nameEnd·Cards unknownKind·Cards emptyItem·Cards itemOutsideText·Cards itemBeforeSiblingEnd·Cards itemOutsideHeading·Cards nameOutsideItem·Cards nameNotItem·Cards nameAmiss·Cards nameNoName·Cards misplacedUnder·Cards misplaced·Cards fault·Cards faults·Cards faultAmong·Cards placeAfter·Cards faultFrom·Cards cardFault·Cards brokenCards·Cards documentFault·Cards words·Grammar placeOf·Grammar sortOfName·Grammar within·Grammar rule·Grammar tokensOf·Derivation character·Lexical endsLine·Lexical comment·Lexical isDigit·Lexical run·Lexical integer·Lexical begun·Lexical fraction·Lexical exponent·Lexical numberOf·Lexical number·Lexical isHex·Lexical escape·Lexical plain·Lexical tripled·Lexical block·Lexical string·Lexical punctuators·Lexical punctuator·Lexical named·Lexical lexeme·Lexical tokensFrom·Lexical tokensIn·Lexical parts·GrammarSets nullable·GrammarSets first·GrammarSets follow·GrammarSets weight·GrammarSets rank·GrammarSets short·GrammarSets has·Machine firstOf·Machine empties·Machine beginning·Machine emptied·Machine pick·Machine weigh·Machine settle·Machine after·Machine walk·Machine amend·ItemCards begun·ItemCards ofKind·ItemCards ended·ItemCards namedBy·ItemCards noting·ItemCards passed·ItemCards next·ItemCards listed·ItemCards nothingListed·ItemCards cardsRead·ItemCards levelAfter·ItemCards tooDeep·ItemCards judged·Reading reading·Reading nameOf·Headings namedCard·Headings headingFrom·Headings group·Headings headingsFrom·Headings headings·Headings isKind·Headings isTypeDefinition·Headings isTypeExtension·Headings isNamed·Headings sameNamed·Headings definesType·Headings extendsType·Headings isOf·Headings definedTypes·Headings definition·Headings extensionsOf·Headings isMissing·Headings isOrphan·Headings orphans·Headings directives·Headings standing·Headings directiveNamed·Headings schemaDefinition·Headings schemaExtensions·Headings numberOf·Headings parts·Headings partsOf·Headings alike·Headings component·Catalogue components·Catalogue ownComponents·Catalogue ofExtensions·Catalogue partIn·Catalogue alikeComponents·Catalogue kept·Catalogue componentRow·Catalogue isComponentOf·Catalogue listOfKind·Catalogue underType·Catalogue underSchema·Catalogue block·Catalogue typeComponents·Catalogue typeRow·Catalogue typeRows·Catalogue adoptedRow·Catalogue adoptedRows·Catalogue adopted·Catalogue directiveRow·Catalogue directiveRowAt·Catalogue directiveRows·Catalogue defaultName·Catalogue kindNamed·Catalogue defaultRoot·Catalogue defaultRoots·Catalogue isRootComponent·Catalogue unadoptedSchema·Catalogue adoptedSchema·Catalogue schemaComponents·Catalogue schemaRows·Catalogue rows·Catalogue error·Errors headingError·Errors collisionNumber·Errors collision·Errors collisions·Errors directiveErrors·Errors schemaErrors·Errors schemaExtensionErrors·Errors redefinitionErrors·Errors typeErrors·Errors lateExtensionErrors·Errors typeExtensionErrors·Errors errorsAt·Errors readingErrors·Errors adoptionErrors·Errors orphanErrors·Errors noSchemaErrors·Errors drawingErrors·Errors merge·Merge numbersFrom·Merge isNumbered·Merge tally·Merge tallies·Merge textHeld·Refusals cardsHeld·Refusals isBarred·Refusals barredFrom·Refusals errorAlone·Refusals zeroFault·Refusals refuse·Refusals document·Refusals capacityRefusal·Refusals openingRefusal·Refusals filingRefusal·Refusals documentCount·Store adoptWord·Store ignoreWord·Store textUsed·Store cardsUsed·Store documentRowFrom·Store documentRows·Store storedCards·Store moved·Store unmoved·Store storedDocument·Store documentsFrom·Store accountIn·Store tooShort·Store countsSound·Store rowsTouch·Store cardsCounted·Store switchesRise·Store zeroUnignored·Store rowsSound·Store cardsSound·Store zeroSound·Store sound·Store decode·Store storeRefusal·Store movedWords·Store openedWords·Store openedText·Store filedRow·Store filedCounts·Store filedWords·Store filedText·Store adoptingWords·Store ignoringWords·Store cardsNamed·LentRows heldFrom·LentRows held·LentRows nameNumbered·LentRows lentRow·LentRows lentRows·LentRows isRowNamed·LentRows isTypeRow·LentRows isTypeRowNamed·LentRows firstTypeRow·LentRows isDefaultRoot·LentRows rowOrder·LentRows inOrder·LentRows orderPasses·LentRows sameCard·LentRows cardsOnce·LentRows wantedKind·LentRows cardPasses·LentRows cardsPass·LentRows originPasses·LentRows originsPass·LentRows defaultRootPasses·LentRows defaultRootsPass·LentRows rowClauses·LentRows passes·LentRows rowsRefusal·LentRows blocks·Lookups isBlockNamed·Lookups sameBlock·Lookups firstTypes·Lookups typeNamed·Lookups isRowOf·Lookups isPartNamed·Lookups span·Lookups spanIn·Lookups rootCard·Lookups rootRow·Lookups rootSpan·Lookups isQueryRoot·Lookups metaField·Lookups fieldOf·Lookups fieldNamed·Lookups lists·Lookups subtypeOf·Lookups isSubtype·Lookups isSchemaPart·Lookups originOf·Lookups originList·Lookups isCard·Lookups extensionList·Lookups sameInterface·Lookups implementing·Lookups implementingOf·Lookups allImplementing·Lookups sameGroup·Lookups isImplementing·Lookups typeCard·Lookups groupOf·Lookups groups·Lookups groupWords·Lookups unchanged·Outcomes accepted·Outcomes open-store·Outcomes add-ast·Outcomes turned·Outcomes adopt-orphan-extensions·Outcomes ignore-builtin-redefinitions·Outcomes wordsOfRow·Outcomes wordsOfError·Outcomes unbuilt·Outcomes mergedInto·Outcomes isShort·Outcomes buildOf·Outcomes build·Outcomes checkOf·Outcomes check-rows·Outcomes noRoot·Outcomes rootBytes·Outcomes rootOf·Outcomes partOf·Outcomes root-operation·Outcomes fieldOfType·Outcomes type-field·Outcomes subtypeAnswer·Outcomes is-subtype·Outcomes unlisted·Outcomes listedIn·Outcomes parse·Outcomes unlessRefused·Outcomes originsOf·Outcomes extensionsIn·Outcomes implementersOf·Outcomes iter-origins·Outcomes extensions·Outcomes implementers-map·Outcomes openedAccount·Calls joined·Calls adoptingFrom·Calls ignoringFrom·Calls orRefused·Calls store·Calls leaves·Calls step·Calls stepStore·Calls runAccount·Calls accountAfter·Calls runStore·Calls source·Shown openSource·Shown fileSource·Shown fileSources·Shown switched·Shown collected·Shown merged·Shown shown·Shown wordsOfRows·Shown asked·Shown scalarInt·Shown
+unfolding filter·Lists find·Lists any·Lists all·Lists takeUntil·Lists written·Lists flatMap·Lists chunks·Lists firsts·Lists repeats·Lists isNameStart·Names isNameByte·Names isName·Names bytesAt·Names compareNames·Names sameName·Names bytes·Names cardFrom·Cards wordsOfCard·Cards cardsFrom·Cards cardsOf·Cards isHeading·Cards isPart·Cards isRoot·Cards isType·Cards isExtension·Cards definitionOf·Cards partOrder·Cards placeIn·Cards isUnnamed·Cards itemEnd·Cards nameEnd·Cards unknownKind·Cards emptyItem·Cards itemOutsideText·Cards itemBeforeSiblingEnd·Cards itemOutsideHeading·Cards nameOutsideItem·Cards nameNotItem·Cards nameAmiss·Cards nameNoName·Cards misplacedUnder·Cards misplaced·Cards fault·Cards faults·Cards faultAmong·Cards placeAfter·Cards faultFrom·Cards cardFault·Cards brokenCards·Cards documentFault·Cards words·Grammar placeOf·Grammar sortOfName·Grammar within·Grammar rule·Grammar tokensOf·Derivation character·Lexical endsLine·Lexical comment·Lexical isDigit·Lexical run·Lexical integer·Lexical begun·Lexical fraction·Lexical exponent·Lexical numberOf·Lexical number·Lexical isHex·Lexical escape·Lexical plain·Lexical tripled·Lexical block·Lexical string·Lexical punctuators·Lexical punctuator·Lexical named·Lexical lexeme·Lexical tokensFrom·Lexical tokensIn·Lexical parts·GrammarSets nullable·GrammarSets first·GrammarSets follow·GrammarSets weight·GrammarSets rank·GrammarSets short·GrammarSets has·Machine firstOf·Machine empties·Machine beginning·Machine emptied·Machine pick·Machine weigh·Machine settle·Machine after·Machine walk·Machine amend·ItemCards begun·ItemCards ofKind·ItemCards ended·ItemCards namedBy·ItemCards noting·ItemCards passed·ItemCards next·ItemCards listed·ItemCards nothingListed·ItemCards cardsRead·ItemCards levelAfter·ItemCards tooDeep·ItemCards judged·Reading reading·Reading nameOf·Headings namedCard·Headings headingFrom·Headings group·Headings headingsFrom·Headings headings·Headings isKind·Headings isTypeDefinition·Headings isTypeExtension·Headings isNamed·Headings sameNamed·Headings definesType·Headings extendsType·Headings isOf·Headings definedTypes·Headings definition·Headings extensionsOf·Headings isMissing·Headings isOrphan·Headings orphans·Headings directives·Headings standing·Headings directiveNamed·Headings schemaDefinition·Headings schemaExtensions·Headings numberOf·Headings parts·Headings partsOf·Headings alike·Headings component·Catalogue components·Catalogue ownComponents·Catalogue ofExtensions·Catalogue partIn·Catalogue alikeComponents·Catalogue kept·Catalogue componentRow·Catalogue isComponentOf·Catalogue listOfKind·Catalogue underType·Catalogue underSchema·Catalogue block·Catalogue typeComponents·Catalogue typeRow·Catalogue typeRows·Catalogue adoptedRow·Catalogue adoptedRows·Catalogue adopted·Catalogue directiveRow·Catalogue directiveRowAt·Catalogue directiveRows·Catalogue defaultName·Catalogue kindNamed·Catalogue defaultRoot·Catalogue defaultRoots·Catalogue isRootComponent·Catalogue unadoptedSchema·Catalogue adoptedSchema·Catalogue schemaComponents·Catalogue schemaRows·Catalogue rows·Catalogue error·Errors headingError·Errors collisionNumber·Errors collision·Errors collisions·Errors directiveErrors·Errors schemaErrors·Errors schemaExtensionErrors·Errors redefinitionErrors·Errors typeErrors·Errors lateExtensionErrors·Errors typeExtensionErrors·Errors errorsAt·Errors readingErrors·Errors adoptionErrors·Errors orphanErrors·Errors noSchemaErrors·Errors drawingErrors·Errors merge·Merge numbersFrom·Merge isNumbered·Merge tally·Merge tallies·Merge textHeld·Refusals cardsHeld·Refusals isBarred·Refusals barredFrom·Refusals errorAlone·Refusals zeroFault·Refusals refuse·Refusals document·Refusals capacityRefusal·Refusals openingRefusal·Refusals filingRefusal·Refusals documentCount·Store adoptWord·Store ignoreWord·Store textUsed·Store cardsUsed·Store documentRowFrom·Store documentRows·Store storedCards·Store moved·Store unmoved·Store storedDocument·Store documentsFrom·Store accountIn·Store tooShort·Store countsSound·Store rowsTouch·Store cardsCounted·Store switchesRise·Store zeroUnignored·Store rowsSound·Store cardsSound·Store zeroSound·Store sound·Store decode·Store storeRefusal·Store movedWords·Store openedWords·Store openedText·Store filedRow·Store filedCounts·Store filedWords·Store filedText·Store adoptingWords·Store ignoringWords·Store cardsNamed·LentRows heldFrom·LentRows held·LentRows nameNumbered·LentRows lentRow·LentRows lentRows·LentRows isRowNamed·LentRows isTypeRow·LentRows isTypeRowNamed·LentRows firstTypeRow·LentRows isDefaultRoot·LentRows rowOrder·LentRows inOrder·LentRows orderPasses·LentRows sameCard·LentRows cardsOnce·LentRows wantedKind·LentRows cardPasses·LentRows cardsPass·LentRows originPasses·LentRows originsPass·LentRows defaultRootPasses·LentRows defaultRootsPass·LentRows rowClauses·LentRows passes·LentRows rowsRefusal·LentRows blocks·Lookups isBlockNamed·Lookups sameBlock·Lookups firstTypes·Lookups typeNamed·Lookups isRowOf·Lookups isPartNamed·Lookups span·Lookups spanIn·Lookups rootCard·Lookups rootRow·Lookups rootSpan·Lookups isQueryRoot·Lookups metaField·Lookups fieldOf·Lookups fieldNamed·Lookups lists·Lookups subtypeOf·Lookups isSubtype·Lookups isSchemaPart·Lookups originOf·Lookups originList·Lookups isCard·Lookups extensionList·Lookups sameInterface·Lookups implementing·Lookups implementingOf·Lookups allImplementing·Lookups sameGroup·Lookups isImplementing·Lookups typeCard·Lookups groupOf·Lookups groups·Lookups groupWords·Lookups unchanged·Outcomes accepted·Outcomes open-store·Outcomes add-ast·Outcomes turned·Outcomes adopt-orphan-extensions·Outcomes ignore-builtin-redefinitions·Outcomes wordsOfRow·Outcomes wordsOfError·Outcomes unbuilt·Outcomes mergedInto·Outcomes isShort·Outcomes buildOf·Outcomes build·Outcomes checkOf·Outcomes check-rows·Outcomes noRoot·Outcomes rootBytes·Outcomes rootOf·Outcomes partOf·Outcomes root-operation·Outcomes fieldOfType·Outcomes type-field·Outcomes subtypeAnswer·Outcomes is-subtype·Outcomes unlisted·Outcomes listedIn·Outcomes parse·Outcomes unlessRefused·Outcomes originsOf·Outcomes extensionsIn·Outcomes implementersOf·Outcomes iter-origins·Outcomes extensions·Outcomes implementers-map·Outcomes openedAccount·Calls joined·Calls adoptingFrom·Calls ignoringFrom·Calls orRefused·Calls store·Calls leaves·Calls step·Calls stepStore·Calls runAccount·Calls accountAfter·Calls runStore·Calls source·Shown openSource·Shown fileSource·Shown fileSources·Shown switched·Shown collected·Shown merged·Shown shown·Shown wordsOfRows·Shown asked·Shown scalarInt·Shown
 unfolded = tt

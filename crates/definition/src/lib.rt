@@ -22,6 +22,13 @@ pub struct Tallies {
     pub total: u32,
 }
 
+// How a name stands to another by the order of their bytes.
+pub enum NameOrder {
+    Before,
+    Equal,
+    After,
+}
+
 // What `build` answers: the refusal or 0, how many rows it wrote, and how many errors arose while reading documents and while drawing.
 #[repr(C)]
 pub struct Drawing {

@@ -4,12 +4,12 @@ use mathlib.Core.List.{List}
 use mathlib.Core.Bool.{Bool, true, false}
 use Prim.Native.Nat.{ℕ}
 use Rattle.definition.specs.Names.{sameName}
-use Rattle.name.proofs.Laws.{same-equal}
+use Rattle.definition.proofs.Lists.{sameName-eq}
 use Rattle.from_ast_index.specs.Index.{hashOf}
 
 pub hashes-differ : (m n : List ℕ) → (hashOf m ≡ hashOf n → ⊥) → sameName m n ≡ false
 hashes-differ m n d = go (sameName m n) refl
   where
     go : (b : Bool) → sameName m n ≡ b → sameName m n ≡ false
-    go true e = absurd (d (ap hashOf (same-equal m n e)))
+    go true e = absurd (d (ap hashOf (sameName-eq m n e)))
     go false e = e

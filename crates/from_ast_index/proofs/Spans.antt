@@ -10,9 +10,8 @@ use lib.Seq.{getD-take, getD-drop, drop-drop, take-all, take-nil, length-take-le
 use Rattle.definition.specs.Lists.{choose, filter, any, find, firsts, All}
 use Rattle.definition.specs.Names.{sameName}
 use Rattle.definition.specs.Headings.{Heading, isTypeDefinition, isTypeExtension, isNamed, sameNamed, definesType, definedTypes, definition, numberOf}
-use Rattle.definition.proofs.Lists.{filter-append, first-yes, first-no, any-nil, first-firsts}
+use Rattle.definition.proofs.Lists.{filter-append, first-yes, first-no, any-nil, first-firsts, sameName-eq, sameName-refl}
 use Rattle.definition.proofs.All.{all-every}
-use Rattle.name.proofs.Laws.{same-equal, same-self}
 use Rattle.store_reader.specs.Stored.{cardName, storedHeadings, headingAt}
 use Rattle.store_reader.proofs.Lists.{all-get}
 use Rattle.from_ast_index.proofs.Laws.{type-here, extension-here}
@@ -134,11 +133,11 @@ module _ {ℓ} {A : Type ℓ} (alike : A → A → Bool) (self : (x : A) → ali
 
 named-self : (h : Heading) → sameNamed h h ≡ true
 unfolding sameNamed isNamed
-named-self h = same-self (h .name)
+named-self h = sameName-refl (h .name)
 
 named-fair : (h x y : Heading) → sameNamed x y ≡ true → sameNamed h x ≡ sameNamed h y
 unfolding sameNamed isNamed
-named-fair h x y e = ap (sameName (h .name)) (same-equal (x .name) (y .name) e)
+named-fair h x y e = ap (sameName (h .name)) (sameName-eq (x .name) (y .name) e)
 
 -- A heading defines a name where it defines a type and has the name.
 named-defines : (n : List ℕ) (h : Heading) → choose (isTypeDefinition h) (isNamed n h) false ≡ definesType n h
@@ -182,7 +181,7 @@ module _ (text words headings hashes owners typeCards orphanCards extensionCards
         let d : Heading = headingAt text words (getD extensionCards i 0) in
         let here = type-here text words headings hashes owners typeCards orphanCards extensionCards m t o e x k k-t in
         let there = extension-here text words headings hashes owners typeCards orphanCards extensionCards m t o e x i i-e in
-        let named : c .name ≡ d .name = same-equal (cardName text words (getD typeCards k 0)) (cardName text words (getD extensionCards i 0)) same in
+        let named : c .name ≡ d .name = sameName-eq (cardName text words (getD typeCards k 0)) (cardName text words (getD extensionCards i 0)) same in
         all-get (λ h. getD owners (h .number) 0 ≡ numberOf (definition (h .name) (storedHeadings text words)))
         (filter isTypeExtension (storedHeadings text words)) extension-owners i d there
         ∙ ap (λ (n : List ℕ). numberOf (definition n (storedHeadings text words))) (sym named)

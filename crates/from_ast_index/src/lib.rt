@@ -1,4 +1,5 @@
 // The arrays that build reads: how many there are of what, and the reads of them that several walks share. Crate `from_ast_indexing` fills them.
+use definition::NameOrder;
 ghost use mathlib.Core.Path.{_≡_};
 ghost use Prim.Native.Nat.{_<_};
 ghost use lib.ListN.{length};
@@ -17,10 +18,15 @@ pub struct Counts {
 pub fn same_names(text: &[u8], words: &[u32], a: u32, b: u32) -> bool
     ensures { λ r. ⌜ r ≡ sameCards (now (text .entry)) (now (words .entry)) a b ⌝ }
 {
-    name::same_name(
+    let order = name::compare(
         store_reader::card_name(text, words, a as usize),
         store_reader::card_name(text, words, b as usize),
-    )
+    );
+    match order {
+        NameOrder::Equal => true,
+        NameOrder::Before => false,
+        NameOrder::After => false,
+    }
 }
 
 // Whether two cards have one name. Most that have not are told by their hashes.

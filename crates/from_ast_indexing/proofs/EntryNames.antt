@@ -13,9 +13,8 @@ use Rattle.definition.specs.Lists.{choose, found, filter, find, firsts, orElse}
 use Rattle.definition.specs.Answers.{absent}
 use Rattle.definition.specs.Names.{sameName}
 use Rattle.store_reader.specs.Stored.{cardName}
-use Rattle.name.proofs.Laws.{same-equal, same-self}
 use Rattle.from_ast_index.specs.Index.{sameCards}
-use Rattle.definition.proofs.Lists.{filter-yes, filter-append, first-yes, any-nil, first-firsts}
+use Rattle.definition.proofs.Lists.{filter-yes, filter-append, first-yes, any-nil, first-firsts, sameName-eq, sameName-refl}
 use Rattle.from_ast_index.proofs.Lists.{first-append, firsts-again, firsts-more}
 use Rattle.from_ast_indexing.specs.Entering.{firstCard, enteredIn, firstEntered}
 
@@ -57,11 +56,11 @@ apart a b h e = omega arith
 module _ (text words : List ℕ) where
   pub same-fair : (c x y : ℕ) → sameCards text words x y ≡ true → sameCards text words c x ≡ sameCards text words c y
   unfolding sameCards
-  same-fair c x y e = ap (sameName (cardName text words c)) (same-equal (cardName text words x) (cardName text words y) e)
+  same-fair c x y e = ap (sameName (cardName text words c)) (sameName-eq (cardName text words x) (cardName text words y) e)
 
   pub same-card : (c : ℕ) → sameCards text words c c ≡ true
   unfolding sameCards
-  same-card c = same-self (cardName text words c)
+  same-card c = sameName-refl (cardName text words c)
 
   -- The first ones and the first one of a name, after one more card.
   pub firsts-entered : (D : List ℕ) (c : ℕ) → firsts (sameCards text words) [] (D ++ (c ∷ []))

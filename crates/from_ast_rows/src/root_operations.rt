@@ -1,6 +1,7 @@
 // The rows of the schema definition: its directive uses and its root operations, set or default, of schema/from_ast.rs.
 use ast::kinds;
 use definition::ABSENT;
+use definition::NameOrder;
 ghost use mathlib.Core.Path.{_≡_};
 ghost use mathlib.Core.Bool.{true};
 ghost use Prim.Native.Nat.{_≤_, _<_};
@@ -141,8 +142,13 @@ fn first_kind(text: &[u8], words: &[u32], headings: &[u32], extending: bool, nam
         if !is_type_kind(kind, extending) {
             continue;
         }
-        if name::same_name(name, store_reader::card_name(text, words, card as usize)) {
-            return kind;
+        let order = name::compare(name, store_reader::card_name(text, words, card as usize));
+        match order {
+            NameOrder::Equal => {
+                return kind;
+            }
+            NameOrder::Before => {}
+            NameOrder::After => {}
         }
     }
     0

@@ -5,12 +5,15 @@ use mathlib.Core.List.{List, [], _∷_}
 use Prim.Native.Nat.{ℕ, suc, _+_, _-_, _<_, _≤_}
 use native.Mathlib.Numerals.{add-one}
 use native.Mathlib.Omega.{arith}
-use borrow.Author.Tests.{eq-eqb, ne-eqb, eqb-true, le-leb, lt-leb}
+use borrow.Author.Tests.{eq-eqb, ne-eqb, le-leb, lt-leb, le-ltb, lt-ltb}
 use lib.Dec.{eqb, leb}
 use lib.ListN.{length, getD, take, drop, drop-of-length-le, length-drop}
 use lib.Seq.{drop-cons, take-all, take-nil}
 use Rattle.definition.specs.Lists.{choose, all}
-use Rattle.definition.specs.Names.{isNameStart, isNameByte, isName, sameName, bytesAt}
+use Rattle.definition.specs.Names.{isNameStart, isNameByte, isName, compareNames, isEqual, sameName, bytesAt}
+use Rattle.definition.specs.declared.NameOrder.{NameOrder}
+use Rattle.definition.specs.declared.NameOrder.the-variants.{Before, Equal, After}
+use Rattle.definition.proofs.Lists.{sameName-eq, sameName-refl}
 
 -- ---- A byte of a name.
 
@@ -84,29 +87,35 @@ rest-end s i l = rw (drop-of-length-le s l)
 
 -- ---- Two names.
 
-choose-false : (t : Bool) → choose t false false ≡ false
-choose-false true = refl
-choose-false false = refl
+pub byte-before : (a b : List ℕ) (i : ℕ) → i < length a → i < length b → getD a i 0 < getD b i 0 → compareNames (drop i a) (drop i b) ≡ Before
+unfolding compareNames
+byte-before a b i la lb h = rw (step a i la, step b i lb, lt-ltb _ _ h)
 
-pub same-lengths : (a b : List ℕ) → (length a ≡ length b → ⊥) → sameName a b ≡ false
-unfolding sameName
-same-lengths [] [] h = absurd (h refl)
-same-lengths [] (y ∷ ys) h = refl
-same-lengths (x ∷ xs) [] h = refl
-same-lengths (x ∷ xs) (y ∷ ys) h = simp (same-lengths xs ys (λ e. h (ap suc e))) (choose-false (eqb x y))
+pub byte-after : (a b : List ℕ) (i : ℕ) → i < length a → i < length b → getD b i 0 < getD a i 0 → compareNames (drop i a) (drop i b) ≡ After
+unfolding compareNames
+byte-after a b i la lb h = let g : getD b i 0 ≤ getD a i 0 = omega arith in rw (step a i la, step b i lb, le-ltb _ _ g, lt-ltb _ _ h)
 
-pub same-bad : (a b : List ℕ) (i : ℕ) → i < length a → i < length b → (getD a i 0 ≡ getD b i 0 → ⊥) → sameName (drop i a) (drop i b) ≡ false
-unfolding sameName
-same-bad a b i la lb h = rw (step a i la, step b i lb, ne-eqb _ _ h)
+pub byte-same : (a b : List ℕ) (i : ℕ) → i < length a → i < length b → getD b i 0 ≤ getD a i 0 → getD a i 0 ≤ getD b i 0
+    → compareNames (drop i a) (drop i b) ≡ compareNames (drop (i + 1) a) (drop (i + 1) b)
+unfolding compareNames
+byte-same a b i la lb g h = rw (step a i la, step b i lb, le-ltb _ _ g, le-ltb _ _ h)
 
-pub same-good : (a b : List ℕ) (i : ℕ) → i < length a → i < length b → getD a i 0 ≡ getD b i 0
-    → sameName (drop i a) (drop i b) ≡ sameName (drop (i + 1) a) (drop (i + 1) b)
-unfolding sameName
-same-good a b i la lb h = rw (step a i la, step b i lb, eq-eqb _ _ h)
+pub longer-after : (a b : List ℕ) (i : ℕ) → i < length a → length b ≤ i → compareNames (drop i a) (drop i b) ≡ After
+unfolding compareNames
+longer-after a b i la lb = rw (step a i la, drop-of-length-le b lb)
 
-pub same-end : (a b : List ℕ) (i : ℕ) → length a ≤ i → length b ≤ i → sameName (drop i a) (drop i b) ≡ true
+pub shorter-before : (a b : List ℕ) (i : ℕ) → length a ≤ i → i < length b → compareNames (drop i a) (drop i b) ≡ Before
+unfolding compareNames
+shorter-before a b i la lb = rw (drop-of-length-le a la, step b i lb)
+
+pub both-end : (a b : List ℕ) (i : ℕ) → length a ≤ i → length b ≤ i → compareNames (drop i a) (drop i b) ≡ Equal
+unfolding compareNames
+both-end a b i la lb = rw (drop-of-length-le a la, drop-of-length-le b lb)
+
+-- What a caller makes of the comparison that asks only whether names are the same.
+pub same-told : (m n : List ℕ) (o p : NameOrder) → o ≡ compareNames m n → o ≡ p → isEqual p ≡ sameName m n
 unfolding sameName
-same-end a b i la lb = rw (drop-of-length-le a la, drop-of-length-le b lb)
+same-told m n o p e f = ap isEqual (sym f ∙ e)
 
 -- ---- A span.
 
@@ -120,29 +129,11 @@ span-clipped s at len h = take-all len (drop at s) (simp length-drop (omega arit
 
 -- ---- The comparison is equality.
 
-choose-both : (s t : Bool) → choose s t false ≡ true → (s ≡ true) × (t ≡ true)
-choose-both true t e = (refl, e)
-choose-both false t e = absurd (let z : _≡_ {A = ℕ} 0 1 = cc in omega arith)
-
-pub same-equal : (m n : List ℕ) → sameName m n ≡ true → m ≡ n
-unfolding sameName
-same-equal [] [] h = refl
-same-equal [] (y ∷ ys) h = absurd (let z : _≡_ {A = ℕ} 0 1 = cc in omega arith)
-same-equal (x ∷ xs) [] h = absurd (let z : _≡_ {A = ℕ} 0 1 = cc in omega arith)
-same-equal (x ∷ xs) (y ∷ ys) h =
-    let b = choose-both (eqb x y) (sameName xs ys) h in
-    cc (eqb-true x y (b .0), same-equal xs ys (b .1))
-
-pub same-self : (n : List ℕ) → sameName n n ≡ true
-unfolding sameName
-same-self [] = refl
-same-self (x ∷ xs) = simp (eq-eqb x x refl, same-self xs)
-
 pub same-sym : (m n : List ℕ) → sameName m n ≡ sameName n m
 same-sym m n = go (sameName m n) (sameName n m) refl refl
   where
     go : (s t : Bool) → sameName m n ≡ s → sameName n m ≡ t → s ≡ t
     go true true e f = refl
     go false false e f = refl
-    go true false e f = let k : m ≡ n = same-equal m n e in sym (same-self n) ∙ (rw k at f)
-    go false true e f = let k : n ≡ m = same-equal n m f in sym e ∙ (rw k (same-self m))
+    go true false e f = let k : m ≡ n = sameName-eq m n e in sym (sameName-refl n) ∙ (rw k at f)
+    go false true e f = let k : n ≡ m = sameName-eq n m f in sym e ∙ (rw k (sameName-refl m))

@@ -1,6 +1,7 @@
 // name.rs: the syntax of a Name, and names compared by their bytes.
+use definition::NameOrder;
 ghost use mathlib.Core.Path.{_≡_};
-ghost use Rattle.definition.specs.Names.{isNameStart, isNameByte, isName, sameName, bytesAt};
+ghost use Rattle.definition.specs.Names.{isNameStart, isNameByte, isName, compareNames, sameName, bytesAt};
 ghost use Rattle.name.specs.Parts.{PartAt};
 
 // A letter or an underscore.
@@ -54,21 +55,31 @@ pub fn is_valid_syntax(name: &[u8]) -> bool
     true
 }
 
-// The only place where the bytes of two names are compared; lengths first, since most names differ there.
-pub fn same_name(a: &[u8], b: &[u8]) -> bool
-    ensures { λ r. ⌜ r ≡ sameName (now (a .entry)) (now (b .entry)) ⌝ }
+// The only place where the bytes of two names are compared: the first byte in which they differ decides, and a shorter beginning is before.
+pub fn compare(a: &[u8], b: &[u8]) -> NameOrder
+    ensures { λ r. ⌜ r ≡ compareNames (now (a .entry)) (now (b .entry)) ⌝ }
 {
-    if a.len() != b.len() {
-        return false;
+    let mut least = a.len();
+    if b.len() < least {
+        least = b.len();
     }
     let mut i = 0;
-    while i < a.len() {
+    while i < least {
         if a[i] != b[i] {
-            return false;
+            if a[i] < b[i] {
+                return NameOrder::Before;
+            }
+            return NameOrder::After;
         }
         i += 1;
     }
-    true
+    if a.len() < b.len() {
+        return NameOrder::Before;
+    }
+    if b.len() < a.len() {
+        return NameOrder::After;
+    }
+    NameOrder::Equal
 }
 
 // The part of the text that a span is, as far as the text reaches.
@@ -89,12 +100,22 @@ pub fn bytes_at(text: &[u8], at: usize, len: usize) -> &[u8]
 pub fn same_span(text: &[u8], a_at: usize, a_len: usize, b_at: usize, b_len: usize) -> bool
     ensures { λ r. ⌜ r ≡ sameName (bytesAt (now (text .entry)) «a_at» «a_len») (bytesAt (now (text .entry)) «b_at» «b_len») ⌝ }
 {
-    same_name(bytes_at(text, a_at, a_len), bytes_at(text, b_at, b_len))
+    let order = compare(bytes_at(text, a_at, a_len), bytes_at(text, b_at, b_len));
+    match order {
+        NameOrder::Equal => true,
+        NameOrder::Before => false,
+        NameOrder::After => false,
+    }
 }
 
 // Whether a span of a text has the name.
 pub fn span_is(text: &[u8], at: usize, len: usize, name: &[u8]) -> bool
     ensures { λ r. ⌜ r ≡ sameName (bytesAt (now (text .entry)) at len) (now (name .entry)) ⌝ }
 {
-    same_name(bytes_at(text, at, len), name)
+    let order = compare(bytes_at(text, at, len), name);
+    match order {
+        NameOrder::Equal => true,
+        NameOrder::Before => false,
+        NameOrder::After => false,
+    }
 }

@@ -8,7 +8,7 @@ use borrow.Author.Tests.{eqb-true, eqb-false, leb-true}
 use lib.Dec.{eqb, leb}
 use lib.ListN.{length, getD, take, drop, take-append-drop}
 use Rattle.definition.specs.Lists.{any, Among}
-use Rattle.definition.specs.Names.{bytes, sameName}
+use Rattle.definition.specs.Names.{bytes, sameName, compareNames}
 use Rattle.definition.specs.Grammar.{Symbol, one, part, mark, Document, rule, within, words, placeOf, sortOfName}
 use Rattle.definition.specs.Derivation.{Token, Seen, token, marked, Derives, nothing, reads, marks, expands, tokensOf}
 use Rattle.definition.specs.Lexical.{Lexeme, ignored, lexed, unreadable, lexeme, Lexed, lexedBy, tokensFrom, tokensIn}
@@ -136,7 +136,7 @@ allSpell zero = true
 allSpell (suc n) = spells n && allSpell n
 
 all-spell : allSpell 55 ≡ true
-unfolding allSpell spells tokensIn isOne wordOf punctuation words bytes sortOfName placeOf sameName any
+unfolding allSpell spells tokensIn isOne wordOf punctuation words bytes sortOfName placeOf sameName compareNames any
 all-spell = refl
 
 spells-each : (n s : ℕ) → allSpell n ≡ true → s < n → spells s ≡ true

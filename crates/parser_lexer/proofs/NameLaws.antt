@@ -12,7 +12,8 @@ use Rattle.definition.specs.Lists.{choose, all, any}
 use Rattle.definition.specs.Names.{isNameByte, sameName}
 use Rattle.definition.specs.Grammar.{words, placeOf, sortOfName}
 use Rattle.definition.specs.Lexical.{byte, run}
-use Rattle.name.proofs.Laws.{start-lower, continue-start, continue-digit, step, same-equal}
+use Rattle.definition.proofs.Lists.{sameName-eq}
+use Rattle.name.proofs.Laws.{start-lower, continue-start, continue-digit, step}
 use Rattle.parser_laws.proofs.Tests.{clash, both}
 
 -- ---- How far a name reaches.
@@ -52,7 +53,7 @@ absent p w f (x ∷ ws) a = go (p x) refl (sameName w x) refl a (absent p w f ws
   where
     go : (t : Bool) → p x ≡ t → (s : Bool) → sameName w x ≡ s → choose t (all p ws) false ≡ true → (all p ws ≡ true → placeOf w ws ≡ length ws) →
         choose s 0 (1 + placeOf w ws) ≡ suc (length ws)
-    go true e true g b h = clash (sym f ∙ ap p (same-equal w x g) ∙ e)
+    go true e true g b h = clash (sym f ∙ ap p (sameName-eq w x g) ∙ e)
     go true e false g b h = let k = h b in omega arith
     go false e s g b h = clash b
 
@@ -90,7 +91,7 @@ one-word : (p : List ℕ → Bool) (x w : List ℕ) → p w ≡ false → all (�
 one-word p x w f a = go (sameName w x) refl
   where
     go : (t : Bool) → sameName w x ≡ t → choose t (sortOfName x) 54 ≡ sortOfName w
-    go true g = ap sortOfName (sym (same-equal w x g))
+    go true g = ap sortOfName (sym (sameName-eq w x g))
     go false g =
         let h : (sameName w x || p w) ≡ false = rw (g, f) in
         sym (no-word (λ y. sameName y x || p y) w h a)

@@ -10,8 +10,7 @@ use Rattle.definition.specs.Catalogue.{Row}
 use Rattle.definition.specs.LentRows.{isRowNamed, isTypeRow, isTypeRowNamed}
 use Rattle.definition.specs.Lookups.{Block, blocks, firstTypes, isBlockNamed, sameBlock, isRowOf, isPartNamed, Implementing, sameInterface}
 use Rattle.definition.specs.Lookups.{implementing, implementingOf, allImplementing}
-use Rattle.definition.proofs.Lists.{filter-nil, filter-yes, filter-no, filter-append}
-use Rattle.name.proofs.Laws.{same-equal}
+use Rattle.definition.proofs.Lists.{filter-nil, filter-yes, filter-no, filter-append, sameName-eq}
 use Rattle.schema_rows.proofs.Walk.{any-snoc}
 use Rattle.schema_rows.proofs.SearchLaws.{blocks-type, blocks-under, blocks-nil}
 use Rattle.schema.specs.Gather.{news, gather}
@@ -63,11 +62,11 @@ module _ {A : Type 0} where
 module _ (cs : List NamedCard) where
   pub interfaces-same : (r s : Row) → sameInterface cs r s ≡ true → sameInterface cs r ≡ sameInterface cs s
   unfolding sameInterface isRowNamed
-  interfaces-same r s e = let q : named cs r ≡ named cs s = same-equal (named cs r) (named cs s) e in ap (isRowNamed cs) q
+  interfaces-same r s e = let q : named cs r ≡ named cs s = sameName-eq (named cs r) (named cs s) e in ap (isRowNamed cs) q
 
   blocks-same : (b d : Block) → sameBlock cs b d ≡ true → sameBlock cs b ≡ sameBlock cs d
   unfolding sameBlock isBlockNamed isRowNamed
-  blocks-same b d e = let q : named cs (b .head) ≡ named cs (d .head) = same-equal (named cs (b .head)) (named cs (d .head)) e in ap (isBlockNamed cs) q
+  blocks-same b d e = let q : named cs (b .head) ≡ named cs (d .head) = sameName-eq (named cs (b .head)) (named cs (d .head)) e in ap (isBlockNamed cs) q
 
   any-interface : (r : Row) (mid : List Row) → any (isPartNamed cs 21 (named cs r)) mid ≡ any (sameInterface cs r) (filter (isRowOf 21) mid)
   unfolding any filter isPartNamed sameInterface

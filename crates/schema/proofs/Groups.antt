@@ -13,7 +13,6 @@ use Rattle.definition.specs.Headings.{NamedCard}
 use Rattle.definition.specs.Catalogue.{Row}
 use Rattle.definition.specs.LentRows.{lentRows, isRowNamed}
 use Rattle.definition.specs.Lookups.{isRowOf, isPartNamed, originOf, sameInterface}
-use Rattle.name.proofs.Laws.{same-self}
 use Rattle.store_reader.specs.Stored.{storedParts, cardName}
 use Rattle.store_reader.proofs.Words.{name-stored}
 use Rattle.schema_rows.specs.Rows.{rowAt, foundFrom}
@@ -23,7 +22,7 @@ use Rattle.schema_rows.proofs.Listing.{Listing, listing-length, listing-same, d
 use Rattle.schema.specs.Owners.{named}
 use Rattle.schema.specs.Groups.{implementersNamed, pairGroup}
 use Rattle.schema.proofs.ThreeWords.{three-capacity, three-pushed}
-use Rattle.definition.proofs.Lists.{filter-yes, filter-no, filter-nil}
+use Rattle.definition.proofs.Lists.{filter-yes, filter-no, filter-nil, sameName-refl}
 use Rattle.schema.proofs.SearchStops.{rows-split, taken-length}
 
 -- ---- Where a search stops: at a row that passes, if none before it does, else before it.
@@ -187,7 +186,7 @@ module _ (text words pairs : List ℕ) (i : ℕ) (name : List ℕ) (n : name ≡
   module _ (h : i < length pairs / 3) where
     passes : isRowNamed (storedParts text words) (named (storedParts text words) (rowAt pairs i)) (rowAt pairs i) ≡ true
     unfolding isRowNamed
-    passes = same-self (named (storedParts text words) (rowAt pairs i))
+    passes = sameName-refl (named (storedParts text words) (rowAt pairs i))
 
     search : foundFrom (isRowNamed (storedParts text words) name) 0 (lentRows pairs) ≡
         foundFrom (isRowNamed (storedParts text words) (named (storedParts text words) (rowAt pairs i))) 0

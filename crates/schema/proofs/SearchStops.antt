@@ -14,7 +14,7 @@ use Rattle.definition.specs.Headings.{NamedCard}
 use Rattle.definition.specs.Catalogue.{Row}
 use Rattle.definition.specs.LentRows.{lentRows, isRowNamed, isTypeRow, isTypeRowNamed}
 use Rattle.definition.specs.Lookups.{isRowOf, isPartNamed}
-use Rattle.name.proofs.Laws.{same-self}
+use Rattle.definition.proofs.Lists.{sameName-refl}
 use Rattle.store_reader.specs.Stored.{storedParts, cardName}
 use Rattle.store_reader.proofs.Words.{name-stored}
 use Rattle.schema_rows.specs.Rows.{rowAt}
@@ -146,11 +146,11 @@ module _ (rows : List ℕ) (i : ℕ) (h : i < length rows / 3) where
 module _ (cs : List NamedCard) (rows : List ℕ) (i : ℕ) where
   own-type : isType (getD rows (3 * i) 0) ≡ true → isTypeRowNamed cs (named cs (rowAt rows i)) (rowAt rows i) ≡ true
   unfolding isTypeRowNamed isTypeRow isRowNamed
-  own-type e = rw (e, same-self (named cs (rowAt rows i)))
+  own-type e = rw (e, sameName-refl (named cs (rowAt rows i)))
 
   own-part : getD rows (3 * i) 0 ≡ 21 → isPartNamed cs 21 (named cs (rowAt rows i)) (rowAt rows i) ≡ true
   unfolding isPartNamed isRowOf isRowNamed
-  own-part e = rw (eq-eqb (getD rows (3 * i) 0) 21 e, same-self (named cs (rowAt rows i)))
+  own-part e = rw (eq-eqb (getD rows (3 * i) 0) 21 e, sameName-refl (named cs (rowAt rows i)))
 
   own-no-type : getD rows (3 * i) 0 ≡ 21 → isTypeRow (rowAt rows i) ≡ false
   unfolding isTypeRow isType

@@ -3,6 +3,7 @@ use ast::kinds;
 use definition::ABSENT;
 use definition::FieldFound;
 use definition::FieldLookup;
+use definition::NameOrder;
 use definition::OperationType;
 use definition::layout::ROW_WORDS;
 use schema_rows::search::Found;
@@ -10,6 +11,7 @@ ghost use mathlib.Core.Path.{_≡_};
 ghost use mathlib.Core.Bool.{true, false};
 ghost use Prim.Native.Nat.{_<_, _/_};
 ghost use lib.ListN.{length};
+ghost use Rattle.definition.specs.Names.{sameName};
 ghost use Rattle.definition.specs.Answers.{rootKind};
 ghost use Rattle.definition.specs.Cards.{isRoot};
 ghost use Rattle.definition.specs.Store.{sound, tooShort};
@@ -77,6 +79,18 @@ fn is_query_root(text: &[u8], words: &[u32], rows: &[u32], name: &[u8]) -> bool
     schema_rows::search::is_named(text, words, root_card(text, words, rows, i), name)
 }
 
+// Whether two names have the same bytes.
+fn is_same(a: &[u8], b: &[u8]) -> bool
+    ensures { λ r. ⌜ r ≡ sameName (now (a .entry)) (now (b .entry)) ⌝ }
+{
+    let order = name::compare(a, b);
+    match order {
+        NameOrder::Equal => true,
+        NameOrder::Before => false,
+        NameOrder::After => false,
+    }
+}
+
 // Objects, interfaces and unions have `__typename`.
 fn is_typename(what: u32, field: &[u8]) -> bool
     ensures { λ r. ⌜ r ≡ isTypename what (now (field .entry)) ⌝ }
@@ -87,7 +101,7 @@ fn is_typename(what: u32, field: &[u8]) -> bool
     if kinds::UNION_TYPE_DEFINITION < what {
         return false;
     }
-    name::same_name(field, b"__typename")
+    is_same(field, b"__typename")
 }
 
 // A meta field of a type of the kind and the name, or that the type of the card has no such field.
@@ -110,10 +124,10 @@ pub fn meta_field(
     if !is_query_root(text, words, rows, type_name) {
         return FieldLookup::NoSuchField(card);
     }
-    if name::same_name(field, b"__schema") {
+    if is_same(field, b"__schema") {
         return FieldLookup::Found(FieldFound::Schema);
     }
-    if name::same_name(field, b"__type") {
+    if is_same(field, b"__type") {
         return FieldLookup::Found(FieldFound::Type);
     }
     FieldLookup::NoSuchField(card)

@@ -1,5 +1,6 @@
 // Searches over lent rows: how a row is read, the first type of a name, and under it the first part of a name.
 use ast::kinds;
+use definition::NameOrder;
 use definition::layout::ROW_WORDS;
 ghost use mathlib.Core.Path.{_≡_};
 ghost use mathlib.Core.Bool.{true};
@@ -28,7 +29,12 @@ pub struct Located {
 pub fn is_named(text: &[u8], words: &[u32], card: u32, name: &[u8]) -> bool
     ensures { λ r. ⌜ r ≡ sameName (now (name .entry)) (cardName (now (text .entry)) (now (words .entry)) card) ⌝ }
 {
-    name::same_name(name, store_reader::card_name(text, words, card as usize))
+    let order = name::compare(name, store_reader::card_name(text, words, card as usize));
+    match order {
+        NameOrder::Equal => true,
+        NameOrder::Before => false,
+        NameOrder::After => false,
+    }
 }
 
 // Whether a row of a kind and a card is a type row of the name.

@@ -1,7 +1,13 @@
 use mathlib.Core.Path.{_∙_}
+use Rattle.definition.specs.Names.{compareNames, sameName, bytesAt}
+use Rattle.name.proofs.Laws.{same-told}
+use borrow.Author.Needs.{needs}
 use Rattle.name.proofs.same_span.Statement.{statement}
 use Rattle.name.proofs.same_span.Tie as tie
-use borrow.Author.Needs.{needs}
+use Rattle.name.proofs.same_span.Reads as reads
+use Rattle.name.proofs.same_span.Lts as lts
+use Rattle.name.proofs.bytes_at.Reads as bytes-at-reads
+use Rattle.name.proofs.compare.Reads as compare-reads
 
 bytes-at-requires : tie.Need-bytes-at-requires
 bytes-at-requires c κs = search needs
@@ -9,12 +15,37 @@ bytes-at-requires c κs = search needs
 bytes-at-requires-2 : tie.Need-bytes-at-requires-2
 bytes-at-requires-2 c κs = search needs
 
-same-name-requires : tie.Need-same-name-requires
-same-name-requires c κs = search needs
+compare-requires : tie.Need-compare-requires
+compare-requires c κs = search needs
+
+enum-told : tie.Need-enum-told
+enum-told c = search needs
+
+enum-told-2 : tie.Need-enum-told-2
+enum-told-2 c = search needs
+
+enum-told-3 : tie.Need-enum-told-3
+enum-told-3 c = search needs
 
 returns : tie.Need-returns
-returns c = c .same-name .ensures ∙ rw (c .before .before .bytes-at .ensures .bytes, c .before .bytes-at2 .ensures .bytes)
+returns c = same-told _ _ _ _ (c .before .before .compare .ensures) (c .enum-told .given .1) ∙ rw (c .before .before .before .before .bytes-at .ensures .bytes, c .before .before .before .bytes-at2 .ensures .bytes)
+
+returns-2 : tie.Need-returns-2
+returns-2 c = same-told _ _ _ _ (c .before .before .compare .ensures) (c .enum-told2 .given .1) ∙ rw (c .before .before .before .before .bytes-at .ensures .bytes, c .before .before .before .bytes-at2 .ensures .bytes)
+
+returns-3 : tie.Need-returns-3
+returns-3 c = same-told _ _ _ _ (c .before .before .compare .ensures) (c .enum-told3 .given .1) ∙ rw (c .before .before .before .before .bytes-at .ensures .bytes, c .before .before .before .bytes-at2 .ensures .bytes)
 
 pub same-span-spec : {M : Type 1} → statement M
 same-span-spec =
-    tie.close (tie.spec bytes-at-requires bytes-at-requires-2 same-name-requires returns)
+    tie.close
+    (tie.spec
+    bytes-at-requires
+    bytes-at-requires-2
+    compare-requires
+    enum-told
+    enum-told-2
+    enum-told-3
+    returns
+    returns-2
+    returns-3)

@@ -2,7 +2,7 @@ use mathlib.Core.Path.{refl, _∙_}
 use mathlib.Core.List.{[], _∷_}
 use native.Mathlib.Omega.{arith}
 use Rattle.definition.specs.Lists.{all, any}
-use Rattle.definition.specs.Names.{sameName, bytes}
+use Rattle.definition.specs.Names.{sameName, bytes, compareNames}
 use Rattle.definition.specs.Grammar.{words, placeOf, sortOfName}
 use Rattle.parser_lexer.proofs.NameLaws.{alone, only, deciding, no-byte}
 use Rattle.parser_lexer.proofs.words.sort_of_five.Statement.{statement}
@@ -19,7 +19,7 @@ sort-if-requires : tie.Need-sort-if-requires
 sort-if-requires c κs = search needs
 
 returns : tie.Need-returns
-unfolding alone all words bytes sameName placeOf sortOfName
+unfolding alone all words bytes sameName compareNames placeOf sortOfName
 returns c = c .sort-if .ensures ∙ only (c .before .before .before .before .before .args .text .now) (c .before .before .before .before .before .args .at) 5
     (c .before .before .before .before .before .pre) (bytes "false") 0 (c .before .before .before .before .before .args .at) (omega arith) refl
     (c .before .before .match .keys1)
@@ -31,7 +31,7 @@ sort-if-requires-2 : tie.Need-sort-if-requires-2
 sort-if-requires-2 c κs = search needs
 
 returns-2 : tie.Need-returns-2
-unfolding alone all words bytes sameName placeOf sortOfName
+unfolding alone all words bytes sameName compareNames placeOf sortOfName
 returns-2 c = c .sort-if2 .ensures ∙ only (c .before .before .before .before .before .args .text .now)
     (c .before .before .before .before .before .args .at) 5 (c .before .before .before .before .before .pre) (bytes "union") 0
     (c .before .before .before .before .before .args .at) (omega arith) refl (c .before .before .match .keys2)
@@ -43,7 +43,7 @@ sort-if-requires-3 : tie.Need-sort-if-requires-3
 sort-if-requires-3 c κs = search needs
 
 returns-3 : tie.Need-returns-3
-unfolding alone all words bytes sameName placeOf sortOfName
+unfolding alone all words bytes sameName compareNames placeOf sortOfName
 returns-3 c = c .sort-if3 .ensures ∙ only (c .before .before .before .before .before .args .text .now)
     (c .before .before .before .before .before .args .at) 5 (c .before .before .before .before .before .pre) (bytes "input") 0
     (c .before .before .before .before .before .args .at) (omega arith) refl (c .before .before .match .keys3)
@@ -55,7 +55,7 @@ sort-if-requires-4 : tie.Need-sort-if-requires-4
 sort-if-requires-4 c κs = search needs
 
 returns-4 : tie.Need-returns-4
-unfolding alone all words bytes sameName placeOf sortOfName
+unfolding alone all words bytes sameName compareNames placeOf sortOfName
 returns-4 c = c .sort-if4 .ensures ∙ only (c .before .before .before .before .before .args .text .now)
     (c .before .before .before .before .before .args .at) 5 (c .before .before .before .before .before .pre) (bytes "query") 0
     (c .before .before .before .before .before .args .at) (omega arith) refl (c .before .before .match .keys4)
@@ -67,7 +67,7 @@ sort-if-requires-5 : tie.Need-sort-if-requires-5
 sort-if-requires-5 c κs = search needs
 
 returns-5 : tie.Need-returns-5
-unfolding alone all words bytes sameName placeOf sortOfName
+unfolding alone all words bytes sameName compareNames placeOf sortOfName
 returns-5 c = c .sort-if5 .ensures ∙ only (c .before .before .before .before .before .args .text .now)
     (c .before .before .before .before .before .args .at) 5 (c .before .before .before .before .before .pre) (bytes "QUERY") 0
     (c .before .before .before .before .before .args .at) (omega arith) refl (c .before .before .match .keys5)
@@ -79,7 +79,7 @@ sort-if-requires-6 : tie.Need-sort-if-requires-6
 sort-if-requires-6 c κs = search needs
 
 returns-6 : tie.Need-returns-6
-unfolding alone all words bytes sameName placeOf sortOfName
+unfolding alone all words bytes sameName compareNames placeOf sortOfName
 returns-6 c = c .sort-if6 .ensures ∙ only (c .before .before .before .before .before .args .text .now)
     (c .before .before .before .before .before .args .at) 5 (c .before .before .before .before .before .pre) (bytes "FIELD") 0
     (c .before .before .before .before .before .args .at) (omega arith) refl (c .before .before .match .keys6)
@@ -91,7 +91,7 @@ sort-if-requires-7 : tie.Need-sort-if-requires-7
 sort-if-requires-7 c κs = search needs
 
 returns-7 : tie.Need-returns-7
-unfolding alone all words bytes sameName placeOf sortOfName
+unfolding alone all words bytes sameName compareNames placeOf sortOfName
 returns-7 c = c .sort-if7 .ensures ∙ only (c .before .before .before .before .before .args .text .now)
     (c .before .before .before .before .before .args .at) 5 (c .before .before .before .before .before .pre) (bytes "UNION") 0
     (c .before .before .before .before .before .args .at) (omega arith) refl (c .before .before .match .keys7)

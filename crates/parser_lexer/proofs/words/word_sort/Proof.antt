@@ -1,7 +1,7 @@
 use mathlib.Core.Path.{refl, _∙_}
 use mathlib.Core.List.{[], _∷_}
 use Rattle.definition.specs.Lists.{all, any}
-use Rattle.definition.specs.Names.{sameName, bytes}
+use Rattle.definition.specs.Names.{sameName, bytes, compareNames}
 use Rattle.definition.specs.Grammar.{words, placeOf, sortOfName}
 use Rattle.parser_lexer.proofs.NameLaws.{lone, only-size, sizes, no-size}
 use Rattle.parser_lexer.proofs.words.word_sort.Statement.{statement}
@@ -15,7 +15,7 @@ sort-if-requires : tie.Need-sort-if-requires
 sort-if-requires c κs = search needs
 
 returns : tie.Need-returns
-unfolding lone all words bytes sameName placeOf sortOfName
+unfolding lone all words bytes sameName compareNames placeOf sortOfName
 returns c = c .sort-if .ensures ∙ only-size (c .before .before .before .before .args .text .now) (c .before .before .before .before .args .at)
     (c .before .before .before .before .args .size) (c .before .before .before .before .pre) (bytes "on") (c .before .before .match .keys1) refl
 
@@ -74,7 +74,7 @@ sort-if-requires-2 : tie.Need-sort-if-requires-2
 sort-if-requires-2 c κs = search needs
 
 returns-10 : tie.Need-returns-10
-unfolding lone all words bytes sameName placeOf sortOfName
+unfolding lone all words bytes sameName compareNames placeOf sortOfName
 returns-10 c = c .sort-if2 .ensures ∙ only-size (c .before .before .before .before .args .text .now) (c .before .before .before .before .args .at)
     (c .before .before .before .before .args .size) (c .before .before .before .before .pre) (bytes "FIELD_DEFINITION")
     (c .before .before .match .keys10) refl
@@ -92,7 +92,7 @@ sort-if-requires-3 : tie.Need-sort-if-requires-3
 sort-if-requires-3 c κs = search needs
 
 returns-12 : tie.Need-returns-12
-unfolding lone all words bytes sameName placeOf sortOfName
+unfolding lone all words bytes sameName compareNames placeOf sortOfName
 returns-12 c = c .sort-if3 .ensures ∙ only-size (c .before .before .before .before .args .text .now) (c .before .before .before .before .args .at)
     (c .before .before .before .before .args .size) (c .before .before .before .before .pre) (bytes "INPUT_FIELD_DEFINITION")
     (c .before .before .match .keys12) refl

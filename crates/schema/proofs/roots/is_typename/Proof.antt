@@ -12,16 +12,16 @@ returns c = typename-low _ _ (c .if1 .taken)
 returns-2 : tie.Need-returns-2
 returns-2 c = typename-high _ _ (c .if2 .taken)
 
-slice-aggregate-same-name : tie.Need-slice-aggregate-same-name
-slice-aggregate-same-name c = search needs
+slice-aggregate-is-same : tie.Need-slice-aggregate-is-same
+slice-aggregate-is-same c = search needs
 
-same-name-requires : tie.Need-same-name-requires
-same-name-requires c κs = search needs
+is-same-requires : tie.Need-is-same-requires
+is-same-requires c κs = search needs
 
 returns-3 : tie.Need-returns-3
 unfolding bytes
-returns-3 c = c .same-name .ensures ∙ typename-named _ _ (c .before .before .before .if1 .left) (c .before .before .if2 .left)
+returns-3 c = c .is-same .ensures ∙ typename-named _ _ (c .before .before .before .if1 .left) (c .before .before .if2 .left)
 
 pub is-typename-spec : {M : Type 1} → statement M
 is-typename-spec =
-    tie.close (tie.spec returns returns-2 slice-aggregate-same-name same-name-requires returns-3)
+    tie.close (tie.spec returns returns-2 slice-aggregate-is-same is-same-requires returns-3)

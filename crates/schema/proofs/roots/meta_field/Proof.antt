@@ -21,11 +21,11 @@ returns-2 c =
     meta-plain _ _ _ _ _ _ (sym (c .before .before .before .is-typename .ensures) ∙ c .before .before .if1 .left)
     (sym (c .before .is-query-root .ensures) ∙ not-true _ (c .if2 .taken))
 
-slice-aggregate-same-name : tie.Need-slice-aggregate-same-name
-slice-aggregate-same-name c = search needs
+slice-aggregate-is-same : tie.Need-slice-aggregate-is-same
+slice-aggregate-is-same c = search needs
 
-same-name-requires : tie.Need-same-name-requires
-same-name-requires c κs = search needs
+is-same-requires : tie.Need-is-same-requires
+is-same-requires c κs = search needs
 
 returns-3 : tie.Need-returns-3
 unfolding bytes
@@ -33,13 +33,13 @@ returns-3 c =
     meta-schema _ _ _ _ _ _ (sym (c .before .before .before .before .before .before .is-typename .ensures)
     ∙ c .before .before .before .before .before .if1 .left)
     (sym (c .before .before .before .before .is-query-root .ensures) ∙ not-false _ (c .before .before .before .if2 .left))
-    (sym (c .before .same-name .ensures) ∙ c .if3 .taken)
+    (sym (c .before .is-same .ensures) ∙ c .if3 .taken)
 
-slice-aggregate-same-name-2 : tie.Need-slice-aggregate-same-name-2
-slice-aggregate-same-name-2 c = search needs
+slice-aggregate-is-same-2 : tie.Need-slice-aggregate-is-same-2
+slice-aggregate-is-same-2 c = search needs
 
-same-name-requires-2 : tie.Need-same-name-requires-2
-same-name-requires-2 c κs = search needs
+is-same-requires-2 : tie.Need-is-same-requires-2
+is-same-requires-2 c κs = search needs
 
 returns-4 : tie.Need-returns-4
 unfolding bytes
@@ -48,7 +48,7 @@ returns-4 c =
     ∙ c .before .before .before .before .before .before .before .before .if1 .left)
     (sym (c .before .before .before .before .before .before .before .is-query-root .ensures)
     ∙ not-false _ (c .before .before .before .before .before .before .if2 .left))
-    (sym (c .before .before .before .before .same-name .ensures) ∙ c .before .before .before .if3 .left) (sym (c .before .same-name2 .ensures) ∙ c .if4 .taken)
+    (sym (c .before .before .before .before .is-same .ensures) ∙ c .before .before .before .if3 .left) (sym (c .before .is-same2 .ensures) ∙ c .if4 .taken)
 
 returns-5 : tie.Need-returns-5
 unfolding bytes
@@ -57,7 +57,7 @@ returns-5 c =
     ∙ c .before .before .before .before .before .before .before .before .if1 .left)
     (sym (c .before .before .before .before .before .before .before .is-query-root .ensures)
     ∙ not-false _ (c .before .before .before .before .before .before .if2 .left))
-    (sym (c .before .before .before .before .same-name .ensures) ∙ c .before .before .before .if3 .left) (sym (c .before .same-name2 .ensures) ∙ c .if4 .left)
+    (sym (c .before .before .before .before .is-same .ensures) ∙ c .before .before .before .if3 .left) (sym (c .before .is-same2 .ensures) ∙ c .if4 .left)
 
 pub meta-field-spec : {M : Type 1} → statement M
 meta-field-spec =
@@ -67,10 +67,10 @@ meta-field-spec =
     returns
     is-query-root-requires
     returns-2
-    slice-aggregate-same-name
-    same-name-requires
+    slice-aggregate-is-same
+    is-same-requires
     returns-3
-    slice-aggregate-same-name-2
-    same-name-requires-2
+    slice-aggregate-is-same-2
+    is-same-requires-2
     returns-4
     returns-5)
