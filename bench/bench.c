@@ -43,19 +43,6 @@ static long read_file(const char *folder, const char *name, void *into) {
     return (long)size;
 }
 
-/* Those of the folder's two switches that are 1, behind document 0. */
-static void turn_switches_on(const char *folder) {
-    static char switches[FILE_BYTES];
-    read_file(folder, "switches", switches);
-    struct gimletaspen_answer answer = {0, 0};
-    if (switches[0] == '1')
-        answer = gimletaspen_adopt_orphan_extensions(STORE);
-    if (switches[0] && switches[1] == '1' && !answer.number)
-        answer = gimletaspen_ignore_builtin_redefinitions(STORE);
-    if (answer.number)
-        fail("a switch was refused");
-}
-
 static void file_documents(const char *folder) {
     for (int number = 0;; number++) {
         char name[32];
@@ -71,8 +58,6 @@ static void file_documents(const char *folder) {
             : gimletaspen_add_ast(STORE, document, (size_t)size, cards, card_words);
         if (answer.number)
             fail("a document was refused");
-        if (number == 0)
-            turn_switches_on(folder);
     }
 }
 

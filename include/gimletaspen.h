@@ -34,9 +34,6 @@ extern "C" {
 #define GIMLETASPEN_GROUP_WORDS 9200    /* a slice for groups of implementers */
 #define GIMLETASPEN_READ_CARD_WORDS 11500 /* a slice for the cards of a text that is read: 2,300 of five words */
 
-/* Stack, as measured on x86-64: up to 250 KB for gimletaspen_build, 185 KB for gimletaspen_implementers_map, 121 KB for every other call. Nothing is
- * allocated. */
-
 /* How many words one card has, and one row or error row. */
 #define GIMLETASPEN_CARD_WORDS 5
 #define GIMLETASPEN_WORDS_PER_ROW 3

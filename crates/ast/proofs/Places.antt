@@ -137,9 +137,9 @@ two_places d lo hi n5 n6 n7 = go (eqb d 4) refl (eqb d 8) refl (eqb d 9) refl
 pub place_by : (e d k r : ℕ) → e ≡ d → r ≡ place_in (part_order d) k → r ≡ place_in (part_order e) k
 place_by e d k r h t = t ∙ ap (λ (x : ℕ). place_in (part_order x) k) (sym h)
 
-pub no_place_lem : (d k : ℕ) → part_order d ≡ [] → place_in (part_order d) k ≡ 0
+pub no_place : (d k : ℕ) → part_order d ≡ [] → place_in (part_order d) k ≡ 0
 unfolding place_in
-no_place_lem d k e = simp e
+no_place d k e = simp e
 
 pub none_of : (d : ℕ) → part_order d ≡ [] → length (part_order d) ≡ 0
 none_of d e = simp e

@@ -1,3 +1,2 @@
 mod Walk
 mod CardFaults
-mod Passing

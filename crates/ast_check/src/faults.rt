@@ -22,7 +22,7 @@ pub struct Neighbours {
     pub sibling: Neighbour,
 }
 
-pub fn item_end(card: Card) -> usize
+fn item_end(card: Card) -> usize
     ensures { result ≡ item_end (card_of card) }
 {
     card.item_at as usize + card.item_len as usize

@@ -16,10 +16,10 @@ use Rattle.definition.specs.Store.{cards_used_of}
 use Rattle.definition.proofs.Lists.{filter_yes, filter_no, same_name_eq, same_name_refl}
 use Rattle.definition.proofs.All.{all_filter, all_firsts, all_every, all_to}
 use Rattle.store_reader.specs.Stored.{card_name, built_in_at}
-use Rattle.from_ast_index.specs.Index.{heading_number, standing_card, names_directive, standing_at}
+use Rattle.from_ast_index.specs.Index.{heading_number}
 use Rattle.from_ast_index.proofs.Lists.{chosen_both, filter_map, filter_both, firsts_map}
 use Rattle.component.specs.Pushed.{alike_rows}
-use Rattle.component.specs.RowsByCards.{same_stored, directive_rows_of, directive_rows_at}
+use Rattle.component.specs.RowsByCards.{same_stored, standing_card, names_directive, standing_at, directive_rows_of, directive_rows_at}
 use Rattle.component.proofs.Blocks.{At, at_kind, at_name, flat_picked, filter_passes, same_names}
 
 -- ---- Lists.

@@ -1,8 +1,6 @@
 -- Pushes of rows and walks that make them; then, that the rows by the numbers of cards are those of the definitions.
 pub mod Pushing
 pub mod Sticky
-mod Pigeons
-pub mod Places
 pub mod Listed
 pub mod Turns
 pub mod Matching

@@ -138,18 +138,6 @@ row_written ws u r h = λ j. record {
   origin = get_d_inside ws (3 * u) (words_of_row r) 2 (omega arith) h j;
 }
 
--- Of the row that was pushed, and of those before it.
-module _ (s : Filled) (r : Row) (capacity : 3 * s.used ≤ length s.rows) where
-  pub pushed_stays : (i : ℕ) → i < s.used → row_in (pushed (r ∷ []) s).rows i ≡ row_in s.rows i
-  unfolding pushed
-  pushed_stays i h = row_stays s.rows s.used (flat_map words_of_row (r ∷ [])) capacity i h
-
-  pub pushed_row : row_in (pushed (r ∷ []) s).rows s.used ≡ r
-  unfolding pushed flat_map
-  pushed_row =
-      ap (λ (l : List ℕ). row_in (written s.rows (3 * s.used) l) s.used) (append-nil (words_of_row r))
-      ∙ row_written s.rows s.used r capacity
-
 module _ (start : ℕ) where
   pub used_none : (s : Filled) → s.used ≡ start → used_from start s ≡ []
   unfolding used_from rows_from

@@ -1,29 +1,152 @@
 -- One law for each way that a turn of a loop, or a branch, can go.
-use mathlib.Core.Path.{◌≡◌, refl, sym, ap, ◌∙◌}
+use mathlib.Core.Path.{◌≡◌, refl, sym, ap, ◌∙◌, subst}
 use mathlib.Core.Bool.{Bool, true, false, ◌&&◌}
 use mathlib.Core.List.{List, [], ◌∷◌, ◌++◌, map}
-use Prim.Native.Nat.{ℕ, ◌+◌, ◌*◌, ◌≤◌, ◌<◌}
-use borrow.Author.Tests.{eq-eqb, ne_eqb}
-use lib.Dec.{leb}
-use Rattle.definition.specs.Lists.{filter, flat_map}
+use Prim.Native.Nat.{ℕ, zero, suc, ◌+◌, ◌-◌, ◌*◌, ◌≤◌, ◌<◌}
+use native.Mathlib.Omega.{arith}
+use borrow.Author.Tests.{eq-eqb, ne_eqb, lt-ltb, le-ltb}
+use lib.Dec.{eqb, leb}
+use lib.ListN.{length, get_or, drop}
+use Rattle.definition.specs.Lists.{choose, filter, any, flat_map}
 use Rattle.definition.specs.Answers.{absent}
-use Rattle.definition.specs.Cards.{is_part, definition_of}
-use Rattle.definition.specs.Headings.{NamedCard}
+use Rattle.definition.specs.Cards.{is_root, is_part, definition_of}
+use Rattle.definition.specs.Headings.{NamedCard, is_of, is_kind, is_named}
 use Rattle.definition.specs.Catalogue.{component, components, Row, row, component_row, is_component_of, under_type}
 use Rattle.definition.specs.Store.{cards_used_of}
-use Rattle.from_ast_index.specs.Index.{is_type_extension_kind, standing_at}
-use Rattle.store_reader.specs.Stored.{card_kind, card_at, parts_from, stored_parts}
+use Rattle.definition.proofs.Lists.{filter_yes, filter_no}
+use Rattle.from_ast_index.specs.Index.{same_cards, is_type_extension_kind}
+use Rattle.from_ast_index.proofs.Lists.{drop_next, drop_end}
+use Rattle.store_reader.specs.Stored.{card_kind, card_at, built_in_count, built_in_at, parts_from, stored_parts}
 use Rattle.store_reader.proofs.Words.{parts_next, parts_stop, parts_end}
-use Rattle.component.specs.Pushed.{Filled, Fits, pushed, extend_sticky, rows_of_kind}
+use Rattle.component.specs.Pushed.{Filled, filled, Fits, row_in, rows_from, used_from, place_of, alike_rows, pushed, extend_sticky, rows_of_kind}
 use Rattle.component.specs.RowsByCards.{same_stored, head_rows, extend_by_card, extend_by_heading, extension_rows, list_rows, list_at, lists_at}
-use Rattle.component.specs.RowsByCards.{type_row_at, directive_rows_of, directive_rows_at}
+use Rattle.component.specs.RowsByCards.{type_row_at, standing_card, names_directive, standing_at, directive_rows_of, directive_rows_at}
 use Rattle.component.proofs.Pushing.{Left, rest_begin}
-use Rattle.component.proofs.Sticky.{extended_none, Growing, Extending, grow_fresh, grow_begin, grow_end, grow_capacity, grow_next}
+use Rattle.component.proofs.Sticky.{extended_none, extended_old, extended_new, capacity_new, Growing, Extending, grow_fresh, grow_begin, grow_end, grow_capacity, grow_next}
 use Rattle.component.proofs.Listed.{kind_append}
+
+-- ---- Two stored cards.
+
+module _ (text words : List ℕ) (a b : ℕ) where
+  pub stored_not_first : cards_used_of words ≤ a → same_stored text words a b ≡ false
+  unfolding same_stored
+  stored_not_first h = rw (le-ltb a (cards_used_of words) h)
+
+  pub stored_not_second : a < cards_used_of words → cards_used_of words ≤ b → same_stored text words a b ≡ false
+  unfolding same_stored
+  stored_not_second h k = rw (lt-ltb a (cards_used_of words) h, le-ltb b (cards_used_of words) k)
+
+  pub stored_both : a < cards_used_of words → b < cards_used_of words → same_stored text words a b ≡ same_cards text words a b
+  unfolding same_stored
+  stored_both h k = rw (lt-ltb a (cards_used_of words) h, lt-ltb b (cards_used_of words) k)
+
+-- ---- The search for a row that a part is like.
 
 pub and_false : (b : Bool) → (b && false) ≡ false
 and_false true = refl
 and_false false = refl
+
+module _ (same : ℕ → ℕ → Bool) (kind card : ℕ) where
+  use_unlike : (s : Row) → kind ≡ 20 → alike_rows same (row kind card 0) s ≡ false
+  unfolding alike_rows is_root
+  use_unlike s e = rw e (and_false (eqb 20 s.what))
+
+  pub alike_use : (used i : ℕ) (rs : List Row) → kind ≡ 20 → place_of (alike_rows same (row kind card 0)) used i rs ≡ used
+  unfolding place_of
+  alike_use used i [] e = refl
+  alike_use used i (r ∷ rs) e = rw (use_unlike r e, alike_use used (i + 1) rs e)
+
+  module _ (ws : List ℕ) (used i : ℕ) where
+    next_row : i < used → rows_from ws i (used - i) ≡ row_in ws i ∷ rows_from ws (i + 1) (used - (i + 1))
+    unfolding rows_from
+    next_row h = let e : used - i ≡ suc (used - (i + 1)) = omega arith in rw e
+
+    pub alike_root : i < used → get_or ws (3 * i) 0 ≡ kind → is_root kind ≡ true →
+        place_of (alike_rows same (row kind card 0)) used i (rows_from ws i (used - i)) ≡ i
+    unfolding place_of alike_rows row_in
+    alike_root h e l = rw (next_row h, e, eq-eqb kind kind refl, l)
+
+    pub alike_hit : i < used → get_or ws (3 * i) 0 ≡ kind → is_root kind ≡ false → (kind ≡ 20 → ⊥) → same card (get_or ws (3 * i + 1) 0) ≡ true →
+        place_of (alike_rows same (row kind card 0)) used i (rows_from ws i (used - i)) ≡ i
+    unfolding place_of alike_rows row_in
+    alike_hit h e l m s = rw (next_row h, e, eq-eqb kind kind refl, l, ne_eqb kind 20 m, s)
+
+    pub alike_miss : i < used → get_or ws (3 * i) 0 ≡ kind → is_root kind ≡ false → (kind ≡ 20 → ⊥) → same card (get_or ws (3 * i + 1) 0) ≡ false →
+        place_of (alike_rows same (row kind card 0)) used i (rows_from ws i (used - i)) ≡
+        place_of (alike_rows same (row kind card 0)) used (i + 1) (rows_from ws (i + 1) (used - (i + 1)))
+    unfolding place_of alike_rows row_in
+    alike_miss h e l m s = rw (next_row h, e, eq-eqb kind kind refl, l, ne_eqb kind 20 m, s)
+
+    pub alike_other : i < used → (get_or ws (3 * i) 0 ≡ kind → ⊥) →
+        place_of (alike_rows same (row kind card 0)) used i (rows_from ws i (used - i)) ≡
+        place_of (alike_rows same (row kind card 0)) used (i + 1) (rows_from ws (i + 1) (used - (i + 1)))
+    unfolding place_of alike_rows row_in
+    alike_other h e = rw (next_row h, ne_eqb kind (get_or ws (3 * i) 0) (λ q. e (sym q)))
+
+    pub alike_end : used ≤ i → place_of (alike_rows same (row kind card 0)) used i (rows_from ws i (used - i)) ≡ used
+    unfolding place_of rows_from
+    alike_end h = let e : used - i ≡ 0 = omega arith in rw e
+
+-- A place among the rows is that of a row which passes; of no others is there none.
+module _ (p : Row → Bool) (none : ℕ) where
+  pub place_old : (i : ℕ) (rs : List Row) → place_of p none i rs < none → any p rs ≡ true
+  unfolding place_of any
+  place_old i [] h = absurd (omega arith)
+  place_old i (r ∷ rs) h = go (p r) h (place_old (i + 1) rs)
+    where
+      go : (b : Bool) → choose b i (place_of p none (i + 1) rs) < none → (place_of p none (i + 1) rs < none → any p rs ≡ true) →
+          choose b true (any p rs) ≡ true
+      go true h k = refl
+      go false h k = k h
+
+  pub place_new : (i : ℕ) (rs : List Row) → length rs ≤ none - i → none ≤ place_of p none i rs → (any p rs ≡ false) × (place_of p none i rs ≡ none)
+  unfolding place_of any
+  place_new i [] l h = (refl, refl)
+  place_new i (r ∷ rs) l h = go (p r) h (place_new (i + 1) rs (omega arith))
+    where
+      go : (b : Bool) → none ≤ choose b i (place_of p none (i + 1) rs) →
+          (none ≤ place_of p none (i + 1) rs → (any p rs ≡ false) × (place_of p none (i + 1) rs ≡ none)) →
+          (choose b true (any p rs) ≡ false) × (choose b i (place_of p none (i + 1) rs) ≡ none)
+      go true h k = absurd (omega arith)
+      go false h k = k h
+
+-- The origin is not asked.
+alike_origin : (same : ℕ → ℕ → Bool) (kind card origin : ℕ) (rs : List Row) →
+    any (alike_rows same (row kind card 0)) rs ≡ any (alike_rows same (row kind card origin)) rs
+unfolding alike_rows
+alike_origin same kind card origin rs = refl
+
+length_rows : (ws : List ℕ) (i n : ℕ) → length (rows_from ws i n) ≡ n
+unfolding rows_from
+length_rows ws i zero = refl
+length_rows ws i (suc n) = ap suc (length_rows ws (i + 1) n)
+
+-- What is pushed of one row, by the place of the first row that it is like.
+module _ (same : ℕ → ℕ → Bool) (start kind card origin place used : ℕ) (ws : List ℕ)
+    (found : place ≡ place_of (alike_rows same (row kind card 0)) used start (used_from start (filled ws used))) where
+  pub placed_old : place < used → filled ws used ≡ extend_sticky same start (row kind card origin ∷ []) (filled ws used)
+  placed_old h =
+      let l = place_old (alike_rows same (row kind card 0)) used start (used_from start (filled ws used)) (subst (λ p. p < used) found h) in
+      sym (extended_old same start (row kind card origin) (filled ws used) (sym (alike_origin same kind card origin _) ∙ l))
+
+  module _ (h : used ≤ place) where
+    unlike : (any (alike_rows same (row kind card 0)) (used_from start (filled ws used)) ≡ false) × (place ≡ used)
+    unfolding used_from
+    unlike =
+        let n = length_rows ws start (used - start) in
+        let l = place_new (alike_rows same (row kind card 0)) used start (rows_from ws start (used - start)) (omega arith) (subst (λ p. used ≤ p) found h) in
+        (l.0, found ∙ l.1)
+
+    pub placed_new : pushed (row kind card origin ∷ []) (filled ws place) ≡ extend_sticky same start (row kind card origin ∷ []) (filled ws used)
+    placed_new =
+        ap (λ p. pushed (row kind card origin ∷ []) (filled ws p)) unlike.1
+        ∙ sym (extended_new same start (row kind card origin) (filled ws used) (sym (alike_origin same kind card origin _) ∙ unlike.0))
+
+    pub placed_capacity : (n : ℕ) → 3 * (extend_sticky same start (row kind card origin ∷ []) (filled ws used)).used ≤ n → 3 * (place + 1) ≤ n
+    placed_capacity n c =
+        let m = capacity_new same start (row kind card origin) (filled ws used) n (sym (alike_origin same kind card origin _) ∙ unlike.0) c in
+        let e = unlike.1 in
+        omega arith
 
 -- ---- The parts under a heading.
 
@@ -144,6 +267,47 @@ module _ (words : List ℕ) (card what : ℕ) (is : what ≡ definition_of (card
 pub one_capacity : (r : Row) (s : Filled) (n : ℕ) → 3 * (pushed (r ∷ []) s).used ≤ n → 3 * (s.used + 1) ≤ n
 unfolding pushed
 one_capacity r s n h = h
+
+-- ---- The directive definition that stands for a name.
+
+module _ (text words : List ℕ) (card n : ℕ) where
+  pub directive_other : (card_kind words n ≡ 3 → ⊥) → names_directive text words card n ≡ false
+  unfolding names_directive is_of is_kind
+  directive_other e = rw (ne_eqb (card_kind words n) 3 e)
+
+  pub directive_is : card_kind words n ≡ 3 → names_directive text words card n ≡ same_cards text words card n
+  unfolding names_directive is_of is_kind is_named same_cards
+  directive_is e = rw (eq-eqb (card_kind words n) 3 e)
+
+module _ (text words : List ℕ) (card : ℕ) (ns : List ℕ) (i last : ℕ) where
+  pub standing_other : i < length ns → names_directive text words card (get_or ns i 0) ≡ false →
+      standing_card (built_in_at words) last (filter (names_directive text words card) (drop i ns))
+      ≡ standing_card (built_in_at words) last (filter (names_directive text words card) (drop (i + 1) ns))
+  standing_other h e =
+      ap (standing_card (built_in_at words) last)
+      (ap (filter (names_directive text words card)) (drop_next ns i h) ∙ filter_no (names_directive text words card) (get_or ns i 0) (drop (i + 1) ns) e)
+
+  standing_cut : i < length ns → names_directive text words card (get_or ns i 0) ≡ true →
+      standing_card (built_in_at words) last (filter (names_directive text words card) (drop i ns))
+      ≡ standing_card (built_in_at words) last (get_or ns i 0 ∷ filter (names_directive text words card) (drop (i + 1) ns))
+  standing_cut h e =
+      ap (standing_card (built_in_at words) last)
+      (ap (filter (names_directive text words card)) (drop_next ns i h) ∙ filter_yes (names_directive text words card) (get_or ns i 0) (drop (i + 1) ns) e)
+
+  pub standing_found : i < length ns → names_directive text words card (get_or ns i 0) ≡ true → built_in_count words ≤ get_or ns i 0 →
+      standing_card (built_in_at words) last (filter (names_directive text words card) (drop i ns)) ≡ get_or ns i 0
+  unfolding standing_card built_in_at
+  standing_found h e b = standing_cut h e ∙ rw (le-ltb (get_or ns i 0) (built_in_count words) b)
+
+  pub standing_next : i < length ns → names_directive text words card (get_or ns i 0) ≡ true → get_or ns i 0 < built_in_count words →
+      standing_card (built_in_at words) last (filter (names_directive text words card) (drop i ns))
+      ≡ standing_card (built_in_at words) (get_or ns i 0) (filter (names_directive text words card) (drop (i + 1) ns))
+  unfolding standing_card built_in_at
+  standing_next h e b = standing_cut h e ∙ rw (lt-ltb (get_or ns i 0) (built_in_count words) b)
+
+  pub standing_end : length ns ≤ i → standing_card (built_in_at words) last (filter (names_directive text words card) (drop i ns)) ≡ last
+  unfolding standing_card filter
+  standing_end h = ap (λ (l : List ℕ). standing_card (built_in_at words) last (filter (names_directive text words card) l)) (drop_end ns i h)
 
 -- ---- A directive definition's row.
 

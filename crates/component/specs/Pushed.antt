@@ -1,6 +1,6 @@
 -- Rows pushed one after another into a lent slice: what stands in it so far, and how many of its rows are used.
 use Rattle.std.specs.Prelude.{List, [], ◌∷◌, map, Bool, ◌&&◌, ◌||◌, not, ℕ, zero, suc, ◌+◌, ◌-◌, ◌*◌, ◌≤◌, eqb, length, get_or}
-use Rattle.definition.specs.Lists.{filter, flat_map, firsts, written}
+use Rattle.definition.specs.Lists.{choose, filter, flat_map, firsts, written}
 use Rattle.definition.specs.Cards.{is_root}
 use Rattle.definition.specs.Catalogue.{Component, Row, row, component_row, is_component_of}
 use Rattle.definition.specs.Outcomes.{words_of_row}
@@ -30,6 +30,11 @@ rows_from ws i (suc n) = row_in ws i ∷ rows_from ws (i + 1) n
 
 unfoldable pub used_from : ℕ → Filled → List Row
 used_from start s = rows_from s.rows start (s.used - start)
+
+-- The place of the first of these rows that passes, where the first of them has the place i; `none` where there is none.
+unfoldable pub place_of : (Row → Bool) → ℕ → ℕ → List Row → ℕ
+place_of p none i [] = none
+place_of p none i (r ∷ rs) = let next = place_of p none (i + 1) rs in choose (p r) i next
 
 -- ---- The first of a name stays, asked of rows: `same` says of two cards, by their numbers, whether they have one name.
 

@@ -10,8 +10,8 @@ use Rattle.definition.specs.Names.{same_name}
 use Rattle.definition.specs.Headings.{is_of}
 use Rattle.definition.specs.Catalogue.{Row, row, component, components, under_type, under_schema, default_name}
 use Rattle.definition.specs.Store.{cards_used_of, stored_cards}
-use Rattle.store_reader.specs.Stored.{card_kind, card_name, card_at, heading_at, is_heading_card}
-use Rattle.from_ast_index.specs.Index.{same_cards, is_type_extension_kind, standing_at}
+use Rattle.store_reader.specs.Stored.{card_kind, card_name, card_at, built_in_at, heading_at, is_heading_card}
+use Rattle.from_ast_index.specs.Index.{same_cards, is_type_extension_kind}
 use Rattle.component.specs.Pushed.{Filled, alike_rows, extend_sticky, rows_of_kind}
 
 -- An array of numbers of stored cards.
@@ -102,6 +102,17 @@ abbrev pub all_types_rows_at : List ℕ → List ℕ → Bool → List ℕ → L
 all_types_rows_at text words adopt types orphans ns = types_rows_at text words types ns ++ choose adopt (types_rows_at text words orphans ns) []
 
 -- ---- Directive definitions. ns are all headings' cards.
+
+-- The first that is not built-in, else the last.
+unfoldable pub standing_card : (ℕ → Bool) → ℕ → List ℕ → ℕ
+standing_card built_in last [] = last
+standing_card built_in last (n ∷ ns) = let r = standing_card built_in n ns in choose (built_in n) r n
+
+unfoldable pub names_directive : List ℕ → List ℕ → ℕ → ℕ → Bool
+names_directive text words card n = is_of 3 (card_name text words card) (heading_at text words n)
+
+unfoldable pub standing_at : List ℕ → List ℕ → List ℕ → ℕ → ℕ
+standing_at text words ns card = standing_card (built_in_at words) absent (filter (names_directive text words card) ns)
 
 -- A directive definition brings the one that stands for its name.
 unfoldable pub directive_rows_of : List ℕ → List ℕ → List ℕ → ℕ → List Row

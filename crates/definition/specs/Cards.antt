@@ -189,9 +189,9 @@ unfoldable pub fault_from : List ℕ → ℕ → ℕ → ℕ → Option Card →
 fault_from bytes base size i h s [] = none
 fault_from bytes base size i h s (c ∷ cs) =
     let n = fault_among (place_after bytes base size h s c) c faults in
-    let under_heading = fault_from bytes base size (i + 1) h (some c) cs in
+    let underHeading = fault_from bytes base size (i + 1) h (some c) cs in
     let newHeading = fault_from bytes base size (i + 1) (some c) none cs in
-    let rest = choose (is_part c.kind) under_heading newHeading in
+    let rest = choose (is_part c.kind) underHeading newHeading in
     choose (eqb n 0) rest (some (answer n i))
 
 -- The first faulty card of a document whose text is the part of `size` bytes from `base` on.

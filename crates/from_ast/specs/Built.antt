@@ -2,7 +2,7 @@
 use Rattle.std.specs.Prelude.{◌≡◌, List, true, ℕ, ◌≤◌, length}
 use Rattle.definition.specs.Merge.{merge}
 use Rattle.definition.specs.Refusals.{rows_capacity, errors_capacity}
-use Rattle.definition.specs.Store.{words_capacity, cards_used_of, sound, account_in}
+use Rattle.definition.specs.Store.{words_capacity, sound, account_in}
 use Rattle.definition.specs.Outcomes.{merged_into}
 use Rattle.definition.specs.declared.Drawing.{Drawing}
 use Rattle.from_ast_errors.specs.declared.ErrorCounts.{ErrorCounts}
@@ -16,12 +16,6 @@ pub record BuildAsked (text words rows errors : List ℕ) : Type 0 where
   pub words_length : words_capacity ≤ length words
   pub rows_length : rows_capacity ≤ length rows
   pub errors_length : errors_capacity ≤ length errors
-
--- Scratch with a word for each card.
-pub record ScratchAsked (words table mine places : List ℕ) : Type 0 where
-  pub table_length : cards_used_of words ≤ length table
-  pub mine_length : cards_used_of words ≤ length mine
-  pub places_length : cards_used_of words ≤ length places
 
 abbrev pub Built : (text words rows₀ errors₀ : List ℕ) (r : Drawing) (rows errors : List ℕ) → Type 0
 Built text words rows₀ errors₀ r rows errors =

@@ -1,4 +1,4 @@
--- How many cards the arrays of each size serve, and how many words their tables have.
+-- How many cards the arrays of each size serve, and how many buckets they have.
 use Rattle.std.specs.Prelude.{ℕ}
 use Rattle.definition.specs.Refusals.{card_capacity}
 use Rattle.from_ast.specs.declared.sizes.Size.{Size}
@@ -10,15 +10,15 @@ small_cards = 64
 abbrev pub medium_cards : ℕ
 medium_cards = 512
 
--- The tables that names are numbered in.
-abbrev pub small_table : ℕ
-small_table = 288
+-- More buckets than cards, so that few names share one.
+abbrev pub small_buckets : ℕ
+small_buckets = 128
 
-abbrev pub medium_table : ℕ
-medium_table = 2080
+abbrev pub medium_buckets : ℕ
+medium_buckets = 1024
 
-abbrev pub large_table : ℕ
-large_table = 8224
+abbrev pub large_buckets : ℕ
+large_buckets = 8192
 
 abbrev pub cards_of : Size → ℕ
 cards_of Small = small_cards

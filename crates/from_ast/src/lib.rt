@@ -1,15 +1,15 @@
 // `SchemaBuilder::build_inner` of schema/from_ast.rs: a store is indexed and built over local arrays of one of three sizes.
-ghost use Rattle.std.specs.Prelude.{◌≡◌, ◌≤◌, take};
+ghost use Rattle.std.specs.Prelude.{◌≡◌, ◌≤◌, length, take};
 ghost use Rattle.definition.specs.Refusals.{card_capacity};
 ghost use Rattle.definition.specs.Store.{cards_used_of};
-ghost use Rattle.from_ast_index.specs.Index.{Indexed, Chained, DirectivesAre};
+ghost use Rattle.from_ast_index.specs.Index.{Indexed, Spanned};
 ghost use Rattle.from_ast_indexing.specs.Steps.{IndexAsked};
-ghost use Rattle.from_ast.specs.Built.{drawing_of, BuildAsked, ScratchAsked, Built};
+ghost use Rattle.from_ast.specs.Built.{drawing_of, BuildAsked, Built};
 ghost use Rattle.from_ast.specs.Sizes.{small_cards, medium_cards};
 
-use crate::sizes::{LARGE_TABLE, MEDIUM_CARDS, MEDIUM_TABLE, SMALL_CARDS, SMALL_TABLE, Size};
+use crate::sizes::{LARGE_BUCKETS, MEDIUM_BUCKETS, MEDIUM_CARDS, SMALL_BUCKETS, SMALL_CARDS, Size};
 use definition::layout::CARD_CAPACITY;
-use definition::{Drawing, layout};
+use definition::{ABSENT, Drawing, layout};
 use from_ast_errors::ErrorCounts;
 use from_ast_index::Counts;
 
@@ -29,81 +29,73 @@ fn drawing_of(rows: u32, told: ErrorCounts) -> Drawing
     }
 }
 
-// Builds an indexed store: rows first, then errors by the rows. `mine` and `places` serve the rows and then the errors, which use the table too.
+// Builds an indexed store: rows first, then errors by the rows. The scratch serves the rows and then the errors.
 fn build_indexed(
     text: &[u8],
     words: &[u32],
     headings: &[u32],
-    numbers: &[u32],
+    hashes: &[u32],
     owners: &[u32],
     types: &[u32],
     orphans: &[u32],
     extensions: &[u32],
-    heads: &[u32],
-    nexts: &[u32],
-    standing: &[u32],
+    starts: &[u32],
+    ends: &[u32],
     counts: Counts,
-    table: &mut [u32],
-    mine: &mut [u32],
-    places: &mut [u32],
+    scratch: &mut [u32],
     rows: &mut [u32],
     errors: &mut [u32],
 ) -> Drawing
     requires { BuildAsked text.now words.now rows.old errors.old
-        × Indexed text.now words.now headings.now numbers.now owners.now types.now orphans.now extensions.now
+        × Indexed text.now words.now headings.now hashes.now owners.now types.now orphans.now extensions.now
         counts.headings counts.types counts.orphans counts.extensions
-        × Chained words.now numbers.now (take counts.extensions extensions.now) heads.now nexts.now
-        × DirectivesAre text.now words.now numbers.now (take counts.headings headings.now) standing.now
-        × ScratchAsked words.now table.old mine.old places.old }
+        × Spanned words.now owners.now (take counts.extensions extensions.now) starts.now ends.now
+        × (cards_used_of words.now ≤ length scratch.old) }
     ensures { Built text.now words.now rows.old errors.old result
         rows.new errors.new }
 {
     let adopt = words[layout::ADOPT_SWITCH] == 1;
     let used = from_ast_rows::write_rows(
-        text, words, headings, numbers, types, orphans, extensions, heads, nexts, standing, counts,
-        adopt, mine, places, rows,
+        text, words, headings, hashes, types, orphans, extensions, starts, ends, counts, adopt,
+        scratch, rows,
     );
     let told = from_ast_errors::write_errors(
-        text, words, headings, numbers, owners, types, orphans, extensions, heads, nexts, standing,
-        counts, adopt, rows, used, places, mine, table, errors,
+        text, words, headings, hashes, owners, orphans, extensions, starts, ends, counts, adopt,
+        rows, used, scratch, errors,
     );
     drawing_of(used as u32, told)
 }
 
-// Builds a sound store over arrays that have a word for each of its cards; one more heading marks the end. In a table with some words for each card
-// a name's number is found in a few steps.
+// Builds a sound store over arrays that have a word for each of its cards; one more heading marks the end. With more words in `buckets` than
+// types, each larger than any place, a type's name is seldom sought among others; `build_indexed` then uses them as its scratch.
 fn build_store(
     text: &[u8],
     words: &[u32],
     headings: &mut [u32],
-    numbers: &mut [u32],
+    hashes: &mut [u32],
     owners: &mut [u32],
     types: &mut [u32],
     orphans: &mut [u32],
     extensions: &mut [u32],
-    heads: &mut [u32],
-    nexts: &mut [u32],
-    standing: &mut [u32],
-    table: &mut [u32],
-    mine: &mut [u32],
-    places: &mut [u32],
+    starts: &mut [u32],
+    ends: &mut [u32],
+    buckets: &mut [u32],
     rows: &mut [u32],
     errors: &mut [u32],
 ) -> Drawing
     requires { BuildAsked text.now words.now rows.old errors.old
-        × IndexAsked text.now words.now headings.old numbers.old owners.old types.old orphans.old extensions.old
-        heads.old nexts.old standing.old table.old
-        × ScratchAsked words.now table.old mine.old places.old }
+        × IndexAsked text.now words.now headings.old hashes.old owners.old types.old orphans.old extensions.old
+        starts.old ends.old buckets.old
+        × (cards_used_of words.now ≤ length buckets.old) }
     ensures { Built text.now words.now rows.old errors.old result
         rows.new errors.new }
 {
     let counts = from_ast_indexing::index(
-        text, words, headings, numbers, owners, types, orphans, extensions, heads, nexts, standing,
-        table,
+        text, words, headings, hashes, owners, types, orphans, extensions, starts, ends, buckets,
     );
     build_indexed(
-        text, words, headings, numbers, owners, types, orphans, extensions, heads, nexts, standing,
-        counts, table, mine, places, rows, errors,
+        text, words, headings, hashes, owners, types, orphans, extensions, starts, ends, counts,
+        buckets, rows, errors,
     )
 }
 
@@ -115,32 +107,26 @@ fn build_small(text: &[u8], words: &[u32], rows: &mut [u32], errors: &mut [u32])
         rows.new errors.new }
 {
     let mut headings = [0u32; SMALL_CARDS + 1];
-    let mut numbers = [0u32; SMALL_CARDS];
+    let mut hashes = [0u32; SMALL_CARDS];
     let mut owners = [0u32; SMALL_CARDS];
     let mut types = [0u32; SMALL_CARDS];
     let mut orphans = [0u32; SMALL_CARDS];
     let mut extensions = [0u32; SMALL_CARDS];
-    let mut heads = [0u32; SMALL_CARDS];
-    let mut nexts = [0u32; SMALL_CARDS];
-    let mut standing = [0u32; SMALL_CARDS];
-    let mut table = [0u32; SMALL_TABLE];
-    let mut mine = [0u32; SMALL_CARDS];
-    let mut places = [0u32; SMALL_CARDS];
+    let mut starts = [0u32; SMALL_CARDS];
+    let mut ends = [0u32; SMALL_CARDS];
+    let mut buckets = [ABSENT; SMALL_BUCKETS];
     build_store(
         text,
         words,
         &mut headings,
-        &mut numbers,
+        &mut hashes,
         &mut owners,
         &mut types,
         &mut orphans,
         &mut extensions,
-        &mut heads,
-        &mut nexts,
-        &mut standing,
-        &mut table,
-        &mut mine,
-        &mut places,
+        &mut starts,
+        &mut ends,
+        &mut buckets,
         rows,
         errors,
     )
@@ -154,32 +140,26 @@ fn build_medium(text: &[u8], words: &[u32], rows: &mut [u32], errors: &mut [u32]
         rows.new errors.new }
 {
     let mut headings = [0u32; MEDIUM_CARDS + 1];
-    let mut numbers = [0u32; MEDIUM_CARDS];
+    let mut hashes = [0u32; MEDIUM_CARDS];
     let mut owners = [0u32; MEDIUM_CARDS];
     let mut types = [0u32; MEDIUM_CARDS];
     let mut orphans = [0u32; MEDIUM_CARDS];
     let mut extensions = [0u32; MEDIUM_CARDS];
-    let mut heads = [0u32; MEDIUM_CARDS];
-    let mut nexts = [0u32; MEDIUM_CARDS];
-    let mut standing = [0u32; MEDIUM_CARDS];
-    let mut table = [0u32; MEDIUM_TABLE];
-    let mut mine = [0u32; MEDIUM_CARDS];
-    let mut places = [0u32; MEDIUM_CARDS];
+    let mut starts = [0u32; MEDIUM_CARDS];
+    let mut ends = [0u32; MEDIUM_CARDS];
+    let mut buckets = [ABSENT; MEDIUM_BUCKETS];
     build_store(
         text,
         words,
         &mut headings,
-        &mut numbers,
+        &mut hashes,
         &mut owners,
         &mut types,
         &mut orphans,
         &mut extensions,
-        &mut heads,
-        &mut nexts,
-        &mut standing,
-        &mut table,
-        &mut mine,
-        &mut places,
+        &mut starts,
+        &mut ends,
+        &mut buckets,
         rows,
         errors,
     )
@@ -193,32 +173,26 @@ fn build_large(text: &[u8], words: &[u32], rows: &mut [u32], errors: &mut [u32])
         rows.new errors.new }
 {
     let mut headings = [0u32; CARD_CAPACITY + 1];
-    let mut numbers = [0u32; CARD_CAPACITY];
+    let mut hashes = [0u32; CARD_CAPACITY];
     let mut owners = [0u32; CARD_CAPACITY];
     let mut types = [0u32; CARD_CAPACITY];
     let mut orphans = [0u32; CARD_CAPACITY];
     let mut extensions = [0u32; CARD_CAPACITY];
-    let mut heads = [0u32; CARD_CAPACITY];
-    let mut nexts = [0u32; CARD_CAPACITY];
-    let mut standing = [0u32; CARD_CAPACITY];
-    let mut table = [0u32; LARGE_TABLE];
-    let mut mine = [0u32; CARD_CAPACITY];
-    let mut places = [0u32; CARD_CAPACITY];
+    let mut starts = [0u32; CARD_CAPACITY];
+    let mut ends = [0u32; CARD_CAPACITY];
+    let mut buckets = [ABSENT; LARGE_BUCKETS];
     build_store(
         text,
         words,
         &mut headings,
-        &mut numbers,
+        &mut hashes,
         &mut owners,
         &mut types,
         &mut orphans,
         &mut extensions,
-        &mut heads,
-        &mut nexts,
-        &mut standing,
-        &mut table,
-        &mut mine,
-        &mut places,
+        &mut starts,
+        &mut ends,
+        &mut buckets,
         rows,
         errors,
     )

@@ -9,13 +9,12 @@ pub const SMALL_CARDS: usize = 64;
 
 pub const MEDIUM_CARDS: usize = 512;
 
-// The tables that names are numbered in: a power of two of about four words for each card, so that few names meet, and 32 words more, since a
-// search goes on for so many.
-pub const SMALL_TABLE: usize = 288;
+// More buckets than cards, so that few names share one.
+pub const SMALL_BUCKETS: usize = 128;
 
-pub const MEDIUM_TABLE: usize = 2080;
+pub const MEDIUM_BUCKETS: usize = 1024;
 
-pub const LARGE_TABLE: usize = 8224;
+pub const LARGE_BUCKETS: usize = 8192;
 
 #[derive(Drop)]
 pub enum Size {

@@ -161,8 +161,8 @@ module _ (hs before : List Heading) (h : Heading) (after : List Heading) (w : Ar
         go (some c) f = let g : some c ≡ none = sym (first_append_some p before (h ∷ after) c f) ∙ e' in cc
 
     -- Where h passes, something does, no later than h.
-    pub first_from_lem : p h ≡ true → (d : Heading) × (find p hs ≡ some d) × (d.number ≤ h.number)
-    first_from_lem t = go (find p before) refl
+    pub first_from : p h ≡ true → (d : Heading) × (find p hs ≡ some d) × (d.number ≤ h.number)
+    first_from t = go (find p before) refl
       where
         go : (o : Option Heading) → find p before ≡ o → (d : Heading) × (find p hs ≡ some d) × (d.number ≤ h.number)
         go (some c) f =
@@ -193,7 +193,7 @@ module _ (hs before : List Heading) (h : Heading) (after : List Heading) (w : Ar
 
     pub defined_from : defines_type n h ≡ true → (d : Heading) × (definition n hs ≡ some d) × (d.number ≤ h.number)
     unfolding definition
-    defined_from t = first_from_lem (defines_type n) t
+    defined_from t = first_from (defines_type n) t
 
     pub defined_here : defines_type n h ≡ true → definition n before ≡ none → definition n hs ≡ some h
     unfolding definition

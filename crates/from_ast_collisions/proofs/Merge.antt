@@ -1,5 +1,5 @@
 -- The errors of one part that is merged, and of the parts of a heading one after another.
-use mathlib.Core.Path.{◌≡◌, refl, sym, ◌∙◌, ap}
+use mathlib.Core.Path.{◌≡◌, refl, ◌∙◌, ap}
 use mathlib.Core.List.{List, [], ◌∷◌, ◌++◌}
 use mathlib.Core.Bool.{Bool, true, false, ◌&&◌}
 use Prim.Native.Nat.{ℕ, ◌+◌, ◌≤◌, ◌<◌}
@@ -17,7 +17,6 @@ use Rattle.from_ast_collisions.specs.declared.merging.Earlier.{Earlier}
 use Rattle.from_ast_collisions.specs.declared.merging.Earlier.TheVariants.{Card, Nothing}
 use Rattle.from_ast_collisions.specs.Earlier.{View, stands_for, earlier_under, collision_with, collision_under, merge_errors}
 use Rattle.from_ast_collisions.specs.Views.{view_of, card_view}
-use Rattle.from_ast_collisions.specs.Noting.{standing_or, stood_for}
 use Rattle.definition.proofs.Lists.{flat_map_nil, flat_map_cons}
 use Rattle.definition.proofs.Tests.{zero_one}
 
@@ -41,32 +40,6 @@ module _ (v : View) (rows : List ℕ) (k d : ℕ) (p : NamedCard) where
       collision_under v rows k d p ≡ error (collision_number k p.kind) p.number c ∷ []
   unfolding collision_under collision_with
   collision_other e s c f g h = rw (ne_eqb p.kind 20 e, ← f, g, ne_eqb c p.number h)
-
--- The same by the card that is noted.
-module _ (text words rows : List ℕ) (k d p c : ℕ) (e : card_kind words p ≡ 20 → ⊥) (f : c ≡ stood_for text words rows k d p) where
-  abbrev found_earlier : Earlier
-  found_earlier = earlier_under k d (stands_for (card_view text words) (card_at text words p)) rows
-
-  pub noted_own : c ≡ p → collision_under (card_view text words) rows k d (card_at text words p) ≡ []
-  unfolding standing_or
-  noted_own g = go found_earlier refl
-    where
-      go : (s : Earlier) → found_earlier ≡ s → collision_under (card_view text words) rows k d (card_at text words p) ≡ []
-      go Nothing h = collision_nothing (card_view text words) rows k d (card_at text words p) e found_earlier refl h
-      go (Card b) h =
-          collision_own (card_view text words) rows k d (card_at text words p) e found_earlier b refl h (sym (ap (standing_or p) h) ∙ (sym f ∙ g))
-
-  pub noted_other : (c ≡ p → ⊥) → collision_under (card_view text words) rows k d (card_at text words p) ≡ error (collision_number k (card_kind words p)) p c ∷ []
-  unfolding standing_or
-  noted_other g = go found_earlier refl
-    where
-      go : (s : Earlier) → found_earlier ≡ s →
-          collision_under (card_view text words) rows k d (card_at text words p) ≡ error (collision_number k (card_kind words p)) p c ∷ []
-      go Nothing h = absurd (g (f ∙ ap (standing_or p) h))
-      go (Card b) h =
-          let q : c ≡ b = f ∙ ap (standing_or p) h in
-          collision_other (card_view text words) rows k d (card_at text words p) e found_earlier b refl h (λ z. g (q ∙ z))
-          ∙ ap (λ (n : ℕ). error (collision_number k (card_kind words p)) p n ∷ []) (sym q)
 
 -- A part that is no directive use has a kind of 21 to 28.
 pub collision_kind : (n : ℕ) → is_part n ≡ true → (n ≡ 20 → ⊥) → (21 ≤ n) × (n ≤ 28)

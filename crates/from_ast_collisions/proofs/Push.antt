@@ -1,7 +1,7 @@
 -- Pushing errors: what one push does to the slice, pushes one after another, and the room that they need.
 use mathlib.Core.Path.{◌≡◌, refl, sym, ◌∙◌, ap, ap₂, subst}
 use mathlib.Core.List.{List, [], ◌∷◌, ◌++◌, append_assoc, append-nil}
-use Prim.Native.Nat.{ℕ, zero, suc, ◌+◌, ◌-◌, ◌*◌, ◌≤◌, ◌<◌}
+use Prim.Native.Nat.{ℕ, ◌+◌, ◌-◌, ◌*◌, ◌≤◌, ◌<◌}
 use native.Mathlib.Omega.{arith}
 use native.Mathlib.Nat.{zero-add}
 use native.Mathlib.Numerals.{add-one}
@@ -99,22 +99,6 @@ flat_next f xs i h = ap (flat_map f) (rw (add-one, drop-cons xs i 0)) ∙ flat_m
 flat_done {ℓ} : {B : Type ℓ} (f : ℕ → List B) (xs : List ℕ) (i : ℕ) → length xs ≤ i → flat_map f (drop i xs) ≡ []
 flat_done f xs i h = ap (flat_map f) (drop_of_length-le xs h) ∙ flat_map_nil f
 
-flat_more {ℓ} : {B : Type ℓ} (f : ℕ → List B) (xs : List ℕ) (i d : ℕ) → i + d ≤ length xs →
-    ((k : ℕ) → i ≤ k → k < i + d → f (get_or xs k 0) ≡ []) → flat_map f (drop i xs) ≡ flat_map f (drop (i + d) xs)
-flat_more f xs i zero h none = let z : i + 0 ≡ i = omega arith in ap (λ (n : ℕ). flat_map f (drop n xs)) (sym z)
-flat_more f xs i (suc d) h none =
-    let z : i + suc d ≡ i + d + 1 = omega arith in
-    flat_more f xs i d (omega arith) (λ k a b. none k a (omega arith))
-    ∙ flat_next f xs (i + d) (omega arith)
-    ∙ ap (λ (l : List _). l ++ flat_map f (drop (i + d + 1) xs)) (none (i + d) (omega arith) (omega arith))
-    ∙ ap (λ (n : ℕ). flat_map f (drop n xs)) (sym z)
-
-flat_skip {ℓ} : {B : Type ℓ} (f : ℕ → List B) (xs : List ℕ) (i j : ℕ) → i ≤ j → j ≤ length xs →
-    ((k : ℕ) → i ≤ k → k < j → f (get_or xs k 0) ≡ []) → flat_map f (drop i xs) ≡ flat_map f (drop j xs)
-flat_skip f xs i j l m none =
-    let z : i + (j - i) ≡ j = omega arith in
-    flat_more f xs i (j - i) (omega arith) (λ k a b. none k a (omega arith)) ∙ ap (λ (n : ℕ). flat_map f (drop n xs)) z
-
 -- The turn i of a loop that pushes what f gives for each of xs: the slice keeps its length, and what the cards from i on give is left.
 abbrev pub Turn : (ℕ → List Error) → List ℕ → List ℕ → Tallies → List ℕ → Tallies → ℕ → Type 0
 Turn f xs errors₀ t₀ errors t i =
@@ -145,14 +129,6 @@ module _ (f : ℕ → List Error) (xs errors₀ : List ℕ) (t₀ : Tallies) whe
 
     pub turn_last : length xs ≤ i → Pushes errors₀ t₀ errors t (flat_map f xs)
     turn_last l = turn_left (flat_done f xs i l)
-
-    -- The cards from i to before j give nothing.
-    pub turn_skip : (j : ℕ) → i ≤ j → j ≤ length xs → ((k : ℕ) → i ≤ k → k < j → f (get_or xs k 0) ≡ []) → Turn f xs errors₀ t₀ errors t j
-    turn_skip j l m none = (
-      turn.0,
-      m,
-      going_as (ledger errors₀ t₀) (ledger errors t) (flat_map f xs) (flat_map f (drop i xs)) (flat_map f (drop j xs)) (flat_skip f xs i j l m none) turn.2,
-    )
 
 -- ---- Another name for what is pushed, also for nothing.
 

@@ -28,7 +28,7 @@ use Rattle.from_ast_collisions.proofs.Earlier.{row_words, is_in}
 use Rattle.from_ast_collisions.proofs.Rows.{HeadingTold, schema_stands}
 use Rattle.from_ast_collisions.proofs.Collisions.{collisions_found}
 use Rattle.from_ast_collisions.proofs.Known.{number_in, heading_of, Known, kind_told, extension_told, name_told, built_in_told, merge_told}
-use Rattle.from_ast_collisions.proofs.Known.{Around, around, all_here, all_before, first_below, first_above, first_nowhere, first_from_lem}
+use Rattle.from_ast_collisions.proofs.Known.{Around, around, all_here, all_before, first_below, first_above, first_nowhere, first_from}
 use Rattle.from_ast_collisions.proofs.Known.{first_here, number_some, number_none, filter_around, parts_cons, parts_append, components_parts}
 use Rattle.from_ast_collisions.proofs.Known.{extensions_parts, times_with}
 use Rattle.from_ast_collisions.proofs.Types.{walk_merged, kinds_left, type_errors_lem, type_extension_errors_lem}
@@ -182,7 +182,7 @@ module _ (v : View) (a : Bool) (hs : List Heading) (k : Known v hs) where
     pub schema_errors_lem : is_kind 4 h ≡ true → schema_errors_at v words schema (map number_in before) h.number ≡ schema_errors before h
     unfolding schema_errors_at schema_errors schema_definition heading_error
     schema_errors_lem t =
-        let f = first_from_lem hs before h after w (is_kind 4) t in
+        let f = first_from hs before h after w (is_kind 4) t in
         go (ltb schema h.number) refl f.0 f.1 f.2
       where
         go : (b : Bool) → ltb schema h.number ≡ b → (s : Heading) → schema_definition hs ≡ some s → s.number ≤ h.number →

@@ -4,4 +4,3 @@ pub mod Placing
 pub mod Pushing
 pub mod Earlier
 pub mod Views
-pub mod Noting

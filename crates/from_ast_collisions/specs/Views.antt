@@ -1,14 +1,11 @@
 -- What a store and the owners say of cards by their numbers.
-use Rattle.std.specs.Prelude.{List, [], ◌∷◌, ℕ, ◌+◌, ◌≤◌, ◌<◌, ◌≡◌, length, get_or, true, false}
-use Rattle.std.proofs.Math.Option.{none, some}
-use Rattle.definition.specs.Lists.{All, find}
-use Rattle.definition.specs.Refusals.{card_capacity}
+use Rattle.std.specs.Prelude.{List, [], ◌∷◌, ℕ, ◌+◌, ◌≤◌, ◌<◌, ◌≡◌, get_or}
+use Rattle.definition.specs.Lists.{All}
 use Rattle.definition.specs.Store.{cards_used_of}
 use Rattle.store_reader.specs.Stored.{stored_parts, card_kind, card_name, built_in_at, ignored_at, parts_from}
-use Rattle.from_ast_index.specs.Index.{Numbered, number_at, Chained}
+use Rattle.from_ast_index.specs.Index.{Hashed}
 use Rattle.from_ast_collisions.specs.Earlier.{View, row_offset}
 use Rattle.from_ast_collisions.specs.Placing.{Placed}
-use Rattle.from_ast_collisions.specs.ErrorsByCards.{collides}
 
 abbrev pub view_of : List ℕ → List ℕ → List ℕ → View
 view_of text words owners = record {
@@ -30,13 +27,13 @@ abbrev pub cards_view : List ℕ → List ℕ → View
 cards_view words owners = view_of [] words owners
 
 -- What is asked where parts are merged into the row of what k and card d: names can be compared, and the search begins at that row.
-pub record Merging (text words numbers rows : List ℕ) (from k d : ℕ) : Type 0 where
-  pub numbered : Numbered text words numbers
+pub record Merging (text words hashes rows : List ℕ) (from k d : ℕ) : Type 0 where
+  pub hashed : Hashed text words hashes
   pub row : from ≡ row_offset k d rows
 
 -- What is asked where rows are searched for by cards: names can be compared, and no row of a heading begins before its card's place.
-pub record Searching (text words numbers rows places : List ℕ) : Type 0 where
-  pub numbered : Numbered text words numbers
+pub record Searching (text words hashes rows places : List ℕ) : Type 0 where
+  pub hashed : Hashed text words hashes
   pub placed : Placed rows places
 
 -- Every one is a stored card's number.
@@ -61,25 +58,3 @@ HeldExtensions words cards = All (HeldExtension words) cards
 abbrev pub Ascending : List ℕ → Type 0
 Ascending [] = Unit {0}
 Ascending (x ∷ xs) = All (λ y. x < y) xs × Ascending xs
-
--- All type extensions, each leading to the next of its name. One that a type owns has the type's name.
-pub record ExtensionsAre (words numbers owners extensions heads nexts : List ℕ) : Type 0 where
-  pub chained : Chained words numbers extensions heads nexts
-  pub stored : Held words extensions
-  pub ascending : Ascending extensions
-  pub owner_named : (i h : ℕ) → i < length extensions → h < cards_used_of words → get_or owners (get_or extensions i 0) 0 ≡ h →
-      number_at numbers extensions i ≡ get_or numbers h 0
-
--- The card s tells the first of the cards `before` that the directive definition h collides with: it is s, where s comes before h and is not built-in.
-pub record FirstCollision (text words before : List ℕ) (h s : ℕ) : Type 0 where
-  pub stands : s < h → built_in_at words s ≡ false → find (collides (card_view text words) h) before ≡ some s
-  pub later : h ≤ s → find (collides (card_view text words) h) before ≡ none
-  pub replaced : built_in_at words s ≡ true → find (collides (card_view text words) h) before ≡ none
-
--- A stored card that defines a type of the kind.
-pub record TypeCard (words : List ℕ) (kind h : ℕ) : Type 0 where
-  pub few : cards_used_of words ≤ card_capacity
-  pub stored : h < cards_used_of words
-  pub is : kind ≡ card_kind words h
-  pub least : 5 ≤ kind
-  pub most : kind ≤ 10

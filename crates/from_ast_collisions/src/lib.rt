@@ -1,5 +1,4 @@
 // What the errors of reading and of building are pushed with: the places of rows, and the collisions of parts that are merged.
 pub mod merging;
-pub mod noting;
 pub mod placing;
 pub mod pushing;

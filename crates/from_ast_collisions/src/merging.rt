@@ -1,18 +1,16 @@
 // Parts that are merged into a type or the schema: a part collides where the finished rows have another card that stands for its name.
-ghost use Rattle.std.specs.Prelude.{◌≡◌, true, false, ◌+◌, ◌≤◌, ◌<◌, length, get_or, drop};
+ghost use Rattle.std.specs.Prelude.{◌≡◌, true, ◌+◌, ◌≤◌, ◌<◌, length, drop};
 ghost use Rattle.definition.specs.Lists.{flat_map};
 ghost use Rattle.definition.specs.Cards.{is_part};
 ghost use Rattle.definition.specs.Errors.{collision_number};
-ghost use Rattle.definition.specs.Refusals.{card_capacity};
 ghost use Rattle.definition.specs.Store.{cards_used_of};
 ghost use Rattle.store_reader.specs.Stored.{card_kind, card_at};
-ghost use Rattle.from_ast_index.specs.Index.{Numbered};
+ghost use Rattle.from_ast_index.specs.Index.{Hashed};
 ghost use Rattle.from_ast_collisions.specs.Pushing.{ErrorsFit, Pushes};
 ghost use Rattle.from_ast_collisions.specs.Earlier.{stands_for, earlier_under, row_offset, collision_under, merge_errors};
 ghost use Rattle.from_ast_collisions.specs.Placing.{Placed};
 ghost use Rattle.from_ast_collisions.specs.ErrorsByCards.{schema_merge_errors};
 ghost use Rattle.from_ast_collisions.specs.Views.{card_view, Merging};
-ghost use Rattle.from_ast_collisions.specs.Noting.{stood_for, Noted};
 
 use crate::pushing;
 use ast::kinds;
@@ -68,7 +66,7 @@ pub fn seek_row(rows: &[u32], from: usize, what: u32, card: u32) -> usize
     i
 }
 
-// The same for the row of a heading: the search begins at its card's place.
+// The same for the row of a heading: the search_lem begins at its card's place.
 pub fn row_at(rows: &[u32], places: &[u32], what: u32, card: u32) -> usize
     requires { Placed rows.now places.now
         × (what < 20) }
@@ -79,8 +77,8 @@ pub fn row_at(rows: &[u32], places: &[u32], what: u32, card: u32) -> usize
 }
 
 // Whether the row of what and card stands for the part. Roots are told by their kind alone.
-fn stands_for(text: &[u8], words: &[u32], numbers: &[u32], part: u32, what: u32, card: u32) -> bool
-    requires { Numbered text.now words.now numbers.now
+fn stands_for(text: &[u8], words: &[u32], hashes: &[u32], part: u32, what: u32, card: u32) -> bool
+    requires { Hashed text.now words.now hashes.now
         × (part < cards_used_of words.now) }
     ensures { result ≡ stands_for (card_view text.now words.now)
         (card_at text.now words.now part) what card }
@@ -95,21 +93,21 @@ fn stands_for(text: &[u8], words: &[u32], numbers: &[u32], part: u32, what: u32,
     if store_reader::cards_used(words) <= card as usize {
         return false;
     }
-    from_ast_index::same_cards(text, words, numbers, part, card)
+    from_ast_index::same_cards(text, words, hashes, part, card)
 }
 
 // The card that stands for the part, among the rows under that of its owner, which begins at `from`.
 fn find_earlier(
     text: &[u8],
     words: &[u32],
-    numbers: &[u32],
+    hashes: &[u32],
     rows: &[u32],
     from: usize,
     kind: u32,
     owner: u32,
     part: u32,
 ) -> Earlier
-    requires { Merging text.now words.now numbers.now rows.now from kind owner
+    requires { Merging text.now words.now hashes.now rows.now from kind owner
         × (part < cards_used_of words.now) }
     ensures { result ≡ earlier_under kind owner
         (stands_for (card_view text.now words.now) (card_at text.now words.now part))
@@ -122,7 +120,7 @@ fn find_earlier(
         if what < kinds::DIRECTIVE {
             return Earlier::Nothing;
         }
-        if stands_for(text, words, numbers, part, what, card) {
+        if stands_for(text, words, hashes, part, what, card) {
             return Earlier::Card(card);
         }
         i += layout::ROW_WORDS;
@@ -134,7 +132,7 @@ fn find_earlier(
 fn push_collision(
     text: &[u8],
     words: &[u32],
-    numbers: &[u32],
+    hashes: &[u32],
     rows: &[u32],
     from: usize,
     kind: u32,
@@ -143,7 +141,7 @@ fn push_collision(
     errors: &mut [u32],
     t: Tallies,
 ) -> Tallies
-    requires { Merging text.now words.now numbers.now rows.now from kind owner
+    requires { Merging text.now words.now hashes.now rows.now from kind owner
         × (part < cards_used_of words.now)
         × (is_part (card_kind words.now part) ≡ true)
         × ErrorsFit errors.old t
@@ -156,7 +154,7 @@ fn push_collision(
     if what == kinds::DIRECTIVE {
         return t;
     }
-    let Earlier::Card(card) = find_earlier(text, words, numbers, rows, from, kind, owner, part)
+    let Earlier::Card(card) = find_earlier(text, words, hashes, rows, from, kind, owner, part)
     else {
         return t;
     };
@@ -166,84 +164,11 @@ fn push_collision(
     pushing::push_error(errors, t, collision_number(kind, what), part, card)
 }
 
-// The error of a part that is merged into the row of its owner, by the card that is noted for it.
-fn push_noted(
-    text: &[u8],
-    words: &[u32],
-    rows: &[u32],
-    earlier: &[u32],
-    kind: u32,
-    owner: u32,
-    part: u32,
-    errors: &mut [u32],
-    t: Tallies,
-) -> Tallies
-    requires { (is_part (card_kind words.now part) ≡ true)
-        × ((card_kind words.now part ≡ 20 → ⊥) → get_or earlier.now part 0 ≡ stood_for text.now words.now rows.now kind owner part)
-        × ErrorsFit errors.old t
-        (collision_under (card_view text.now words.now) rows.now kind owner (card_at text.now words.now part)) }
-    ensures { Pushes errors.old t errors.new result
-        (collision_under (card_view text.now words.now) rows.now kind owner
-        (card_at text.now words.now part)) }
-{
-    let what = store_reader::card_kind(words, part as usize);
-    if what == kinds::DIRECTIVE {
-        return t;
-    }
-    let standing = store_reader::word(earlier, part as usize);
-    if standing == part {
-        return t;
-    }
-    pushing::push_error(errors, t, collision_number(kind, what), part, standing)
-}
-
-// The errors of the parts of a heading that are merged into the row of their owner, by the cards that are noted for them.
-pub fn merge_noted(
-    text: &[u8],
-    words: &[u32],
-    rows: &[u32],
-    earlier: &[u32],
-    kind: u32,
-    owner: u32,
-    heading: u32,
-    errors: &mut [u32],
-    t: Tallies,
-) -> Tallies
-    requires { (cards_used_of words.now ≤ card_capacity)
-        × (is_part (card_kind words.now heading) ≡ false)
-        × Noted text.now words.now rows.now earlier.now kind owner heading
-        × ErrorsFit errors.old t (merge_errors (card_view text.now words.now) rows.now kind owner heading) }
-    ensures { Pushes errors.old t errors.new result
-        (merge_errors (card_view text.now words.now) rows.now kind owner heading) }
-{
-    let used = store_reader::cards_used(words);
-    let mut t = t;
-    let mut part = (heading as usize) + 1;
-    while part < used {
-        if !kinds::is_part(store_reader::card_kind(words, part)) {
-            return t;
-        }
-        t = push_noted(
-            text,
-            words,
-            rows,
-            earlier,
-            kind,
-            owner,
-            part as u32,
-            errors,
-            t,
-        );
-        part += 1;
-    }
-    t
-}
-
 // The errors of the parts of a heading that are merged into the row of their owner.
 pub fn merge_errors(
     text: &[u8],
     words: &[u32],
-    numbers: &[u32],
+    hashes: &[u32],
     rows: &[u32],
     from: usize,
     kind: u32,
@@ -252,7 +177,7 @@ pub fn merge_errors(
     errors: &mut [u32],
     t: Tallies,
 ) -> Tallies
-    requires { Merging text.now words.now numbers.now rows.now from kind owner
+    requires { Merging text.now words.now hashes.now rows.now from kind owner
         × ErrorsFit errors.old t (merge_errors (card_view text.now words.now) rows.now kind owner heading) }
     ensures { Pushes errors.old t errors.new result
         (merge_errors (card_view text.now words.now) rows.now kind owner heading) }
@@ -267,7 +192,7 @@ pub fn merge_errors(
         t = push_collision(
             text,
             words,
-            numbers,
+            hashes,
             rows,
             from,
             kind,
@@ -285,7 +210,7 @@ pub fn merge_errors(
 fn merge_schema_extension(
     text: &[u8],
     words: &[u32],
-    numbers: &[u32],
+    hashes: &[u32],
     rows: &[u32],
     from: usize,
     schema: u32,
@@ -293,7 +218,7 @@ fn merge_schema_extension(
     errors: &mut [u32],
     t: Tallies,
 ) -> Tallies
-    requires { Merging text.now words.now numbers.now rows.now from 4 schema
+    requires { Merging text.now words.now hashes.now rows.now from 4 schema
         × ErrorsFit errors.old t (schema_merge_errors (card_view text.now words.now) rows.now schema heading) }
     ensures { Pushes errors.old t errors.new result
         (schema_merge_errors (card_view text.now words.now) rows.now schema heading) }
@@ -304,7 +229,7 @@ fn merge_schema_extension(
     merge_errors(
         text,
         words,
-        numbers,
+        hashes,
         rows,
         from,
         kinds::SCHEMA_DEFINITION,
@@ -320,13 +245,13 @@ pub fn merge_schema_extensions(
     text: &[u8],
     words: &[u32],
     headings: &[u32],
-    numbers: &[u32],
+    hashes: &[u32],
     rows: &[u32],
     schema: u32,
     errors: &mut [u32],
     t: Tallies,
 ) -> Tallies
-    requires { Numbered text.now words.now numbers.now
+    requires { Hashed text.now words.now hashes.now
         × ErrorsFit errors.old t (flat_map (schema_merge_errors (card_view text.now words.now) rows.now schema) headings.now) }
     ensures { Pushes errors.old t errors.new result
         (flat_map (schema_merge_errors (card_view text.now words.now) rows.now schema) headings.now) }
@@ -338,7 +263,7 @@ pub fn merge_schema_extensions(
         t = merge_schema_extension(
             text,
             words,
-            numbers,
+            hashes,
             rows,
             from,
             schema,

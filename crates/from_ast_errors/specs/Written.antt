@@ -10,7 +10,7 @@ use Rattle.definition.specs.Refusals.{card_capacity}
 use Rattle.definition.specs.Store.{sound}
 use Rattle.store_reader.specs.Stored.{stored_headings}
 use Rattle.from_ast_index.specs.declared.Counts.{Counts}
-use Rattle.from_ast_index.specs.Index.{Indexed, Chained, DirectivesAre}
+use Rattle.from_ast_index.specs.Index.{Indexed, Spanned}
 use Rattle.from_ast_errors.specs.declared.ErrorCounts.{ErrorCounts}
 use Rattle.from_ast_collisions.specs.Pushing.{no_errors, Pushes}
 use Rattle.from_ast_collisions.specs.ErrorsByCards.{reading_errors_at, drawing_errors_at}
@@ -41,14 +41,14 @@ pub record ErrorsPushed (before after : List ℕ) (r : ErrorCounts) (read built 
   pub drawing_count : r.drawing ≡ length built
 
 -- A sound store with its arrays filled, its rows built, and room for its errors.
-pub record ErrorsAsked (text words headings numbers owners types orphans extensions heads nexts standing : List ℕ) (counts : Counts) (adopt : Bool)
+pub record ErrorsAsked (text words headings hashes owners orphans extensions starts ends : List ℕ) (counts : Counts) (adopt : Bool)
     (built : List ℕ) (n : ℕ) (errors : List ℕ) : Type 0 where
+  pub types : List ℕ
   pub store_sound : sound text words ≡ true
   pub indexed :
-      Indexed text words headings numbers owners types orphans extensions
+      Indexed text words headings hashes owners types orphans extensions
       counts.headings counts.types counts.orphans counts.extensions
-  pub chained : Chained words numbers (take counts.extensions extensions) heads nexts
-  pub directives_are : DirectivesAre text words numbers (take counts.headings headings) standing
+  pub spanned : Spanned words owners (take counts.extensions extensions) starts ends
   pub row_count_lem : n ≡ length (rows adopt (stored_headings text words))
   pub rows_are : take (3 * n) built ≡ flat_map words_of_row (rows adopt (stored_headings text words))
   pub errors_most : length (all_errors adopt (stored_headings text words)) ≤ card_capacity

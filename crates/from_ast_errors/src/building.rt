@@ -1,10 +1,10 @@
 // The errors that building pushes after those of reading: the orphans name by name, then the schema extensions that met no definition.
 ghost use Rattle.std.specs.Prelude.{◌≡◌, []};
 ghost use Rattle.definition.specs.Lists.{flat_map};
-ghost use Rattle.from_ast_index.specs.Index.{Numbered};
+ghost use Rattle.from_ast_index.specs.Index.{Hashed};
 ghost use Rattle.from_ast_collisions.specs.Pushing.{ErrorsFit, Pushes};
 ghost use Rattle.from_ast_collisions.specs.ErrorsByCards.{unmet_errors, is_bare, no_schema_errors_at};
-ghost use Rattle.from_ast_collisions.specs.Views.{card_view, Searching, ExtensionsAre, HeldExtensions};
+ghost use Rattle.from_ast_collisions.specs.Views.{card_view, Searching, Held, HeldExtensions};
 ghost use Rattle.from_ast_errors.specs.Written.{drawing_errors_in};
 
 use crate::orphans;
@@ -59,26 +59,26 @@ fn no_schema_errors(
     text: &[u8],
     words: &[u32],
     headings: &[u32],
-    numbers: &[u32],
+    hashes: &[u32],
     adopt: bool,
     rows: &[u32],
     errors: &mut [u32],
     t: Tallies,
 ) -> Tallies
-    requires { Numbered text.now words.now numbers.now
+    requires { Hashed text.now words.now hashes.now
         × ErrorsFit errors.old t (no_schema_errors_at adopt (card_view text.now words.now) rows.now headings.now) }
     ensures { Pushes errors.old t errors.new result
         (no_schema_errors_at adopt (card_view text.now words.now) rows.now headings.now) }
 {
     if adopt {
         return merging::merge_schema_extensions(
-            text, words, headings, numbers, rows, ABSENT, errors, t,
+            text, words, headings, hashes, rows, ABSENT, errors, t,
         );
     }
     if is_bare(rows) {
         return unmet_errors(words, headings, errors, t);
     }
-    merging::merge_schema_extensions(text, words, headings, numbers, rows, ABSENT, errors, t)
+    merging::merge_schema_extensions(text, words, headings, hashes, rows, ABSENT, errors, t)
 }
 
 // All of them. The row 4 comes first and has the schema definition's card.
@@ -86,20 +86,18 @@ pub fn drawing_errors(
     text: &[u8],
     words: &[u32],
     headings: &[u32],
-    numbers: &[u32],
+    hashes: &[u32],
     owners: &[u32],
     orphans: &[u32],
     extensions: &[u32],
-    heads: &[u32],
-    nexts: &[u32],
     adopt: bool,
     rows: &[u32],
     places: &[u32],
     errors: &mut [u32],
     t: Tallies,
 ) -> Tallies
-    requires { Searching text.now words.now numbers.now rows.now places.now
-        × ExtensionsAre words.now numbers.now owners.now extensions.now heads.now nexts.now
+    requires { Searching text.now words.now hashes.now rows.now places.now
+        × Held words.now extensions.now
         × HeldExtensions words.now orphans.now
         × ErrorsFit errors.old t
         (drawing_errors_in adopt text.now words.now owners.now rows.now extensions.now orphans.now headings.now) }
@@ -108,11 +106,10 @@ pub fn drawing_errors(
         extensions.now orphans.now headings.now) }
 {
     let t = orphans::all_orphan_errors(
-        text, words, numbers, owners, orphans, extensions, heads, nexts, adopt, rows, places,
-        errors, t,
+        text, words, hashes, owners, orphans, extensions, adopt, rows, places, errors, t,
     );
     if store_reader::word(rows, 1) != ABSENT {
         return t;
     }
-    no_schema_errors(text, words, headings, numbers, adopt, rows, errors, t)
+    no_schema_errors(text, words, headings, hashes, adopt, rows, errors, t)
 }

@@ -1,14 +1,11 @@
 // The errors of reading extensions: those before their definition come with it, the others where they stand.
 ghost use Rattle.std.specs.Prelude.{◌≡◌, ◌≤◌, ◌<◌};
 ghost use Rattle.definition.specs.Lists.{flat_map};
-ghost use Rattle.definition.specs.Refusals.{card_capacity};
-ghost use Rattle.definition.specs.Store.{cards_used_of};
 ghost use Rattle.store_reader.specs.Stored.{card_kind};
-ghost use Rattle.from_ast_index.specs.Index.{Numbered};
+ghost use Rattle.from_ast_index.specs.Index.{Hashed};
 ghost use Rattle.from_ast_collisions.specs.Pushing.{ErrorsFit, Pushes};
 ghost use Rattle.from_ast_collisions.specs.ErrorsByCards.{schema_extension_errors_at, early_errors, type_extension_errors_at};
-ghost use Rattle.from_ast_collisions.specs.Views.{view_of, card_view, TypeCard, ExtensionsAre};
-ghost use Rattle.from_ast_collisions.specs.Noting.{Ready, AllReady};
+ghost use Rattle.from_ast_collisions.specs.Views.{view_of, card_view, Merging, Searching, Ascending};
 
 use ast::kinds;
 use definition::{Tallies, build_error};
@@ -18,14 +15,14 @@ use from_ast_collisions::{merging, pushing};
 pub fn schema_extension_errors(
     text: &[u8],
     words: &[u32],
-    numbers: &[u32],
+    hashes: &[u32],
     rows: &[u32],
     schema: u32,
     h: u32,
     errors: &mut [u32],
     t: Tallies,
 ) -> Tallies
-    requires { Numbered text.now words.now numbers.now
+    requires { Hashed text.now words.now hashes.now
         × ErrorsFit errors.old t (schema_extension_errors_at (card_view text.now words.now) rows.now schema h) }
     ensures { Pushes errors.old t errors.new result
         (schema_extension_errors_at (card_view text.now words.now) rows.now schema h) }
@@ -35,24 +32,25 @@ pub fn schema_extension_errors(
     }
     let kind = kinds::SCHEMA_DEFINITION;
     let from = merging::seek_row(rows, 0, kind, schema);
-    merging::merge_errors(text, words, numbers, rows, from, kind, schema, h, errors, t)
+    merging::merge_errors(text, words, hashes, rows, from, kind, schema, h, errors, t)
 }
 
 // The errors of an extension before its definition h; one of another kind is dropped, as the Rust does.
 fn early_extension_errors(
     text: &[u8],
     words: &[u32],
+    hashes: &[u32],
     owners: &[u32],
     rows: &[u32],
-    earlier: &[u32],
+    from: usize,
     kind: u32,
     h: u32,
     card: u32,
     errors: &mut [u32],
     t: Tallies,
 ) -> Tallies
-    requires { TypeCard words.now kind h
-        × Ready text.now words.now owners.now rows.now earlier.now card
+    requires { Merging text.now words.now hashes.now rows.now from kind h
+        × (kind ≡ card_kind words.now h)
         × (card < h)
         × ErrorsFit errors.old t (early_errors (view_of text.now words.now owners.now) rows.now h card) }
     ensures { Pushes errors.old t errors.new result
@@ -64,42 +62,42 @@ fn early_extension_errors(
     if store_reader::word(owners, card as usize) != h {
         return t;
     }
-    merging::merge_noted(text, words, rows, earlier, kind, h, card, errors, t)
+    merging::merge_errors(text, words, hashes, rows, from, kind, h, card, errors, t)
 }
 
-// Those of all extensions before h: they come first along the extensions of its name.
+// Those of all extensions before h: they come first.
 pub fn early_errors(
     text: &[u8],
     words: &[u32],
-    numbers: &[u32],
+    hashes: &[u32],
     owners: &[u32],
     extensions: &[u32],
-    heads: &[u32],
-    nexts: &[u32],
     rows: &[u32],
-    earlier: &[u32],
+    from: usize,
     kind: u32,
     h: u32,
     errors: &mut [u32],
     t: Tallies,
 ) -> Tallies
-    requires { TypeCard words.now kind h
-        × AllReady text.now words.now owners.now rows.now earlier.now extensions.now
-        × ExtensionsAre words.now numbers.now owners.now extensions.now heads.now nexts.now
+    requires { Merging text.now words.now hashes.now rows.now from kind h
+        × (kind ≡ card_kind words.now h)
+        × Ascending extensions.now
         × ErrorsFit errors.old t (flat_map (early_errors (view_of text.now words.now owners.now) rows.now h) extensions.now) }
     ensures { Pushes errors.old t errors.new result
         (flat_map (early_errors (view_of text.now words.now owners.now) rows.now h)
         extensions.now) }
 {
     let mut t = t;
-    let mut i = from_ast_index::first_extension(words, numbers, extensions, heads, nexts, h);
+    let mut i = 0;
     while i < extensions.len() {
         let card = extensions[i];
         if h <= card {
             return t;
         }
-        t = early_extension_errors(text, words, owners, rows, earlier, kind, h, card, errors, t);
-        i = store_reader::word(nexts, i) as usize;
+        t = early_extension_errors(
+            text, words, hashes, owners, rows, from, kind, h, card, errors, t,
+        );
+        i += 1;
     }
     t
 }
@@ -108,18 +106,16 @@ pub fn early_errors(
 pub fn type_extension_errors(
     text: &[u8],
     words: &[u32],
+    hashes: &[u32],
     owners: &[u32],
     rows: &[u32],
-    earlier: &[u32],
+    places: &[u32],
     h: u32,
     errors: &mut [u32],
     t: Tallies,
 ) -> Tallies
-    requires { (cards_used_of words.now ≤ card_capacity)
-        × (h < cards_used_of words.now)
-        × (12 ≤ card_kind words.now h)
+    requires { Searching text.now words.now hashes.now rows.now places.now
         × (card_kind words.now h ≤ 17)
-        × Ready text.now words.now owners.now rows.now earlier.now h
         × ErrorsFit errors.old t (type_extension_errors_at (view_of text.now words.now owners.now) rows.now h) }
     ensures { Pushes errors.old t errors.new result
         (type_extension_errors_at (view_of text.now words.now owners.now) rows.now h) }
@@ -138,5 +134,6 @@ pub fn type_extension_errors(
             owner,
         );
     }
-    merging::merge_noted(text, words, rows, earlier, kind, owner, h, errors, t)
+    let from = merging::row_at(rows, places, kind, owner);
+    merging::merge_errors(text, words, hashes, rows, from, kind, owner, h, errors, t)
 }

@@ -3,10 +3,10 @@ ghost use Rattle.std.specs.Prelude.{◌≡◌, ◌-◌, ◌<◌};
 ghost use Rattle.definition.specs.Lists.{flat_map};
 ghost use Rattle.definition.specs.Store.{cards_used_of};
 ghost use Rattle.store_reader.specs.Stored.{card_kind};
-ghost use Rattle.from_ast_index.specs.Index.{Numbered};
+ghost use Rattle.from_ast_index.specs.Index.{Hashed};
 ghost use Rattle.from_ast_collisions.specs.Pushing.{ErrorsFit, Pushes};
 ghost use Rattle.from_ast_collisions.specs.ErrorsByCards.{is_orphan_of, adoption_errors_at, unadopted_errors_at, orphan_errors_at};
-ghost use Rattle.from_ast_collisions.specs.Views.{view_of, Merging, Searching, ExtensionsAre, HeldExtension, HeldExtensions};
+ghost use Rattle.from_ast_collisions.specs.Views.{view_of, Merging, Searching, Held, HeldExtension, HeldExtensions};
 
 use ast::kinds;
 use definition::{ABSENT, Tallies, build_error};
@@ -16,12 +16,12 @@ use from_ast_collisions::{merging, pushing};
 fn is_orphan_of(
     text: &[u8],
     words: &[u32],
-    numbers: &[u32],
+    hashes: &[u32],
     owners: &[u32],
     g: u32,
     card: u32,
 ) -> bool
-    requires { Numbered text.now words.now numbers.now
+    requires { Hashed text.now words.now hashes.now
         × (g < cards_used_of words.now)
         × (card < cards_used_of words.now) }
     ensures { result ≡ is_orphan_of (view_of text.now words.now owners.now) g card }
@@ -29,14 +29,14 @@ fn is_orphan_of(
     if store_reader::word(owners, card as usize) != ABSENT {
         return false;
     }
-    from_ast_index::same_cards(text, words, numbers, g, card)
+    from_ast_index::same_cards(text, words, hashes, g, card)
 }
 
 // Adopting an extension of the name of g, the first of them: one of another kind is an error.
 fn adopt_extension(
     text: &[u8],
     words: &[u32],
-    numbers: &[u32],
+    hashes: &[u32],
     owners: &[u32],
     rows: &[u32],
     from: usize,
@@ -46,7 +46,7 @@ fn adopt_extension(
     errors: &mut [u32],
     t: Tallies,
 ) -> Tallies
-    requires { Merging text.now words.now numbers.now rows.now from kind g
+    requires { Merging text.now words.now hashes.now rows.now from kind g
         × (kind ≡ card_kind words.now g - 7)
         × (g < cards_used_of words.now)
         × (card < cards_used_of words.now)
@@ -54,7 +54,7 @@ fn adopt_extension(
     ensures { Pushes errors.old t errors.new result
         (adoption_errors_at (view_of text.now words.now owners.now) rows.now g card) }
 {
-    if !is_orphan_of(text, words, numbers, owners, g, card) {
+    if !is_orphan_of(text, words, hashes, owners, g, card) {
         return t;
     }
     if store_reader::card_kind(words, card as usize) != store_reader::card_kind(words, g as usize) {
@@ -66,27 +66,25 @@ fn adopt_extension(
             g,
         );
     }
-    merging::merge_errors(text, words, numbers, rows, from, kind, g, card, errors, t)
+    merging::merge_errors(text, words, hashes, rows, from, kind, g, card, errors, t)
 }
 
 // Adopting all extensions of the name of g.
 fn adoption_errors(
     text: &[u8],
     words: &[u32],
-    numbers: &[u32],
+    hashes: &[u32],
     owners: &[u32],
     extensions: &[u32],
-    heads: &[u32],
-    nexts: &[u32],
     rows: &[u32],
     places: &[u32],
     g: u32,
     errors: &mut [u32],
     t: Tallies,
 ) -> Tallies
-    requires { Searching text.now words.now numbers.now rows.now places.now
+    requires { Searching text.now words.now hashes.now rows.now places.now
         × HeldExtension words.now g
-        × ExtensionsAre words.now numbers.now owners.now extensions.now heads.now nexts.now
+        × Held words.now extensions.now
         × ErrorsFit errors.old t (flat_map (adoption_errors_at (view_of text.now words.now owners.now) rows.now g) extensions.now) }
     ensures { Pushes errors.old t errors.new result
         (flat_map (adoption_errors_at (view_of text.now words.now owners.now) rows.now g)
@@ -95,13 +93,13 @@ fn adoption_errors(
     let kind = kinds::definition_of(store_reader::card_kind(words, g as usize));
     let from = merging::row_at(rows, places, kind, g);
     let mut t = t;
-    let mut i = from_ast_index::first_extension(words, numbers, extensions, heads, nexts, g);
+    let mut i = 0;
     while i < extensions.len() {
         let card = extensions[i];
         t = adopt_extension(
-            text, words, numbers, owners, rows, from, kind, g, card, errors, t,
+            text, words, hashes, owners, rows, from, kind, g, card, errors, t,
         );
-        i = store_reader::word(nexts, i) as usize;
+        i += 1;
     }
     t
 }
@@ -110,21 +108,21 @@ fn adoption_errors(
 fn unadopted_extension(
     text: &[u8],
     words: &[u32],
-    numbers: &[u32],
+    hashes: &[u32],
     owners: &[u32],
     g: u32,
     card: u32,
     errors: &mut [u32],
     t: Tallies,
 ) -> Tallies
-    requires { Numbered text.now words.now numbers.now
+    requires { Hashed text.now words.now hashes.now
         × (g < cards_used_of words.now)
         × (card < cards_used_of words.now)
         × ErrorsFit errors.old t (unadopted_errors_at (view_of text.now words.now owners.now) g card) }
     ensures { Pushes errors.old t errors.new result
         (unadopted_errors_at (view_of text.now words.now owners.now) g card) }
 {
-    if !is_orphan_of(text, words, numbers, owners, g, card) {
+    if !is_orphan_of(text, words, hashes, owners, g, card) {
         return t;
     }
     pushing::push_error(errors, t, build_error::ORPHAN_TYPE_EXTENSION, card, ABSENT)
@@ -134,27 +132,25 @@ fn unadopted_extension(
 fn unadopted_errors(
     text: &[u8],
     words: &[u32],
-    numbers: &[u32],
+    hashes: &[u32],
     owners: &[u32],
     extensions: &[u32],
-    heads: &[u32],
-    nexts: &[u32],
     g: u32,
     errors: &mut [u32],
     t: Tallies,
 ) -> Tallies
-    requires { Numbered text.now words.now numbers.now
+    requires { Hashed text.now words.now hashes.now
         × (g < cards_used_of words.now)
-        × ExtensionsAre words.now numbers.now owners.now extensions.now heads.now nexts.now
+        × Held words.now extensions.now
         × ErrorsFit errors.old t (flat_map (unadopted_errors_at (view_of text.now words.now owners.now) g) extensions.now) }
     ensures { Pushes errors.old t errors.new result
         (flat_map (unadopted_errors_at (view_of text.now words.now owners.now) g) extensions.now) }
 {
     let mut t = t;
-    let mut i = from_ast_index::first_extension(words, numbers, extensions, heads, nexts, g);
+    let mut i = 0;
     while i < extensions.len() {
-        t = unadopted_extension(text, words, numbers, owners, g, extensions[i], errors, t);
-        i = store_reader::word(nexts, i) as usize;
+        t = unadopted_extension(text, words, hashes, owners, g, extensions[i], errors, t);
+        i += 1;
     }
     t
 }
@@ -163,11 +159,9 @@ fn unadopted_errors(
 fn orphan_errors(
     text: &[u8],
     words: &[u32],
-    numbers: &[u32],
+    hashes: &[u32],
     owners: &[u32],
     extensions: &[u32],
-    heads: &[u32],
-    nexts: &[u32],
     adopt: bool,
     rows: &[u32],
     places: &[u32],
@@ -175,41 +169,37 @@ fn orphan_errors(
     errors: &mut [u32],
     t: Tallies,
 ) -> Tallies
-    requires { Searching text.now words.now numbers.now rows.now places.now
+    requires { Searching text.now words.now hashes.now rows.now places.now
         × HeldExtension words.now g
-        × ExtensionsAre words.now numbers.now owners.now extensions.now heads.now nexts.now
+        × Held words.now extensions.now
         × ErrorsFit errors.old t (orphan_errors_at adopt (view_of text.now words.now owners.now) rows.now extensions.now g) }
     ensures { Pushes errors.old t errors.new result
         (orphan_errors_at adopt (view_of text.now words.now owners.now) rows.now extensions.now g) }
 {
     if adopt {
         return adoption_errors(
-            text, words, numbers, owners, extensions, heads, nexts, rows, places, g, errors, t,
+            text, words, hashes, owners, extensions, rows, places, g, errors, t,
         );
     }
-    unadopted_errors(
-        text, words, numbers, owners, extensions, heads, nexts, g, errors, t,
-    )
+    unadopted_errors(text, words, hashes, owners, extensions, g, errors, t)
 }
 
 // The orphans of all names, in the order of the first ones.
 pub fn all_orphan_errors(
     text: &[u8],
     words: &[u32],
-    numbers: &[u32],
+    hashes: &[u32],
     owners: &[u32],
     orphans: &[u32],
     extensions: &[u32],
-    heads: &[u32],
-    nexts: &[u32],
     adopt: bool,
     rows: &[u32],
     places: &[u32],
     errors: &mut [u32],
     t: Tallies,
 ) -> Tallies
-    requires { Searching text.now words.now numbers.now rows.now places.now
-        × ExtensionsAre words.now numbers.now owners.now extensions.now heads.now nexts.now
+    requires { Searching text.now words.now hashes.now rows.now places.now
+        × Held words.now extensions.now
         × HeldExtensions words.now orphans.now
         × ErrorsFit errors.old t
         (flat_map (orphan_errors_at adopt (view_of text.now words.now owners.now) rows.now extensions.now) orphans.now) }
@@ -222,8 +212,7 @@ pub fn all_orphan_errors(
     let mut i = 0;
     while i < orphans.len() {
         t = orphan_errors(
-            text, words, numbers, owners, extensions, heads, nexts, adopt, rows, places,
-            orphans[i], errors, t,
+            text, words, hashes, owners, extensions, adopt, rows, places, orphans[i], errors, t,
         );
         i += 1;
     }

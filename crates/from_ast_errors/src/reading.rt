@@ -1,13 +1,11 @@
 // The errors of reading documents: what each heading gives after those before it.
-ghost use Rattle.std.specs.Prelude.{◌≡◌, ◌≤◌, ◌<◌, length, get_or};
-ghost use Rattle.definition.specs.Refusals.{card_capacity};
+ghost use Rattle.std.specs.Prelude.{◌≡◌, ◌≤◌, ◌<◌};
 ghost use Rattle.definition.specs.Store.{cards_used_of};
 ghost use Rattle.store_reader.specs.Stored.{card_kind};
-ghost use Rattle.from_ast_index.specs.Index.{Numbered, DirectivesAre};
+ghost use Rattle.from_ast_index.specs.Index.{Hashed, Spanned};
 ghost use Rattle.from_ast_collisions.specs.Pushing.{no_errors, ErrorsFit, Pushes};
 ghost use Rattle.from_ast_collisions.specs.ErrorsByCards.{schema_errors_at, type_errors_at, errors_at_card};
-ghost use Rattle.from_ast_collisions.specs.Views.{view_of, card_view, FirstCollision, HeldHeadings, ExtensionsAre, Ascending};
-ghost use Rattle.from_ast_collisions.specs.Noting.{Ready, AllReady};
+ghost use Rattle.from_ast_collisions.specs.Views.{view_of, card_view, Searching, Held, HeldHeadings, Ascending};
 ghost use Rattle.from_ast_errors.specs.Written.{reading_errors_in};
 
 use crate::{extensions, redefinitions};
@@ -19,7 +17,7 @@ use from_ast_collisions::{merging, pushing};
 fn schema_errors(
     text: &[u8],
     words: &[u32],
-    numbers: &[u32],
+    hashes: &[u32],
     rows: &[u32],
     schema: u32,
     before: &[u32],
@@ -27,7 +25,7 @@ fn schema_errors(
     errors: &mut [u32],
     t: Tallies,
 ) -> Tallies
-    requires { Numbered text.now words.now numbers.now
+    requires { Hashed text.now words.now hashes.now
         × ErrorsFit errors.old t (schema_errors_at (card_view text.now words.now) rows.now schema before.now h) }
     ensures { Pushes errors.old t errors.new result
         (schema_errors_at (card_view text.now words.now) rows.now schema before.now h) }
@@ -43,32 +41,30 @@ fn schema_errors(
     }
     let kind = kinds::SCHEMA_DEFINITION;
     let from = merging::seek_row(rows, 0, kind, schema);
-    let t = merging::merge_errors(text, words, numbers, rows, from, kind, schema, h, errors, t);
-    merging::merge_schema_extensions(text, words, before, numbers, rows, schema, errors, t)
+    let t = merging::merge_errors(text, words, hashes, rows, from, kind, schema, h, errors, t);
+    merging::merge_schema_extensions(text, words, before, hashes, rows, schema, errors, t)
 }
 
-// A first type definition is merged with the extensions of its kind before it.
+// A first type definition is merged with the extensions of its kind before it; they stand in its part of all extensions.
 fn type_errors(
     text: &[u8],
     words: &[u32],
-    numbers: &[u32],
+    hashes: &[u32],
     owners: &[u32],
     extensions: &[u32],
-    heads: &[u32],
-    nexts: &[u32],
+    starts: &[u32],
+    ends: &[u32],
     rows: &[u32],
-    earlier: &[u32],
+    places: &[u32],
     h: u32,
     errors: &mut [u32],
     t: Tallies,
 ) -> Tallies
-    requires { (cards_used_of words.now ≤ card_capacity)
+    requires { Searching text.now words.now hashes.now rows.now places.now
         × (h < cards_used_of words.now)
-        × (5 ≤ card_kind words.now h)
-        × (card_kind words.now h ≤ 10)
-        × Ready text.now words.now owners.now rows.now earlier.now h
-        × AllReady text.now words.now owners.now rows.now earlier.now extensions.now
-        × ExtensionsAre words.now numbers.now owners.now extensions.now heads.now nexts.now
+        × (card_kind words.now h < 20)
+        × Ascending extensions.now
+        × Spanned words.now owners.now extensions.now starts.now ends.now
         × ErrorsFit errors.old t (type_errors_at (view_of text.now words.now owners.now) rows.now extensions.now h) }
     ensures { Pushes errors.old t errors.new result
         (type_errors_at (view_of text.now words.now owners.now) rows.now extensions.now h) }
@@ -77,9 +73,11 @@ fn type_errors(
         return redefinitions::redefinition_errors(words, owners, h, errors, t);
     }
     let kind = store_reader::card_kind(words, h as usize);
-    let t = merging::merge_noted(text, words, rows, earlier, kind, h, h, errors, t);
+    let from = merging::row_at(rows, places, kind, h);
+    let t = merging::merge_errors(text, words, hashes, rows, from, kind, h, h, errors, t);
+    let own = from_ast_index::own_extensions(extensions, starts, ends, h);
     extensions::early_errors(
-        text, words, numbers, owners, extensions, heads, nexts, rows, earlier, kind, h, errors, t,
+        text, words, hashes, owners, own, rows, from, kind, h, errors, t,
     )
 }
 
@@ -87,28 +85,25 @@ fn type_errors(
 fn errors_at(
     text: &[u8],
     words: &[u32],
-    numbers: &[u32],
+    hashes: &[u32],
     owners: &[u32],
     extensions: &[u32],
-    heads: &[u32],
-    nexts: &[u32],
-    standing: &[u32],
+    starts: &[u32],
+    ends: &[u32],
     rows: &[u32],
-    earlier: &[u32],
+    places: &[u32],
     schema: u32,
     before: &[u32],
     h: u32,
     errors: &mut [u32],
     t: Tallies,
 ) -> Tallies
-    requires { Numbered text.now words.now numbers.now
+    requires { Searching text.now words.now hashes.now rows.now places.now
         × (h < cards_used_of words.now)
         × (card_kind words.now h ≤ 17)
-        × (cards_used_of words.now ≤ length standing.now)
-        × FirstCollision text.now words.now before.now h (get_or standing.now (get_or numbers.now h 0) 0)
-        × ExtensionsAre words.now numbers.now owners.now extensions.now heads.now nexts.now
-        × Ready text.now words.now owners.now rows.now earlier.now h
-        × AllReady text.now words.now owners.now rows.now earlier.now extensions.now
+        × Held words.now before.now
+        × Ascending extensions.now
+        × Spanned words.now owners.now extensions.now starts.now ends.now
         × ErrorsFit errors.old t
         (errors_at_card (view_of text.now words.now owners.now) rows.now schema extensions.now before.now h) }
     ensures { Pushes errors.old t errors.new result
@@ -120,24 +115,20 @@ fn errors_at(
         return pushing::push_error(errors, t, build_error::EXECUTABLE_DEFINITION, h, ABSENT);
     }
     if kind == kinds::DIRECTIVE_DEFINITION {
-        return redefinitions::directive_errors(
-            text, words, numbers, standing, before, h, errors, t,
-        );
+        return redefinitions::directive_errors(text, words, hashes, before, h, errors, t);
     }
     if kind == kinds::SCHEMA_DEFINITION {
-        return schema_errors(text, words, numbers, rows, schema, before, h, errors, t);
+        return schema_errors(text, words, hashes, rows, schema, before, h, errors, t);
     }
     if kind <= kinds::INPUT_OBJECT_TYPE_DEFINITION {
         return type_errors(
-            text, words, numbers, owners, extensions, heads, nexts, rows, earlier, h, errors, t,
+            text, words, hashes, owners, extensions, starts, ends, rows, places, h, errors, t,
         );
     }
     if kind == kinds::SCHEMA_EXTENSION {
-        return extensions::schema_extension_errors(
-            text, words, numbers, rows, schema, h, errors, t,
-        );
+        return extensions::schema_extension_errors(text, words, hashes, rows, schema, h, errors, t);
     }
-    extensions::type_extension_errors(text, words, owners, rows, earlier, h, errors, t)
+    extensions::type_extension_errors(text, words, hashes, owners, rows, places, h, errors, t)
 }
 
 // The errors of all headings in order. The row 4 comes first and has the schema definition's card.
@@ -145,23 +136,19 @@ pub fn reading_errors(
     text: &[u8],
     words: &[u32],
     headings: &[u32],
-    numbers: &[u32],
+    hashes: &[u32],
     owners: &[u32],
     extensions: &[u32],
-    heads: &[u32],
-    nexts: &[u32],
-    standing: &[u32],
+    starts: &[u32],
+    ends: &[u32],
     rows: &[u32],
-    earlier: &[u32],
+    places: &[u32],
     errors: &mut [u32],
 ) -> Tallies
-    requires { Numbered text.now words.now numbers.now
+    requires { Searching text.now words.now hashes.now rows.now places.now
         × HeldHeadings words.now headings.now
-        × Ascending headings.now
-        × DirectivesAre text.now words.now numbers.now headings.now standing.now
-        × ExtensionsAre words.now numbers.now owners.now extensions.now heads.now nexts.now
-        × AllReady text.now words.now owners.now rows.now earlier.now headings.now
-        × AllReady text.now words.now owners.now rows.now earlier.now extensions.now
+        × Ascending extensions.now
+        × Spanned words.now owners.now extensions.now starts.now ends.now
         × ErrorsFit errors.old no_errors (reading_errors_in text.now words.now owners.now rows.now extensions.now headings.now) }
     ensures { Pushes errors.old no_errors errors.new result
         (reading_errors_in text.now words.now owners.now rows.now
@@ -174,8 +161,8 @@ pub fn reading_errors(
         let before = &headings[0..k];
         let h = headings[k];
         t = errors_at(
-            text, words, numbers, owners, extensions, heads, nexts, standing, rows, earlier,
-            schema, before, h, errors, t,
+            text, words, hashes, owners, extensions, starts, ends, rows, places, schema, before, h,
+            errors, t,
         );
         k += 1;
     }

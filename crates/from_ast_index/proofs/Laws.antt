@@ -42,8 +42,8 @@ module _ (text words : List ℕ) where
       ∙ ap some (all_get (Standing text words) hs a k g.0 g.1).1
       ∙ ap (λ (c : ℕ). some (heading_at text words c)) (sym number)
 
-module _ (text words headings numbers owners typeCards orphanCards extensionCards : List ℕ) (m t o e : ℕ)
-    (x : Indexed text words headings numbers owners typeCards orphanCards extensionCards m t o e) where
+module _ (text words headings hashes owners typeCards orphanCards extensionCards : List ℕ) (m t o e : ℕ)
+    (x : Indexed text words headings hashes owners typeCards orphanCards extensionCards m t o e) where
   pub type_here : (k : ℕ) → k < t → get_elem? (defined_types (stored_headings text words)) k ≡ some (heading_at text words (get_or typeCards k 0))
   unfolding defined_types
   type_here =

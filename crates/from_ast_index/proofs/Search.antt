@@ -1,42 +1,31 @@
--- What the numbers of names tell of stored cards.
-use mathlib.Core.Path.{◌≡◌, refl, sym, ◌∙◌, ap₂}
+-- The hashes of stored cards.
+use mathlib.Core.Path.{◌≡◌, refl, sym, ◌∙◌, ap}
 use mathlib.Core.List.{List}
-use mathlib.Core.Bool.{true, false}
-use Prim.Native.Nat.{ℕ, ◌≤◌, ◌<◌}
-use native.Mathlib.Omega.{arith}
-use lib.Dec.{eqb}
+use mathlib.Core.Bool.{false}
+use Prim.Native.Nat.{ℕ, ◌<◌}
 use lib.ListN.{length, get_or}
-use borrow.Author.Tests.{eq-eqb, ne_eqb, eqb-true}
+use lib.Seq.{get_or-take}
 use Rattle.definition.specs.Store.{cards_used_of}
-use Rattle.store_reader.specs.Stored.{card_name}
-use Rattle.numbering.specs.Numbers.{one_name, representative}
-use Rattle.numbering.proofs.Laws.{one_numbers, rep_most}
-use Rattle.from_ast_index.specs.Index.{Numbered, same_cards}
+use Rattle.store_reader.specs.Stored.{stored_parts, card_at}
+use Rattle.store_reader.proofs.Words.{length_stored, stored_at}
+use Rattle.from_ast_index.specs.Index.{card_hash, Hashed, same_cards, part_hash}
+use Rattle.from_ast_index.proofs.Lists.{get_d_picture}
+use Rattle.from_ast_index.proofs.Hashes.{hashes_differ}
 
-cards_one : (text words : List ℕ) (a b : ℕ) → same_cards text words a b ≡ one_name (card_name text words) a b
-unfolding same_cards one_name
-cards_one text words a b = refl
+-- What `same_cards` reads.
+module _ (text words hashes : List ℕ) (p : Hashed text words hashes) where
+  pub hash_at : (a : ℕ) → a < cards_used_of words → get_or hashes a 0 ≡ card_hash text words a
+  unfolding part_hash card_hash
+  hash_at a h =
+      let l : length (stored_parts text words) ≡ cards_used_of words = length_stored text words in
+      sym (get_or-take (cards_used_of words) hashes a 0 h)
+      ∙ ap (λ (xs : List ℕ). get_or xs a 0) p.hashes_are
+      ∙ get_d_picture part_hash (stored_parts text words) a (card_at text words a) (stored_at text words a h)
+      ∙ card_hash_lem
+    where
+      card_hash_lem : part_hash (card_at text words a) ≡ card_hash text words a
+      card_hash_lem = refl
 
-module _ (text words numbers : List ℕ) (p : Numbered text words numbers) where
-  -- A name's number is a stored card's.
-  pub number_most : (a : ℕ) → a < cards_used_of words → get_or numbers a 0 ≤ a
-  number_most a h = omega (arith, p.numbers_are a h, rep_most (card_name text words) a)
-
-  pub number_stored : (a : ℕ) → a < cards_used_of words → get_or numbers a 0 < cards_used_of words
-  number_stored a h = omega (arith, number_most a h)
-
-  -- Two cards have one name exactly where they have one number.
-  pub cards_numbered : (a b : ℕ) → a < cards_used_of words → b < cards_used_of words → same_cards text words a b ≡ eqb (get_or numbers a 0) (get_or numbers b 0)
-  cards_numbered a b h k =
-      cards_one text words a b
-      ∙ one_numbers (card_name text words) a b
-      ∙ ap₂ eqb (sym (p.numbers_are a h)) (sym (p.numbers_are b k))
-
-  pub cards_same : (a b : ℕ) → a < cards_used_of words → b < cards_used_of words → get_or numbers a 0 ≡ get_or numbers b 0 → same_cards text words a b ≡ true
-  cards_same a b h k e = cards_numbered a b h k ∙ eq-eqb (get_or numbers a 0) (get_or numbers b 0) e
-
-  pub cards_differ : (a b : ℕ) → a < cards_used_of words → b < cards_used_of words → (get_or numbers a 0 ≡ get_or numbers b 0 → ⊥) → same_cards text words a b ≡ false
-  cards_differ a b h k d = cards_numbered a b h k ∙ ne_eqb (get_or numbers a 0) (get_or numbers b 0) d
-
-  pub numbers_one : (a b : ℕ) → a < cards_used_of words → b < cards_used_of words → same_cards text words a b ≡ true → get_or numbers a 0 ≡ get_or numbers b 0
-  numbers_one a b h k e = eqb-true (get_or numbers a 0) (get_or numbers b 0) (sym (cards_numbered a b h k) ∙ e)
+  pub cards_differ : (a b : ℕ) → a < cards_used_of words → b < cards_used_of words → (get_or hashes a 0 ≡ get_or hashes b 0 → ⊥) → same_cards text words a b ≡ false
+  unfolding same_cards card_hash
+  cards_differ a b h k d = hashes_differ _ _ (λ e. d (hash_at a h ∙ e ∙ sym (hash_at b k)))

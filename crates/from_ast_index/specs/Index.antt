@@ -1,23 +1,38 @@
 -- The middle layer between the definitions and the code, first part: the arrays. The definitions speak of headings with their names and parts; the
 -- code walks arrays that hold numbers of stored cards, or one word for each stored card. This file says of each array which headings of the store it
 -- stands for. Crate `from_ast_indexing` fills the arrays so, and all that build reads is read from them. (Second part: component/specs/RowsByCards.)
-use Rattle.std.specs.Prelude.{◌≡◌, List, [], ◌∷◌, ◌++◌, map, Bool, true, ◌&&◌, ◌||◌, ℕ, ◌+◌, ◌≤◌, ◌<◌, leb, length, take, get_or}
+use Rattle.std.specs.Prelude.{◌≡◌, List, [], ◌∷◌, ◌++◌, map, Bool, true, ◌&&◌, ◌||◌, ℕ, ◌+◌, ◌-◌, ◌*◌, ◌%◌, ◌≤◌, ◌<◌, leb, length, take, drop, get_or}
 use Rattle.std.proofs.Math.Option.{some}
 use Rattle.std.proofs.Math.ListN.{get_elem?}
-use Rattle.definition.specs.Lists.{choose, filter, firsts}
+use Rattle.definition.specs.Lists.{filter, firsts}
 use Rattle.definition.specs.Names.{same_name}
-use Rattle.definition.specs.Answers.{absent}
-use Rattle.definition.specs.Headings.{Heading, is_of, is_type_definition, is_type_extension, same_named, defined_types, orphans, definition, number_of}
+use Rattle.definition.specs.Headings.{NamedCard, Heading, is_type_definition, is_type_extension, same_named, defined_types, orphans, definition, number_of}
 use Rattle.definition.specs.Refusals.{card_capacity}
 use Rattle.definition.specs.Store.{cards_used_of, words_capacity}
-use Rattle.store_reader.specs.Stored.{stored_headings, card_name, built_in_at, heading_at}
-use Rattle.numbering.specs.Numbers.{representative}
+use Rattle.store_reader.specs.Stored.{stored_parts, stored_headings, card_name}
+
+-- ---- Hashes.
+
+-- A number below 2 ^ 32 that is made of a name's bytes: names with other hashes are other names.
+unfoldable pub hash_from : ℕ → List ℕ → ℕ
+hash_from f [] = f
+hash_from f (b ∷ bs) = hash_from ((f * 16777619 + b) % 4294967296) bs
+
+unfoldable pub hash_of : List ℕ → ℕ
+hash_of bs = hash_from 0 bs
+
+unfoldable pub part_hash : NamedCard → ℕ
+part_hash p = hash_of p.name
 
 -- ---- Cards by their numbers.
 
 -- Whether two stored cards have one name.
 unfoldable pub same_cards : List ℕ → List ℕ → ℕ → ℕ → Bool
 same_cards text words a b = same_name (card_name text words a) (card_name text words b)
+
+-- The hash of a stored card's name.
+unfoldable pub card_hash : List ℕ → List ℕ → ℕ → ℕ
+card_hash text words c = hash_of (card_name text words c)
 
 unfoldable pub heading_number : Heading → ℕ
 heading_number h = h.number
@@ -32,26 +47,26 @@ is_typed h = is_type_definition h || is_type_extension h
 
 -- ---- What the arrays hold.
 
--- For each card the number of its name: that of the first card that has it.
-pub record Numbered (text words numbers : List ℕ) : Type 0 where
-  pub numbers_are : (c : ℕ) → c < cards_used_of words → get_or numbers c 0 ≡ representative (card_name text words) c
-  pub numbers_length : cards_used_of words ≤ length numbers
+-- For each card the hash of its name.
+pub record Hashed (text words hashes : List ℕ) : Type 0 where
+  pub hashes_are : take (cards_used_of words) hashes ≡ map part_hash (stored_parts text words)
+  pub hashes_length : cards_used_of words ≤ length hashes
   pub cards_most : cards_used_of words ≤ card_capacity
   pub words_length : words_capacity ≤ length words
 
--- Cards in rising order, whose names are numbered.
-pub record Cards (text words numbers cards : List ℕ) : Type 0 where
-  pub numbered : Numbered text words numbers
+-- Cards in rising order, whose hashes are at hand.
+pub record Cards (text words hashes cards : List ℕ) : Type 0 where
+  pub hashed : Hashed text words hashes
   pub stored : (j : ℕ) → j < length cards → get_or cards j 0 < cards_used_of words
   pub rising : (i j : ℕ) → i < j → j < length cards → get_or cards i 0 < get_or cards j 0
   pub few : length cards ≤ cards_used_of words
 
 -- The counts say how far each array is used.
-pub record Indexed (text words headings numbers owners typeCards orphanCards extensionCards : List ℕ)
+pub record Indexed (text words headings hashes owners typeCards orphanCards extensionCards : List ℕ)
     (heading_count type_count orphan_count extension_count : ℕ) : Type 0 where
   -- The headings' cards in order, then the number of cards: the parts of heading k are the cards between the entries k and k + 1.
   pub headings_are : take (heading_count + 1) headings ≡ map heading_number (stored_headings text words) ++ (cards_used_of words ∷ [])
-  pub numbered : Numbered text words numbers
+  pub hashed : Hashed text words hashes
   -- For each heading that defines or extends a type, the card of the first definition of its name, or `-`.
   pub owners_are :
       (k : ℕ) (h : Heading) → get_elem? (stored_headings text words) k ≡ some h → is_typed h ≡ true →
@@ -80,47 +95,32 @@ pub record Indexed (text words headings numbers owners typeCards orphanCards ext
   pub orphans_stored : (k : ℕ) → k < orphan_count → get_or orphanCards k 0 < cards_used_of words
   pub extensions_stored : (k : ℕ) → k < extension_count → get_or extensionCards k 0 < cards_used_of words
 
--- ---- Extensions of one name: each leads to the next.
+-- ---- Where the extensions of a type stand among all extensions.
 
--- The number of the name of the extension at a place.
-abbrev pub number_at : List ℕ → List ℕ → ℕ → ℕ
-number_at numbers extensions i = get_or numbers (get_or extensions i 0) 0
+-- The owner of the extension i.
+abbrev pub owner_at : List ℕ → List ℕ → ℕ → ℕ
+owner_at owners extensions i = get_or owners (get_or extensions i 0) 0
 
--- No extension from the place i to before the place j has the number.
-abbrev pub NoneBetween : List ℕ → List ℕ → ℕ → ℕ → ℕ → Type 0
-NoneBetween numbers extensions n i j = (k : ℕ) → i ≤ k → k < j → k < length extensions → number_at numbers extensions k ≡ n → ⊥
+-- The extensions from k on stand at or after the place that `starts` has for their owner, the first k ones before the place that `ends` has.
+pub record StartsAre (owners extensions starts : List ℕ) (k : ℕ) : Type 0 where
+  pub at_or_after :
+      (i : ℕ) → k ≤ i → i < length extensions → owner_at owners extensions i < length starts →
+      get_or starts (owner_at owners extensions i) 0 ≤ i
 
--- The first place from i on of an extension that has the number, or the end where there is none.
-pub record FirstFrom (numbers extensions : List ℕ) (n i r : ℕ) : Type 0 where
-  pub least : i ≤ r
-  pub most : r ≤ length extensions
-  pub none_between : NoneBetween numbers extensions n i r
-  pub named : r < length extensions → number_at numbers extensions r ≡ n
+pub record EndsAre (owners extensions ends : List ℕ) (k : ℕ) : Type 0 where
+  pub before_end : (i : ℕ) → i < k → owner_at owners extensions i < length ends → i < get_or ends (owner_at owners extensions i) 0
 
--- `heads` has at a number the place of the first extension of that number; where there is none, any word. `nexts` has at a place that of the next
--- extension of the same number, or the end.
-pub record Chained (words numbers extensions heads nexts : List ℕ) : Type 0 where
-  pub heads_first : (i : ℕ) → i < length extensions → get_or heads (number_at numbers extensions i) 0 ≤ i
-  pub heads_named : (i : ℕ) → i < length extensions →
-      number_at numbers extensions (get_or heads (number_at numbers extensions i) 0) ≡ number_at numbers extensions i
-  pub nexts_are : (i : ℕ) → i < length extensions → FirstFrom numbers extensions (number_at numbers extensions i) (i + 1) (get_or nexts i 0)
-  pub heads_length : cards_used_of words ≤ length heads
-  pub nexts_length : length extensions ≤ length nexts
+-- Of an owner without extensions nothing is said.
+pub record Spanned (words owners extensions starts ends : List ℕ) : Type 0 where
+  pub starts_are : StartsAre owners extensions starts 0
+  pub ends_are : EndsAre owners extensions ends (length extensions)
+  pub starts_length : cards_used_of words ≤ length starts
+  pub ends_length : cards_used_of words ≤ length ends
 
--- ---- Directive definitions. ns are all headings' cards.
+-- The part of a list from one place to another, as far as the list reaches.
+unfoldable pub part : ℕ → ℕ → List ℕ → List ℕ
+part start end xs = take (end - start) (drop start xs)
 
--- The first that is not built-in, else the last.
-unfoldable pub standing_card : (ℕ → Bool) → ℕ → List ℕ → ℕ
-standing_card built_in last [] = last
-standing_card built_in last (n ∷ ns) = let r = standing_card built_in n ns in choose (built_in n) r n
-
-unfoldable pub names_directive : List ℕ → List ℕ → ℕ → ℕ → Bool
-names_directive text words card n = is_of 3 (card_name text words card) (heading_at text words n)
-
-unfoldable pub standing_at : List ℕ → List ℕ → List ℕ → ℕ → ℕ
-standing_at text words ns card = standing_card (built_in_at words) absent (filter (names_directive text words card) ns)
-
--- `standing` has at a name's number the directive definition that stands for the name, or `-`.
-pub record DirectivesAre (text words numbers ns standing : List ℕ) : Type 0 where
-  pub standing_is : (c : ℕ) → c < cards_used_of words → get_or standing (get_or numbers c 0) 0 ≡ standing_at text words ns c
-  pub standing_length : cards_used_of words ≤ length standing
+-- The part of all extensions in which those of a type stand.
+unfoldable pub own_extensions : List ℕ → List ℕ → List ℕ → ℕ → List ℕ
+own_extensions extensions starts ends c = part (get_or starts c 0) (get_or ends c 0) extensions

@@ -7,18 +7,16 @@ use mathlib.Core.Logic.{◌≢◌}
 use Prim.Native.Nat.{ℕ, suc, ◌+◌, ◌-◌, ◌<◌}
 use native.Mathlib.Numerals.{add-one}
 use native.Mathlib.Omega.{arith}
-use lib.ListN.{length, take, drop, get_or, take-append-drop}
+use lib.ListN.{length, take, drop, get_or}
 use lib.Seq.{take-suc, split_at}
-use Rattle.definition.specs.Lists.{choose, found, filter, find, firsts, or_else, All}
+use Rattle.definition.specs.Lists.{choose, found, filter, find, firsts, or_else}
 use Rattle.definition.specs.Answers.{absent}
 use Rattle.definition.specs.Names.{same_name}
-use Rattle.definition.specs.Store.{cards_used_of}
 use Rattle.store_reader.specs.Stored.{card_name}
 use Rattle.from_ast_index.specs.Index.{same_cards}
 use Rattle.definition.proofs.Lists.{filter_yes, filter_append, first_yes, any_nil, first_firsts, same_name_eq, same_name_refl}
-use Rattle.definition.proofs.All.{all_left, all_filter, all_firsts}
-use Rattle.from_ast_index.proofs.Lists.{first_append, firsts_again, firsts_more, all_places, all_at}
-use Rattle.from_ast_indexing.specs.Entering.{first_card, entered_in, first_entered, AllStored}
+use Rattle.from_ast_index.proofs.Lists.{first_append, firsts_again, firsts_more}
+use Rattle.from_ast_indexing.specs.Entering.{first_card, entered_in, first_entered}
 
 -- ---- One more card of a list.
 
@@ -48,17 +46,6 @@ module _ (p : ℕ → Bool) (cards : List ℕ) (k : ℕ) (h : k < length cards) 
       ap (filter p) (split_at cards k 0 h)
       ∙ filter_append p (take k cards) (get_or cards k 0 ∷ drop (suc k) cards)
       ∙ ap (λ (l : List ℕ). filter p (take k cards) ++ l) (filter_yes p (get_or cards k 0) (drop (suc k) cards) e)
-
--- The first k of stored cards are stored, and so are those that a test keeps of them, and the first of each name of those.
-pub taken_stored : (words : List ℕ) (k : ℕ) (cards : List ℕ) → All (λ c. c < cards_used_of words) cards → All (λ c. c < cards_used_of words) (take k cards)
-taken_stored words k cards a = all_left (λ c. c < cards_used_of words) (take k cards) (drop k cards) (rw (take-append-drop k cards) a)
-
-pub listed_stored : (words listed : List ℕ) (same : ℕ → ℕ → Bool) (p : ℕ → Bool) (k : ℕ) (cards : List ℕ) →
-    ((j : ℕ) → j < length cards → get_or cards j 0 < cards_used_of words) → listed ≡ firsts same [] (filter p (take k cards)) → AllStored words listed
-listed_stored words listed same p k cards st e =
-    all_at (λ c. c < cards_used_of words) listed
-    (rw e (all_firsts (λ c. c < cards_used_of words) same [] (filter p (take k cards))
-    (all_filter (λ c. c < cards_used_of words) p (take k cards) (taken_stored words k cards (all_places (λ c. c < cards_used_of words) cards st)))))
 
 -- Cards in rising order are other cards.
 pub apart : (a b : ℕ) → a < b → a ≢ b

@@ -1,89 +1,71 @@
 -- The search for a name among cards, and a card that is added where none has its name.
 use mathlib.Core.Path.{◌≡◌, refl, sym, ◌∙◌, ap}
-use mathlib.Core.List.{List, [], ◌∷◌, ◌++◌}
-use mathlib.Core.Bool.{Bool, true, false}
+use mathlib.Core.List.{List, [], ◌∷◌, ◌++◌, map}
+use mathlib.Core.Bool.{true, false}
 use mathlib.Core.Option.{Option, none, some}
 use Prim.Native.Nat.{ℕ, zero, suc, ◌+◌, ◌-◌, ◌≤◌, ◌<◌}
-use native.Mathlib.Nat.{sub-zero}
 use native.Mathlib.Numerals.{add-one}
 use native.Mathlib.Omega.{arith}
-use lib.Dec.{ltb}
-use lib.ListN.{get_or-append, length, take, get_or, set, length-append}
-use lib.Seq.{length-take-le, take-suc-set, get_or-set_same, get_or-set_other}
-use borrow.Author.Tests.{eq-eqb, eqb-true, eqb-false, ltb-true, ltb-false}
-use Rattle.definition.specs.Lists.{found, find}
-use Rattle.definition.specs.Store.{cards_used_of}
-use Rattle.from_ast_index.specs.Index.{Numbered, same_cards}
-use Rattle.definition.proofs.Lists.{first_nil, first_yes, first_no}
-use Rattle.definition.proofs.All.{first_cong}
-use Rattle.from_ast_index.proofs.Lists.{all_places, none_some}
-use Rattle.from_ast_index.proofs.Search.{cards_numbered, number_stored}
+use lib.ListN.{length, take, drop, get_or, set, length-map}
+use lib.Seq.{drop_at, length-take-le, take-add, take-suc-set}
+use Rattle.definition.specs.Lists.{find}
+use Rattle.from_ast_index.specs.Index.{card_hash, same_cards}
+use Rattle.definition.proofs.Lists.{map_append, first_nil, first_yes, first_no}
+use Rattle.from_ast_index.proofs.Lists.{drop_next, drop_end}
+use Rattle.from_ast_index.proofs.Hashes.{hashes_differ}
 use Rattle.from_ast_indexing.specs.declared.entry.Entry.{Entry}
 use Rattle.from_ast_indexing.specs.declared.entry.Entry.TheVariants.{Occupied, Vacant}
-use Rattle.from_ast_indexing.specs.Entering.{same_number, entry_of, entered_in, first_entered, AllStored, Placed, Searched, Entering, Entered}
+use Rattle.from_ast_indexing.specs.Entering.{entry_of, entered_in, first_entered, Searched, Entering, Entered}
 
--- ---- The first that passes a test, by its place.
+-- ---- A turn of the search.
 
-module _ (p : ℕ → Bool) where
-  find_at : (xs : List ℕ) (i : ℕ) → i < length xs → p (get_or xs i 0) ≡ true → ((j : ℕ) → j < i → p (get_or xs j 0) ≡ false) → find p xs ≡ some (get_or xs i 0)
-  find_at [] i h e f = absurd (omega arith)
-  find_at (x ∷ xs) zero h e f = first_yes p x xs e
-  find_at (x ∷ xs) (suc i) h e f = first_no p x xs (f 0 (omega arith)) ∙ find_at xs i (omega arith) e (λ j l. f (suc j) (omega arith))
+module _ (text words cards : List ℕ) (card i : ℕ) where
+  pub search_hit : i < length cards → same_cards text words card (get_or cards i 0) ≡ true →
+      entry_of (find (same_cards text words card) (drop i cards)) ≡ Occupied (get_or cards i 0)
+  search_hit h e = rw (drop_next cards i h) (ap entry_of (first_yes (same_cards text words card) (get_or cards i 0) (drop (i + 1) cards) e))
 
-  find_none : (xs : List ℕ) → ((j : ℕ) → j < length xs → p (get_or xs j 0) ≡ false) → find p xs ≡ none
-  find_none [] f = first_nil p
-  find_none (x ∷ xs) f = first_no p x xs (f 0 (omega arith)) ∙ find_none xs (λ j l. f (suc j) (omega arith))
+  pub search_miss : i < length cards → same_cards text words card (get_or cards i 0) ≡ false →
+      entry_of (find (same_cards text words card) (drop i cards)) ≡ entry_of (find (same_cards text words card) (drop (i + 1) cards))
+  search_miss h e = rw (drop_next cards i h) (ap entry_of (first_no (same_cards text words card) (get_or cards i 0) (drop (i + 1) cards) e))
 
-  none_at : (xs : List ℕ) → find p xs ≡ none → (j : ℕ) → j < length xs → p (get_or xs j 0) ≡ false
-  none_at [] e j h = absurd (omega arith)
-  none_at (x ∷ xs) e j h = go (p x) refl j h (λ q i l. none_at xs q i l)
-    where
-      go : (b : Bool) → p x ≡ b → (i : ℕ) → i < suc (length xs) → (find p xs ≡ none → (k : ℕ) → k < length xs → p (get_or xs k 0) ≡ false) →
-          p (get_or (x ∷ xs) i 0) ≡ false
-      go true y i l r = absurd (none_some x (sym e ∙ first_yes p x xs y))
-      go false y zero l r = y
-      go false y (suc i) l r = r (sym (first_no p x xs y) ∙ e) i (omega arith)
+  pub search_end : length cards ≤ i → entry_of (find (same_cards text words card) (drop i cards)) ≡ Vacant
+  search_end h = rw (drop_end cards i h) (ap entry_of (first_nil (same_cards text words card)))
 
-end_at : (xs : List ℕ) (x : ℕ) → get_or (xs ++ (x ∷ [])) (length xs) 0 ≡ x
-end_at [] x = refl
-end_at (y ∷ xs) x = end_at xs x
+-- The hashes beside the cards tell other names.
+get_d_hash : (text words cards : List ℕ) (i : ℕ) → i < length cards → get_or (map (card_hash text words) cards) i 0 ≡ card_hash text words (get_or cards i 0)
+get_d_hash text words [] i h = absurd (omega arith)
+get_d_hash text words (x ∷ xs) zero h = refl
+get_d_hash text words (x ∷ xs) (suc i) h = get_d_hash text words xs i (omega arith)
 
--- ---- The search.
+drop_hash : (text words : List ℕ) (n : ℕ) (cards : List ℕ) → drop n (map (card_hash text words) cards) ≡ map (card_hash text words) (drop n cards)
+drop_hash text words zero cards = refl
+drop_hash text words (suc n) [] = refl
+drop_hash text words (suc n) (x ∷ xs) = drop_hash text words n xs
 
-module _ (numbers cards places : List ℕ) (card : ℕ) (s : Searched numbers cards places card) where
-  abbrev place : ℕ
-  place = get_or places (get_or numbers card 0) 0
+module _ (text words cards hashes : List ℕ) (card hash : ℕ) (s : Searched text words cards hashes card hash) where
+  pub search_length : length hashes ≡ length cards
+  search_length = ap length s.hashes_are ∙ length-map cards (card_hash text words)
 
-  -- A listed card of the number stands at the place that is read.
-  only_there : (j : ℕ) → j < length cards → same_number numbers card (get_or cards j 0) ≡ true → j ≡ place
-  unfolding same_number
-  only_there j l e =
-      sym (s.places_are j l)
-      ∙ ap (λ (n : ℕ). get_or places n 0) (sym (eqb-true (get_or numbers card 0) (get_or numbers (get_or cards j 0) 0) e))
+  pub search_differ : (i : ℕ) → i < length cards → (get_or hashes i 0 ≡ hash → ⊥) → same_cards text words card (get_or cards i 0) ≡ false
+  unfolding same_cards card_hash
+  search_differ i h d =
+      hashes_differ _ _
+      (λ e. d (ap (λ (l : List ℕ). get_or l i 0) s.hashes_are ∙ get_d_hash text words cards i h ∙ sym e ∙ sym s.hash_is))
 
-  others : (j : ℕ) → j < length cards → (same_number numbers card (get_or cards j 0) ≡ true → ⊥) → same_number numbers card (get_or cards j 0) ≡ false
-  others j l d = go (same_number numbers card (get_or cards j 0)) refl
-    where
-      go : (b : Bool) → same_number numbers card (get_or cards j 0) ≡ b → same_number numbers card (get_or cards j 0) ≡ false
-      go true e = absurd (d e)
-      go false e = e
+  -- A search that begins later finds the same where none before has the hash.
+  pub search_from : (from : ℕ) → from ≤ length cards → ((j : ℕ) → j < from → get_or hashes j 0 ≡ hash → ⊥) →
+      entry_of (find (same_cards text words card) cards) ≡ entry_of (find (same_cards text words card) (drop from cards))
+  search_from zero h d = refl
+  search_from (suc n) h d =
+      search_from n (omega arith) (λ j l. d j (omega arith))
+      ∙ search_miss text words cards card n h (search_differ n h (d n (omega arith)))
+      ∙ ap (λ (k : ℕ). entry_of (find (same_cards text words card) (drop k cards))) (add-one n)
 
-  pub search_past : length cards ≤ place → entry_of (find (same_number numbers card) cards) ≡ Vacant
-  search_past h = ap entry_of (find_none (same_number numbers card) cards (λ j l. others j l (λ e. omega (arith, only_there j l e))))
-
-  pub search_other : (get_or numbers (get_or cards place 0) 0 ≡ get_or numbers card 0 → ⊥) → entry_of (find (same_number numbers card) cards) ≡ Vacant
-  unfolding same_number
-  search_other d = ap entry_of (find_none (same_number numbers card) cards (λ j l. others j l (λ e. d
-      (ap (λ (i : ℕ). get_or numbers (get_or cards i 0) 0) (sym (only_there j l e))
-      ∙ sym (eqb-true (get_or numbers card 0) (get_or numbers (get_or cards j 0) 0) e)))))
-
-  pub search_hit : place < length cards → get_or numbers (get_or cards place 0) 0 ≡ get_or numbers card 0 →
-      entry_of (find (same_number numbers card) cards) ≡ Occupied (get_or cards place 0)
-  unfolding same_number
-  search_hit h e =
-      ap entry_of
-      (find_at (same_number numbers card) cards place h (eq-eqb (get_or numbers card 0) (get_or numbers (get_or cards place 0) 0) (sym e))
-      (λ j l. others j (omega arith) (λ q. omega (arith, only_there j (omega arith) q))))
+  pub searched_from : (from : ℕ) → Searched text words (drop from cards) (drop from hashes) card hash
+  searched_from from = record {
+    hashes_are = ap (drop from) s.hashes_are ∙ drop_hash text words from cards;
+    hash_is = s.hash_is;
+  }
 
 -- ---- A card that comes to the first ones.
 
@@ -95,82 +77,62 @@ pub vacant : (o : Option ℕ) → entry_of o ≡ Vacant → o ≡ none
 vacant (some x) e = absurd (let z : ◌≡◌ {A = ℕ} 0 1 = cc in omega arith)
 vacant none e = refl
 
-module _ (numbers cards places : List ℕ) (card count : ℕ) (l : length cards ≡ count) (s : Searched numbers cards places card)
-    (q : find (same_number numbers card) cards ≡ none) where
-  -- The places of those before stay, since their numbers are others.
-  pub placed_more : Placed numbers (cards ++ (card ∷ [])) (set places (get_or numbers card 0) count)
-  unfolding same_number
-  placed_more k h = go (ltb k count) refl
-    where
-      inside : k < count + 1
-      inside = omega (arith, length-append cards (card ∷ []))
+part_taken : (from count : ℕ) (xs : List ℕ) → from ≤ count → from ≤ length xs → drop from (take count xs) ≡ take (count - from) (drop from xs)
+part_taken from count xs h l =
+    let e : from + (count - from) ≡ count = omega arith in
+    ap (λ (n : ℕ). drop from (take n xs)) (sym e)
+    ∙ ap (drop from) (take-add from (count - from) xs)
+    ∙ drop_at (take from xs) (take (count - from) (drop from xs)) from (length-take-le from xs l)
 
-      go : (b : Bool) → ltb k count ≡ b → get_or (set places (get_or numbers card 0) count) (get_or numbers (get_or (cards ++ (card ∷ [])) k 0) 0) 0 ≡ k
-      go true e =
-          let m : k < length cards = omega (arith, ltb-true k count e) in
-          let differ = eqb-false (get_or numbers card 0) (get_or numbers (get_or cards k 0) 0) (none_at (same_number numbers card) cards q k m) in
-          ap (λ (c : ℕ). get_or (set places (get_or numbers card 0) count) (get_or numbers c 0) 0) (get_or-append cards (card ∷ []) 0 k m)
-          ∙ get_or-set_other places (get_or numbers card 0) (get_or numbers (get_or cards k 0) 0) count 0 (λ e. differ (sym e))
-          ∙ s.places_are k m
-      go false e =
-          let same : k ≡ length cards = omega (arith, ltb-false k count e, inside) in
-          ap (λ (i : ℕ). get_or (set places (get_or numbers card 0) count) (get_or numbers (get_or (cards ++ (card ∷ [])) i 0) 0) 0) same
-          ∙ ap (λ (c : ℕ). get_or (set places (get_or numbers card 0) count) (get_or numbers c 0) 0) (end_at cards card)
-          ∙ get_or-set_same places (get_or numbers card 0) count 0 s.number_inside
-          ∙ sym l ∙ sym same
+module _ (text words cards hashes : List ℕ) (from count card hash : ℕ) (s : Entering text words cards hashes from count card hash) where
+  cards_part : drop from (take count cards) ≡ take (count - from) (drop from cards)
+  cards_part = part_taken from count cards s.from_most (omega (arith, s.from_most, s.cards_capacity))
 
-module _ (numbers cards places : List ℕ) (count card : ℕ) (s : Entering numbers cards places count card) where
-  pub entering_searched : Searched numbers (take (count - 0) cards) places card
-  entering_searched = rw sub-zero s.searched
+  hashes_part : drop from (take count hashes) ≡ take (count - from) (drop from hashes)
+  hashes_part = part_taken from count hashes s.from_most (omega (arith, s.from_most, s.hashes_capacity))
 
-  pub entered_old : (f : Entry) (d : ℕ) → f ≡ entry_of (find (same_number numbers card) (take (count - 0) cards)) → f ≡ Occupied d →
-      Entered numbers card count (record { card = d; count = count }) cards cards places
+  -- The search goes over the part from `from` to `count`.
+  pub entering_searched : Searched text words (take (count - from) (drop from cards)) (take (count - from) (drop from hashes)) card hash
+  entering_searched =
+      rw (sym cards_part, sym hashes_part)
+      (searched_from text words (take count cards) (take count hashes) card hash s.searched from)
+
+  searched_all : entry_of (find (same_cards text words card) (take count cards))
+      ≡ entry_of (find (same_cards text words card) (take (count - from) (drop from cards)))
+  searched_all =
+      let l : length (take count cards) ≡ count = length-take-le count cards (omega (arith, s.cards_capacity)) in
+      search_from text words (take count cards) (take count hashes) card hash s.searched from (omega (arith, s.from_most)) s.passed
+      ∙ ap (λ (xs : List ℕ). entry_of (find (same_cards text words card) xs)) cards_part
+
+  pub entered_old : (f : Entry) (d : ℕ) → f ≡ entry_of (find (same_cards text words card) (take (count - from) (drop from cards))) → f ≡ Occupied d →
+      Entered text words card count (record { card = d; count = count }) cards cards hashes
   unfolding first_entered entered_in
   entered_old f d r e =
-      let q = occupied (find (same_number numbers card) (take count cards)) d (rw sub-zero at (sym r ∙ e)) in
+      let q = occupied (find (same_cards text words card) (take count cards)) d (searched_all ∙ sym r ∙ e) in
       record {
         first_is = rw q;
         cards_are = rw q;
-        places_are = s.searched.places_are;
+        hashes_are = s.searched.hashes_are;
         count_most = omega arith;
       }
 
-  pub entered_new : (f : Entry) → f ≡ entry_of (find (same_number numbers card) (take (count - 0) cards)) → f ≡ Vacant →
-      Entered numbers card count (record { card = card; count = count + 1 }) cards (set cards count card) (set places (get_or numbers card 0) count)
+  pub entered_new : (f : Entry) → f ≡ entry_of (find (same_cards text words card) (take (count - from) (drop from cards))) → f ≡ Vacant →
+      Entered text words card count (record { card = card; count = count + 1 }) cards (set cards count card)
+      (set hashes count hash)
   unfolding first_entered entered_in
   entered_new f r e =
-      let q = vacant (find (same_number numbers card) (take count cards)) (rw sub-zero at (sym r ∙ e)) in
+      let q = vacant (find (same_cards text words card) (take count cards)) (searched_all ∙ sym r ∙ e) in
       let taken : take (count + 1) (set cards count card) ≡ take count cards ++ (card ∷ []) = rw add-one (take-suc-set cards count card s.cards_capacity) in
-      let l : length (take count cards) ≡ count = length-take-le count cards (omega (arith, s.cards_capacity)) in
+      let hashed : take (count + 1) (set hashes count hash) ≡ take count hashes ++ (hash ∷ []) =
+      rw add-one (take-suc-set hashes count hash s.hashes_capacity) in
       record {
         first_is = rw q;
         cards_are = rw q taken;
-        places_are = rw taken (placed_more numbers (take count cards) places card count l s.searched q);
+        hashes_are =
+            hashed
+            ∙ ap (λ (l : List ℕ). l ++ (hash ∷ [])) s.searched.hashes_are
+            ∙ ap (λ (p : ℕ). map (card_hash text words) (take count cards) ++ (p ∷ [])) s.searched.hash_is
+            ∙ sym (map_append (card_hash text words) (take count cards) (card ∷ []))
+            ∙ ap (map (card_hash text words)) (sym taken);
         count_most = omega arith;
       }
-
--- ---- Numbers tell names.
-
-module _ (text words numbers cards : List ℕ) (p : Numbered text words numbers) (card : ℕ) (h : card < cards_used_of words) (st : AllStored words cards) where
-  pub searched_stored : (places : List ℕ) → cards_used_of words ≤ length places → Placed numbers cards places → Searched numbers cards places card
-  searched_stored places capacity a = record {
-    numbered = omega (arith, p.numbers_length);
-    number_inside = omega (arith, number_stored text words numbers p card h);
-    cards_numbered = λ k l. omega (arith, st k l, p.numbers_length);
-    places_are = a;
-  }
-
-  pub find_named : find (same_number numbers card) cards ≡ find (same_cards text words card) cards
-  unfolding same_number
-  find_named =
-      first_cong (same_number numbers card) (same_cards text words card) cards
-      (all_places (λ d. same_number numbers card d ≡ same_cards text words card d) cards
-      (λ k l. sym (cards_numbered text words numbers p card (get_or cards k 0) h (st k l))))
-
-  pub entered_named : entered_in (same_number numbers) card cards ≡ entered_in (same_cards text words) card cards
-  unfolding entered_in
-  entered_named = ap (λ (o : Option ℕ). found o (λ d. cards) (cards ++ (card ∷ []))) find_named
-
-  pub first_named : first_entered (same_number numbers) card cards ≡ first_entered (same_cards text words) card cards
-  unfolding first_entered
-  first_named = ap (λ (o : Option ℕ). found o (λ d. d) card) find_named

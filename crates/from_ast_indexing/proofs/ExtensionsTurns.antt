@@ -3,12 +3,12 @@ use mathlib.Core.Path.{◌≡◌, refl, sym, ◌∙◌, ap}
 use mathlib.Core.List.{List, [], ◌∷◌, ◌++◌}
 use mathlib.Core.Bool.{Bool, true, false, ◌&&◌}
 use mathlib.Core.Logic.{◌≢◌}
-use Prim.Native.Nat.{ℕ, ◌+◌, ◌≤◌, ◌<◌}
+use Prim.Native.Nat.{ℕ, ◌+◌, ◌-◌, ◌%◌, ◌≤◌, ◌<◌}
 use native.Mathlib.Numerals.{add-one}
 use native.Mathlib.Omega.{arith}
 use lib.Dec.{leb, ltb}
-use lib.ListN.{length, take, get_or, set}
-use lib.Seq.{take-suc-set, get_or-set_same, get_or-set_other}
+use lib.ListN.{length, take, drop, get_or, set, length-drop}
+use lib.Seq.{take_all, take-suc-set, get_or-set_same, get_or-set_other}
 use borrow.Author.Tests.{eq-eqb, ne_eqb, ltb-true, ltb-false}
 use Rattle.definition.specs.Lists.{filter, find, firsts}
 use Rattle.definition.specs.Answers.{absent}
@@ -16,23 +16,44 @@ use Rattle.definition.specs.Store.{cards_used_of}
 use Rattle.store_reader.specs.Stored.{card_kind}
 use Rattle.from_ast_index.specs.Index.{Cards, same_cards, is_type_extension_kind}
 use Rattle.from_ast_index.proofs.Lists.{never}
+use Rattle.from_ast_index.proofs.Search.{hash_at}
 use Rattle.from_ast_indexing.specs.declared.entry.Entry.TheVariants.{Occupied, Vacant}
 use Rattle.from_ast_indexing.specs.declared.entry.First.{First}
-use Rattle.from_ast_indexing.specs.Entering.{same_number, entry_of, first_card, entered_in, AllStored, Searched, Entering, Entered}
-use Rattle.from_ast_indexing.proofs.EntrySearch.{occupied, vacant, searched_stored, find_named, entered_named}
-use Rattle.from_ast_indexing.proofs.EntryNames.{apart, kept_yes, kept_no, listed_stored, firsts_entered}
+use Rattle.from_ast_indexing.specs.Entering.{entry_of, first_card, entered_in, Searched, Entering, Hinted, Entered}
+use Rattle.from_ast_indexing.proofs.EntrySearch.{search_length, search_from, searched_from, occupied, vacant}
+use Rattle.from_ast_indexing.proofs.Hints.{hint_passed}
+use Rattle.from_ast_indexing.proofs.EntryNames.{apart, kept_yes, kept_no, firsts_entered}
 use Rattle.from_ast_indexing.specs.Extensions.{is_extension_card, is_unowned, ExtensionAsked, ExtensionTurn, ExtensionsAre, OrphanAsked}
 use Rattle.from_ast_indexing.specs.Extensions.{OrphanTurn, OrphansAre}
 
 -- ---- A heading and the extensions.
 
-module _ (text words numbers types places owners extensions : List ℕ) (card count : ℕ)
-    (a : ExtensionAsked text words numbers types places owners extensions card count) where
-  pub extension_asks : Searched numbers types places card
-  extension_asks = searched_stored text words numbers types a.numbered card a.stored a.types_stored places a.places_capacity a.places_are
+rest_is : (n : ℕ) (xs : List ℕ) → take (length xs - n) (drop n xs) ≡ drop n xs
+rest_is n xs = take_all (length xs - n) (drop n xs) (omega (arith, length-drop n xs))
 
-  pub extension_found : entry_of (find (same_cards text words card) types) ≡ entry_of (find (same_number numbers card) types)
-  extension_found = ap entry_of (sym (find_named text words numbers types a.numbered card a.stored a.types_stored))
+module _ (text words hashes types typeHashes owners extensions : List ℕ) (card count : ℕ)
+    (a : ExtensionAsked text words hashes types typeHashes owners extensions card count) where
+  extension_searched : Searched text words types typeHashes card (get_or hashes card 0)
+  extension_searched = record { hashes_are = a.hashes_are; hash_is = hash_at text words hashes a.hashed card a.stored }
+
+  pub extension_asks : (from : ℕ) →
+      Searched text words (take (length types - from) (drop from types)) (take (length typeHashes - from) (drop from typeHashes)) card (get_or hashes card 0)
+  extension_asks from =
+      rw (rest_is from types, rest_is from typeHashes)
+      (searched_from text words types typeHashes card (get_or hashes card 0) extension_searched from)
+
+  pub same_lengths : length typeHashes ≡ length types
+  same_lengths = search_length text words types typeHashes card (get_or hashes card 0) extension_searched
+
+  pub extension_found : (buckets : List ℕ) → Hinted typeHashes buckets → (from : ℕ) → from ≤ length typeHashes →
+      from ≤ get_or buckets (get_or hashes card 0 % length buckets) 0 →
+      entry_of (find (same_cards text words card) types) ≡ entry_of (find (same_cards text words card) (take (length types - from) (drop from types)))
+  extension_found buckets h from m l = rw (rest_is from types) found_from
+    where
+      found_from : entry_of (find (same_cards text words card) types) ≡ entry_of (find (same_cards text words card) (drop from types))
+      found_from =
+          search_from text words types typeHashes card (get_or hashes card 0) extension_searched from (omega (arith, same_lengths))
+          (λ j k. hint_passed typeHashes buckets h (get_or hashes card 0) from l j k (omega arith))
 
   module _ (kind : ℕ) (b : Bool) (k : kind ≡ card_kind words card) (q : b ≡ (leb 12 kind && leb kind 17)) where
     kind_is : is_type_extension_kind (card_kind words card) ≡ b
@@ -79,7 +100,7 @@ extensions_none text words headings types owners extensions = record {
   extensions_most = omega arith;
 }
 
-module _ (text words numbers headings : List ℕ) (cs : Cards text words numbers headings) (k : ℕ) (h : k < length headings) where
+module _ (text words hashes headings : List ℕ) (cs : Cards text words hashes headings) (k : ℕ) (h : k < length headings) where
   module _ (types owners₀ owners extensions : List ℕ) (e : ℕ) (i : ExtensionsAre text words headings types owners₀ owners extensions k e)
       (owners' extensions' : List ℕ) (r : ℕ) (capacity : cards_used_of words ≤ length owners)
       (w : ExtensionTurn text words types (get_or headings k 0) e r owners owners' extensions extensions') where
@@ -135,52 +156,42 @@ module _ (text words numbers headings : List ℕ) (cs : Cards text words numbers
 
 -- ---- An extension and the orphans.
 
-module _ (text words numbers owners orphans places : List ℕ) (card count : ℕ)
-    (a : OrphanAsked text words numbers owners orphans places card count) where
-  pub orphan_skipped : (get_or owners card 0 ≡ absent → ⊥) → OrphanTurn text words numbers owners card count count orphans orphans places
+module _ (text words hashes owners orphans orphanHashes : List ℕ) (card count : ℕ)
+    (a : OrphanAsked text words hashes owners orphans orphanHashes card count) where
+  pub orphan_skipped : (get_or owners card 0 ≡ absent → ⊥) → OrphanTurn text words owners card count count orphans orphans orphanHashes
   unfolding is_unowned
   orphan_skipped d = record {
     orphans_are = rw (ne_eqb (get_or owners card 0) absent d);
-    places_are = a.places_are;
+    hashes_are = a.hashes_are;
     count_most = omega arith;
   }
 
-  pub orphan_asks : Entering numbers orphans places count card
+  pub orphan_asks : Entering text words orphans orphanHashes 0 count card (get_or hashes card 0)
   orphan_asks = record {
-    searched =
-        searched_stored text words numbers (take count orphans) a.numbered card a.stored a.orphans_stored places a.places_capacity
-        a.places_are;
+    searched = record { hashes_are = a.hashes_are; hash_is = hash_at text words hashes a.hashed card a.stored };
+    from_most = omega arith;
+    passed = λ j k. absurd (omega arith);
     cards_capacity = a.orphans_capacity;
-    few = a.few;
+    hashes_capacity = a.hashes_capacity;
   }
 
-  pub orphan_entered : get_or owners card 0 ≡ absent → (r : First) (orphans' places' : List ℕ) → Entered numbers card count r orphans orphans' places' →
-      OrphanTurn text words numbers owners card count r.count orphans orphans' places'
+  pub orphan_entered : get_or owners card 0 ≡ absent → (r : First) (orphans' orphan_hashes' : List ℕ) →
+      Entered text words card count r orphans orphans' orphan_hashes' →
+      OrphanTurn text words owners card count r.count orphans orphans' orphan_hashes'
   unfolding is_unowned
-  orphan_entered e r orphans' places' w =
-      let entered = w.cards_are ∙ entered_named text words numbers (take count orphans) a.numbered card a.stored a.orphans_stored in
-      record {
-        orphans_are = rw (eq-eqb (get_or owners card 0) absent e) entered;
-        places_are = w.places_are;
-        count_most = w.count_most;
-      }
+  orphan_entered e r orphans' orphan_hashes' w = record {
+    orphans_are = rw (eq-eqb (get_or owners card 0) absent e) w.cards_are;
+    hashes_are = w.hashes_are;
+    count_most = w.count_most;
+  }
 
-pub orphans_none : (text words numbers owners extensions orphans places : List ℕ) → OrphansAre text words numbers owners extensions orphans places 0 0
+pub orphans_none : (text words owners extensions orphans orphanHashes : List ℕ) → OrphansAre text words owners extensions orphans orphanHashes 0 0
 unfolding filter firsts
-orphans_none text words numbers owners extensions orphans places = record {
-  orphans_are = refl;
-  places_are = λ k h. absurd (omega arith);
-  orphans_most = omega arith;
-}
+orphans_none text words owners extensions orphans orphanHashes = record { orphans_are = refl; hashes_are = refl; orphans_most = omega arith }
 
-pub orphans_listed : (text words numbers owners extensions orphans places : List ℕ) (k o : ℕ) → AllStored words extensions →
-    OrphansAre text words numbers owners extensions orphans places k o → AllStored words (take o orphans)
-orphans_listed text words numbers owners extensions orphans places k o st i =
-    listed_stored words (take o orphans) (same_cards text words) (is_unowned owners) k extensions st i.orphans_are
-
-module _ (text words numbers owners extensions : List ℕ) (k : ℕ) (h : k < length extensions) where
-  module _ (orphans places : List ℕ) (o : ℕ) (i : OrphansAre text words numbers owners extensions orphans places k o)
-      (orphans' places' : List ℕ) (r : ℕ) (w : OrphanTurn text words numbers owners (get_or extensions k 0) o r orphans orphans' places') where
+module _ (text words owners extensions : List ℕ) (k : ℕ) (h : k < length extensions) where
+  module _ (orphans orphanHashes : List ℕ) (o : ℕ) (i : OrphansAre text words owners extensions orphans orphanHashes k o)
+      (orphans' orphan_hashes' : List ℕ) (r : ℕ) (w : OrphanTurn text words owners (get_or extensions k 0) o r orphans orphans' orphan_hashes') where
     orphans_more : (b : Bool) → is_unowned owners (get_or extensions k 0) ≡ b →
         take r orphans' ≡ firsts (same_cards text words) [] (filter (is_unowned owners) (take (k + 1) extensions))
     orphans_more true e =
@@ -191,9 +202,9 @@ module _ (text words numbers owners extensions : List ℕ) (k : ℕ) (h : k < le
     orphans_more false e =
         (rw e at w.orphans_are) ∙ i.orphans_are ∙ ap (firsts (same_cards text words) []) (sym (kept_no (is_unowned owners) extensions k h e))
 
-    pub orphans_turn : OrphansAre text words numbers owners extensions orphans' places' (k + 1) r
+    pub orphans_turn : OrphansAre text words owners extensions orphans' orphan_hashes' (k + 1) r
     orphans_turn = record {
       orphans_are = orphans_more (is_unowned owners (get_or extensions k 0)) refl;
-      places_are = w.places_are;
+      hashes_are = w.hashes_are;
       orphans_most = omega (arith, w.count_most, i.orphans_most);
     }

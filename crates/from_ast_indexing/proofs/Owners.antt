@@ -19,7 +19,6 @@ use Rattle.from_ast_index.proofs.Lists.{filter_most, all_places, all_at, taken_m
 use Rattle.from_ast_indexing.specs.Entering.{first_card}
 use Rattle.from_ast_indexing.proofs.EntryNames.{card_of_firsts}
 use Rattle.from_ast_indexing.specs.Types.{is_type_card, TypesAre}
-use Rattle.from_ast_indexing.proofs.TypesTurns.{types_listed}
 use Rattle.from_ast_indexing.specs.Extensions.{is_extension_card, is_unowned, ExtensionsAsked, ExtensionsAre, OrphansAsked, OrphansAre}
 use Rattle.from_ast_indexing.specs.Steps.{OwnersAsked, OwnersAre}
 
@@ -37,19 +36,17 @@ type_no_extension words c e =
     let k : card_kind words c ≤ 10 = leb-true (card_kind words c) 10 (and_true (leb 5 (card_kind words c)) (leb (card_kind words c) 10) e).1 in
     simp (lt-leb 12 (card_kind words c) (omega arith))
 
-module _ (text words numbers cards owners₀ types₀ orphans₀ extensions₀ places₀ : List ℕ)
-    (a : OwnersAsked text words numbers cards owners₀ types₀ orphans₀ extensions₀ places₀) where
+module _ (text words hashes cards owners₀ types₀ orphans₀ extensions₀ scratch₀ : List ℕ)
+    (a : OwnersAsked text words hashes cards owners₀ types₀ orphans₀ extensions₀ scratch₀) where
   all_stored : All (λ c. c < cards_used_of words) cards
   all_stored = all_places (λ c. c < cards_used_of words) cards a.all_cards.stored
 
-  module _ (owners₁ types₁ places₁ : List ℕ) (t : ℕ) (ty : TypesAre text words numbers cards owners₁ types₁ places₁ (length cards) t)
-      (kept : length owners₁ ≡ length owners₀) (places-kept : length places₁ ≡ length places₀) where
-    pub extensions_ready : ExtensionsAsked text words numbers cards (take t types₁) places₁ owners₁ extensions₀
+  module _ (owners₁ types₁ typeHashes₁ : List ℕ) (t : ℕ) (ty : TypesAre text words cards owners₁ types₁ typeHashes₁ (length cards) t)
+      (kept : length owners₁ ≡ length owners₀) where
+    pub extensions_ready : ExtensionsAsked text words hashes cards (take t types₁) (take t typeHashes₁) owners₁ extensions₀
     extensions_ready = record {
       cards = a.all_cards;
-      types_stored = types_listed text words numbers cards owners₁ types₁ places₁ (length cards) t a.all_cards ty;
-      places_are = ty.places_are;
-      places_capacity = omega (arith, a.places_capacity);
+      hashes_are = ty.hashes_are;
       owners_capacity = omega (arith, a.owners_capacity);
       extensions_capacity = a.extensions_capacity;
     }
@@ -63,23 +60,24 @@ module _ (text words numbers cards owners₀ types₀ orphans₀ extensions₀ p
       extension_stored =
           rw extended (all_filter (λ c. c < cards_used_of words) (is_extension_card words) cards all_stored)
 
-      pub orphans_ready : length owners₂ ≡ length owners₁ → OrphansAsked text words numbers owners₂ (take e extensions₂) orphans₀ places₁
-      orphans_ready l = record {
-        numbered = a.all_cards.numbered;
+      pub orphans_ready : length owners₂ ≡ length owners₁ → length typeHashes₁ ≡ length scratch₀ →
+          OrphansAsked text words hashes owners₂ (take e extensions₂) orphans₀ typeHashes₁
+      orphans_ready l s = record {
+        hashed = a.all_cards.hashed;
         stored = all_at (λ c. c < cards_used_of words) (take e extensions₂) extension_stored;
         few = omega (arith, ap length extended, filter_most (is_extension_card words) cards, a.all_cards.few);
         owners_capacity = omega (arith, a.owners_capacity);
         orphans_capacity = a.orphans_capacity;
-        places_capacity = omega (arith, a.places_capacity);
+        hashes_capacity = omega (arith, a.scratch_capacity);
       }
 
       typed : take t types₁ ≡ firsts (same_cards text words) [] (filter (is_type_card words) cards)
       typed = ty.types_are ∙ ap (λ (l : List ℕ). firsts (same_cards text words) [] (filter (is_type_card words) l)) (take-length cards)
 
-      pub owners_done : t' ≡ t → (e' : ℕ) (orphans₃ places₃ : List ℕ) (o : ℕ) → e' ≡ e →
-          OrphansAre text words numbers owners₂ (take e' extensions₂) orphans₃ places₃ (length (take e' extensions₂)) o →
+      pub owners_done : t' ≡ t → (e' : ℕ) (orphans₃ orphanHashes₃ : List ℕ) (o : ℕ) → e' ≡ e →
+          OrphansAre text words owners₂ (take e' extensions₂) orphans₃ orphanHashes₃ (length (take e' extensions₂)) o →
           OwnersAre text words cards owners₂ types₁ orphans₃ extensions₂ (record { headings = length cards; types = t; orphans = o; extensions = e })
-      owners_done same e' orphans₃ places₃ o x r = record {
+      owners_done same e' orphans₃ orphanHashes₃ o x r = record {
         headings_are = refl;
         types_are = typed;
         extensions_are = extended;

@@ -23,18 +23,17 @@ use Rattle.definition.proofs.All.{all_filter, all_firsts, all_every, all_to, all
 use Rattle.store_reader.proofs.Lists.{get_inside, all_get}
 use Rattle.store_reader.proofs.Words.{headings_at}
 use Rattle.store_reader.proofs.Laws.{cards_fit_lem, heading_first}
-use Rattle.from_ast_index.proofs.Owners.{all_named}
+use Rattle.from_ast_index.proofs.Spans.{all_named}
 use Rattle.from_ast_indexing.proofs.Headings.{headings_chain, chain_stored, chain_rising}
-use Rattle.from_ast_index.specs.Index.{Cards, Numbered, Chained, DirectivesAre, same_cards, Indexed, heading_number, is_type_extension_kind, is_typed}
+use Rattle.from_ast_index.specs.Index.{Cards, Hashed, same_cards, Indexed, heading_number, is_type_extension_kind, is_typed}
 use Rattle.from_ast_index.proofs.Lists.{never, chosen_both, first_filter, filter_map, pictured, first_map, firsts_map, get_all, all_kept, filter_both}
 use Rattle.from_ast_index.proofs.Lists.{all_at, get_d_picture, all_picture, taken_front}
 use Rattle.from_ast_indexing.specs.Entering.{first_card}
 use Rattle.from_ast_indexing.specs.Types.{is_type_card}
 use Rattle.from_ast_indexing.specs.Extensions.{is_extension_card, is_unowned}
-use Rattle.from_ast_indexing.specs.Chains.{ChainsAsked, HeadsFrom, NextsFrom}
-use Rattle.from_ast_indexing.proofs.ChainsWalks.{chained_taken}
-use Rattle.from_ast_index.proofs.Search.{number_stored}
-use Rattle.from_ast_indexing.specs.Steps.{IndexAsked, NumbersAsked, HeadingsAsked, HeadingsAre, OwnersAsked, OwnersAre}
+use Rattle.from_ast_indexing.specs.Spans.{SpansAsked}
+use Rattle.from_ast_indexing.proofs.SpansWalks.{spans_ready}
+use Rattle.from_ast_indexing.specs.Steps.{IndexAsked, HeadingsAsked, HeadingsAre, OwnersAsked, OwnersAre}
 use Rattle.from_ast_index.specs.declared.Counts.{Counts}
 
 -- ---- Headings by their cards.
@@ -150,9 +149,9 @@ module _ (text words headings : List ℕ) (m : ℕ) (capacity : cards_used_of wo
   taken_length : length (take m headings) ≡ m
   taken_length = length-take-le m headings (omega (arith, is.headings_most))
 
-  pub cards_ready : (numbers : List ℕ) → Numbered text words numbers → Cards text words numbers (take m headings)
-  cards_ready numbers p = rw taken (record {
-    numbered = p;
+  pub cards_ready : (hashes : List ℕ) → Hashed text words hashes → Cards text words hashes (take m headings)
+  cards_ready hashes p = rw taken (record {
+    hashed = p;
     stored = chain_stored words (map heading_number (stored_headings text words)) (headings_chain text words);
     rising = chain_rising words (map heading_number (stored_headings text words)) (headings_chain text words);
     few = omega (arith, length-map (stored_headings text words) heading_number, is.headings_count text, is.headings_most);
@@ -170,7 +169,7 @@ module _ (text words headings : List ℕ) (m : ℕ) (capacity : cards_used_of wo
   count_of : (hs : List Heading) (cards : List ℕ) (n : ℕ) → take n cards ≡ map heading_number hs → n ≤ length cards → length hs ≡ n
   count_of hs cards n e l = sym (length-map hs heading_number) ∙ ap length (sym e) ∙ length-take-le n cards l
 
-  module _ (numbers owners typeCards orphanCards extensionCards : List ℕ) (p : Numbered text words numbers) (r : Counts)
+  module _ (hashes owners typeCards orphanCards extensionCards : List ℕ) (p : Hashed text words hashes) (r : Counts)
       (w : OwnersAre text words (take m headings) owners typeCards orphanCards extensionCards r)
       (owners_length : cards_used_of words ≤ length owners) (types_length : cards_used_of words ≤ length typeCards)
       (orphans_length : cards_used_of words ≤ length orphanCards)
@@ -212,11 +211,11 @@ module _ (text words headings : List ℕ) (m : ℕ) (capacity : cards_used_of wo
     first_definition c = ap (λ (l : List ℕ). first_card (same_cards text words) c (filter (is_type_card words) l)) taken
 
     -- The owner of a heading's card, where it is the first definition of the card's name.
-    owner_at : (k : ℕ) (h : Heading) → get_elem? hs k ≡ some h →
+    owner_at_lem : (k : ℕ) (h : Heading) → get_elem? hs k ≡ some h →
         get_or owners (get_or (take m headings) k 0) 0
         ≡ first_card (same_cards text words) (get_or (take m headings) k 0) (filter (is_type_card words) (take m headings)) →
         get_or owners (heading_number h) 0 ≡ number_of (definition h.name hs)
-    owner_at k h e o =
+    owner_at_lem k h e o =
         let is = (at_heading k h e).1 in
         ap (λ (c : ℕ). get_or owners c 0) (sym is)
         ∙ o
@@ -229,14 +228,14 @@ module _ (text words headings : List ℕ) (m : ℕ) (capacity : cards_used_of wo
     definition_owner k h e y =
         let a = at_heading k h e in
         let t = all_get (Told text words) hs all_told k h e in
-        owner_at k h e (w.type_owners k a.0 (ap (is_type_card words) a.1 ∙ type_told text words h t ∙ y))
+        owner_at_lem k h e (w.type_owners k a.0 (ap (is_type_card words) a.1 ∙ type_told text words h t ∙ y))
 
     extension_owner : (k : ℕ) (h : Heading) → get_elem? hs k ≡ some h → is_type_extension h ≡ true →
         get_or owners (heading_number h) 0 ≡ number_of (definition h.name hs)
     extension_owner k h e y =
         let a = at_heading k h e in
         let t = all_get (Told text words) hs all_told k h e in
-        owner_at k h e (w.extension_owners k a.0 (ap (is_extension_card words) a.1 ∙ extension_told text words h t ∙ y))
+        owner_at_lem k h e (w.extension_owners k a.0 (ap (is_extension_card words) a.1 ∙ extension_told text words h t ∙ y))
 
     owners_are : (k : ℕ) (h : Heading) → get_elem? hs k ≡ some h → is_typed h ≡ true → get_or owners h.number 0 ≡ number_of (definition h.name hs)
     unfolding is_typed heading_number
@@ -266,11 +265,11 @@ module _ (text words headings : List ℕ) (m : ℕ) (capacity : cards_used_of wo
     unfolding orphans
     told_orphans = told_firsts (filter (is_orphan hs) hs) (told_kept text words (is_orphan hs) hs all_told)
 
-    pub indexed : Indexed text words headings numbers owners typeCards orphanCards extensionCards r.headings r.types r.orphans r.extensions
+    pub indexed : Indexed text words headings hashes owners typeCards orphanCards extensionCards r.headings r.types r.orphans r.extensions
     unfolding hs
     indexed = rw r_headings (record {
       headings_are = is.headings_are text;
-      numbered = p;
+      hashed = p;
       owners_are = owners_are;
       types_are = types_are;
       orphans_are = orphans_are;
@@ -301,24 +300,13 @@ module _ (text words headings : List ℕ) (m : ℕ) (capacity : cards_used_of wo
 
 -- ---- All steps: the arrays as they were lent, and what each step left of them.
 
-module _ (text words headings₀ numbers₀ owners₀ types₀ orphans₀ extensions₀ heads₀ nexts₀ standing₀ table₀ : List ℕ)
-    (a : IndexAsked text words headings₀ numbers₀ owners₀ types₀ orphans₀ extensions₀ heads₀ nexts₀ standing₀ table₀) where
+module _ (text words headings₀ hashes₀ owners₀ types₀ orphans₀ extensions₀ starts₀ ends₀ buckets₀ : List ℕ)
+    (a : IndexAsked text words headings₀ hashes₀ owners₀ types₀ orphans₀ extensions₀ starts₀ ends₀ buckets₀) where
   pub headings_ready : HeadingsAsked words headings₀
   headings_ready = record {
     cards_most = cards_fit_lem text words a.store_sound;
     headings_capacity = a.headings_length;
     headed = heading_first text words a.store_sound;
-  }
-
-  pub numbers_ready : NumbersAsked words owners₀ table₀ numbers₀
-  numbers_ready = record {
-    words_length = a.words_length;
-    cards_most = cards_fit_lem text words a.store_sound;
-    hashes_length = a.owners_length;
-    table_length = a.table_length;
-    table_least = a.table_least;
-    table_most = a.table_most;
-    numbers_length = a.numbers_length;
   }
 
   module _ (headings : List ℕ) (m : ℕ) (is : HeadingsAre words headings m) (headings-kept : length headings ≡ length headings₀) where
@@ -331,61 +319,30 @@ module _ (text words headings₀ numbers₀ owners₀ types₀ orphans₀ extens
     few : cards_used_of words ≤ card_capacity
     few = cards_fit_lem text words a.store_sound
 
-    module _ (numbers : List ℕ) (p : Numbered text words numbers) where
-      pub heading_cards : Cards text words numbers (take (m - 0) headings)
-      heading_cards = rw sub-zero (cards_ready text words headings m capacity few is numbers p)
-
-      pub owners_ready : (hashes : List ℕ) → length hashes ≡ length owners₀ →
-          OwnersAsked text words numbers (take (m - 0) headings) hashes types₀ orphans₀ extensions₀ heads₀
-      owners_ready hashes kept = record {
-        all_cards = heading_cards;
-        owners_capacity = omega (arith, a.owners_length);
+    module _ (hashes : List ℕ) (p : Hashed text words hashes) where
+      pub owners_ready : OwnersAsked text words hashes (take (m - 0) headings) owners₀ types₀ orphans₀ extensions₀ starts₀
+      owners_ready = rw sub-zero (record {
+        all_cards = cards_ready text words headings m capacity few is hashes p;
+        owners_capacity = a.owners_length;
         types_capacity = a.types_length;
         orphans_capacity = a.orphans_length;
         extensions_capacity = a.extensions_length;
-        places_capacity = a.heads_length;
-      }
+        scratch_capacity = a.starts_length;
+      })
 
       module _ (owners defined_types orphans extensions : List ℕ) (r : Counts)
           (w : OwnersAre text words (take (m - 0) headings) owners defined_types orphans extensions r)
           (owners_kept : length owners ≡ length owners₀) (types-kept : length defined_types ≡ length types₀) (orphans-kept : length orphans ≡ length orphans₀)
           (extensions_kept : length extensions ≡ length extensions₀) where
-        pub all_indexed : Indexed text words headings numbers owners defined_types orphans extensions r.headings r.types r.orphans r.extensions
+        pub all_indexed : Indexed text words headings hashes owners defined_types orphans extensions r.headings r.types r.orphans r.extensions
         all_indexed =
-            indexed text words headings m capacity few is numbers owners defined_types orphans extensions p r (rw sub-zero at w)
-            (omega (arith, a.owners_length)) (omega (arith, a.types_length)) (omega (arith, a.orphans_length)) (omega (arith, a.extensions_length))
+            indexed text words headings m capacity few is hashes owners defined_types orphans extensions p r (rw sub-zero at w) (omega (arith, a.owners_length))
+            (omega (arith, a.types_length)) (omega (arith, a.orphans_length)) (omega (arith, a.extensions_length))
 
         pub extensions_fit : r.extensions ≤ length extensions
         extensions_fit = omega (arith, all_indexed.extensions_most, all_indexed.headings_most, all_indexed.extensions_length)
 
-        extensions_most : r.extensions ≤ cards_used_of words
-        extensions_most = omega (arith, all_indexed.extensions_most, all_indexed.headings_most)
-
-        extensions_taken : length (take r.extensions extensions) ≡ r.extensions
-        extensions_taken = length-take-le r.extensions extensions extensions_fit
-
-        stored : (j : ℕ) → j < length (take r.extensions extensions) → get_or (take r.extensions extensions) j 0 < cards_used_of words
-        stored j h =
-            let l : j < r.extensions = omega (arith, extensions_taken) in
-            rw (get_or-take r.extensions extensions j 0 l) (all_indexed.extensions_stored j l)
-
-        pub chains_ready : (heads : List ℕ) → length heads ≡ length heads₀ → ChainsAsked numbers (take (r.extensions - 0) extensions) heads
-        chains_ready heads kept = rw sub-zero (record {
-          stored = λ j h. omega (arith, stored j h, p.numbers_length);
-          headed = λ j h. omega (arith, number_stored text words numbers p (get_or (take r.extensions extensions) j 0) (stored j h), a.heads_length);
-          few = omega (arith, extensions_taken, extensions_most, few);
-        })
-
-        pub nexts_fit : length (take (r.extensions - 0) extensions) ≤ length nexts₀
-        nexts_fit = rw sub-zero (omega (arith, extensions_taken, extensions_most, a.nexts_length))
-
-        pub directives_told : (standing : List ℕ) → DirectivesAre text words numbers (take (m - 0) headings) standing →
-            DirectivesAre text words numbers (take r.headings headings) standing
-        directives_told standing d =
-            let same : m - 0 ≡ r.headings = sub-zero m ∙ sym (is.headings_count text) ∙ all_indexed.headings_count in
-            rw same at d
-
-        pub chains_told : (heads nexts : List ℕ) → HeadsFrom numbers (take (r.extensions - 0) extensions) heads 0 →
-            NextsFrom numbers (take (r.extensions - 0) extensions) nexts 0 → cards_used_of words ≤ length heads → length nexts ≡ length nexts₀ →
-            Chained words numbers (take r.extensions extensions) heads nexts
-        chains_told heads nexts b d l kept = chained_taken words numbers extensions heads nexts r.extensions b d l (omega (arith, nexts_fit))
+        pub spans_asked : SpansAsked owners (take (r.extensions - 0) extensions)
+        spans_asked =
+            rw sub-zero (spans_ready text words headings hashes owners defined_types orphans extensions r.headings r.types r.orphans
+            r.extensions all_indexed)

@@ -1,69 +1,100 @@
 -- What one heading does to the types, and what a run of headings has done then.
 use mathlib.Core.Path.{◌≡◌, refl, sym, ◌∙◌, ap}
-use mathlib.Core.List.{List, []}
+use mathlib.Core.List.{List, [], ◌∷◌, ◌++◌, map}
 use mathlib.Core.Bool.{Bool, true, false}
-use Prim.Native.Nat.{ℕ, suc, ◌+◌, ◌-◌, ◌≤◌, ◌<◌}
+use mathlib.Core.Option.{Option, none, some}
+use Prim.Native.Nat.{ℕ, suc, ◌+◌, ◌-◌, ◌%◌, ◌≤◌, ◌<◌}
 use native.Mathlib.Omega.{arith}
 use lib.Dec.{ltb}
 use lib.ListN.{length, take, drop, get_or, set}
-use lib.Seq.{get_or-set_same, get_or-set_other}
+use lib.Seq.{length-take-le, get_or-set_same, get_or-set_other}
 use borrow.Author.Tests.{ltb-true, ltb-false}
-use Rattle.definition.specs.Lists.{filter, firsts}
+use Rattle.definition.specs.Lists.{filter, find, firsts}
 use Rattle.definition.specs.Cards.{is_type}
 use Rattle.definition.specs.Store.{cards_used_of}
 use Rattle.store_reader.specs.Stored.{card_kind}
-use Rattle.from_ast_index.specs.Index.{Cards, same_cards}
+use Rattle.from_ast_index.specs.Index.{card_hash, Cards, same_cards}
+use Rattle.definition.proofs.Lists.{map_append}
+use Rattle.from_ast_index.proofs.Search.{hash_at}
 use Rattle.from_ast_indexing.specs.declared.entry.First.{First}
-use Rattle.from_ast_indexing.specs.Entering.{AllStored, first_card, entered_in, first_entered, Entering, Entered}
-use Rattle.from_ast_indexing.proofs.EntrySearch.{searched_stored, entered_named, first_named}
-use Rattle.from_ast_indexing.proofs.EntryNames.{apart, kept_yes, kept_no, kept_split, listed_stored, firsts_entered, owner_entered}
+use Rattle.from_ast_indexing.specs.Entering.{first_card, entered_in, first_entered, Entering, Hinted, Entered}
+use Rattle.from_ast_indexing.proofs.Hints.{hint_passed, hint_kept, hint_more}
+use Rattle.from_ast_indexing.proofs.EntryNames.{apart, kept_yes, kept_no, kept_split, firsts_entered, owner_entered}
 use Rattle.from_ast_indexing.specs.Types.{is_type_card, TypeAsked, TypeTurn, TypesAre}
 
-module _ (text words numbers owners types places : List ℕ) (card count : ℕ) (a : TypeAsked text words numbers owners types places card count) where
+module _ (text words hashes owners types typeHashes : List ℕ) (card count : ℕ) (a : TypeAsked text words hashes owners types typeHashes card count) where
   pub type_skipped : (kind : ℕ) (b : Bool) → kind ≡ card_kind words card → b ≡ is_type kind → b ≡ false →
-      TypeTurn text words numbers card count count owners owners types types places
+      TypeTurn text words card count count owners owners types types typeHashes
   unfolding is_type_card
   type_skipped kind b k q e =
       let n : is_type (card_kind words card) ≡ false = sym (ap is_type k) ∙ sym q ∙ e in
-      record { owners_are = rw n; types_are = rw n; places_are = a.places_are; count_most = omega arith }
+      record { owners_are = rw n; types_are = rw n; hashes_are = a.hashes_are; count_most = omega arith }
 
-  pub type_asks : Entering numbers types places count card
-  type_asks = record {
-    searched =
-        searched_stored text words numbers (take count types) a.numbered card a.stored a.types_stored places a.places_capacity
-        a.places_are;
+  pub type_asks : (buckets : List ℕ) → Hinted (take count typeHashes) buckets → (from : ℕ) → from ≤ count →
+      from ≤ get_or buckets (get_or hashes card 0 % length buckets) 0 → Entering text words types typeHashes from count card (get_or hashes card 0)
+  type_asks buckets h from m l = record {
+    searched = record { hashes_are = a.hashes_are; hash_is = hash_at text words hashes a.hashed card a.stored };
+    from_most = m;
+    passed = λ j k.
+        let capacity : j < length (take count typeHashes) = omega (arith, length-take-le count typeHashes (omega (arith, a.hashes_capacity))) in
+        hint_passed (take count typeHashes) buckets h (get_or hashes card 0) from l j k capacity;
     cards_capacity = a.types_capacity;
-    few = a.few;
+    hashes_capacity = a.hashes_capacity;
   }
 
   pub type_entered : (kind : ℕ) (b : Bool) → kind ≡ card_kind words card → b ≡ is_type kind → b ≡ true →
-      (r : First) (types' places' : List ℕ) → Entered numbers card count r types types' places' →
-      TypeTurn text words numbers card count r.count owners (set owners card r.card) types types' places'
+      (r : First) (types' type_hashes' : List ℕ) → Entered text words card count r types types' type_hashes' →
+      TypeTurn text words card count r.count owners (set owners card r.card) types types' type_hashes'
   unfolding is_type_card
-  type_entered kind b k q e r types' places' w =
+  type_entered kind b k q e r types' type_hashes' w =
       let y : is_type (card_kind words card) ≡ true = sym (ap is_type k) ∙ sym q ∙ e in
-      let first = w.first_is ∙ first_named text words numbers (take count types) a.numbered card a.stored a.types_stored in
-      let entered = w.cards_are ∙ entered_named text words numbers (take count types) a.numbered card a.stored a.types_stored in
       record {
-        owners_are = rw y (ap (set owners card) first);
-        types_are = rw y entered;
-        places_are = w.places_are;
+        owners_are = rw y (ap (set owners card) w.first_is);
+        types_are = rw y w.cards_are;
+        hashes_are = w.hashes_are;
         count_most = w.count_most;
       }
 
-pub types_none : (text words numbers headings owners types places : List ℕ) → TypesAre text words numbers headings owners types places 0 0
+  -- The types' hashes then are those before, or one more.
+  pub type_hinted : (buckets : List ℕ) → Hinted (take count typeHashes) buckets → (from : ℕ) → from ≤ count →
+      from ≤ get_or buckets (get_or hashes card 0 % length buckets) 0 →
+      (r : First) (types' type_hashes' : List ℕ) → Entered text words card count r types types' type_hashes' →
+      Hinted (take r.count type_hashes') (set buckets (get_or hashes card 0 % length buckets) from)
+  unfolding entered_in
+  type_hinted buckets h from m l r types' type_hashes' w = go (find (same_cards text words card) (take count types)) refl
+    where
+      own : get_or hashes card 0 ≡ card_hash text words card
+      own = hash_at text words hashes a.hashed card a.stored
+
+      go : (o : Option ℕ) → find (same_cards text words card) (take count types) ≡ o →
+          Hinted (take r.count type_hashes') (set buckets (get_or hashes card 0 % length buckets) from)
+      go (some d) e =
+          let same : take r.count type_hashes' ≡ take count typeHashes =
+          w.hashes_are ∙ ap (map (card_hash text words)) (rw e at w.cards_are) ∙ sym a.hashes_are in
+          rw same (hint_kept (take count typeHashes) buckets h (get_or hashes card 0) from l)
+      go none e =
+          let more : take r.count type_hashes' ≡ take count typeHashes ++ (get_or hashes card 0 ∷ []) =
+          w.hashes_are
+          ∙ ap (map (card_hash text words)) (rw e at w.cards_are)
+          ∙ map_append (card_hash text words) (take count types) (card ∷ [])
+          ∙ ap (λ (l : List ℕ). l ++ (card_hash text words card ∷ [])) (sym a.hashes_are)
+          ∙ ap (λ (p : ℕ). take count typeHashes ++ (p ∷ [])) (sym own) in
+          let capacity : from ≤ length (take count typeHashes) = omega (arith, length-take-le count typeHashes (omega (arith, a.hashes_capacity))) in
+          rw more (hint_more (take count typeHashes) buckets h (get_or hashes card 0) from l capacity)
+
+pub types_none : (text words headings owners types typeHashes : List ℕ) → TypesAre text words headings owners types typeHashes 0 0
 unfolding filter firsts
-types_none text words numbers headings owners types places = record {
+types_none text words headings owners types typeHashes = record {
   types_are = refl;
-  places_are = λ k h. absurd (omega arith);
+  hashes_are = refl;
   owners_are = λ j h e. absurd (omega arith);
   types_most = omega arith;
 }
 
-module _ (text words numbers headings : List ℕ) (cs : Cards text words numbers headings) (k : ℕ) (h : k < length headings) where
-  module _ (owners types places : List ℕ) (t : ℕ) (i : TypesAre text words numbers headings owners types places k t)
-      (owners' types' places' : List ℕ) (r : ℕ) (capacity : cards_used_of words ≤ length owners)
-      (w : TypeTurn text words numbers (get_or headings k 0) t r owners owners' types types' places') where
+module _ (text words hashes headings : List ℕ) (cs : Cards text words hashes headings) (k : ℕ) (h : k < length headings) where
+  module _ (owners types typeHashes : List ℕ) (t : ℕ) (i : TypesAre text words headings owners types typeHashes k t)
+      (owners' types' type_hashes' : List ℕ) (r : ℕ) (capacity : cards_used_of words ≤ length owners)
+      (w : TypeTurn text words (get_or headings k 0) t r owners owners' types types' type_hashes') where
     types_more : (b : Bool) → is_type_card words (get_or headings k 0) ≡ b →
         take r types' ≡ firsts (same_cards text words) [] (filter (is_type_card words) (take (k + 1) headings))
     types_more true e =
@@ -105,15 +136,10 @@ module _ (text words numbers headings : List ℕ) (cs : Cards text words numbers
             let y' : is_type_card words (get_or headings k 0) ≡ true = rw at y in
             rw at at (owners_new y')
 
-    pub types_turn : TypesAre text words numbers headings owners' types' places' (k + 1) r
+    pub types_turn : TypesAre text words headings owners' types' type_hashes' (k + 1) r
     types_turn = record {
       types_are = types_more (is_type_card words (get_or headings k 0)) refl;
-      places_are = w.places_are;
+      hashes_are = w.hashes_are;
       owners_are = owners_at;
       types_most = omega (arith, w.count_most, i.types_most);
     }
-
-pub types_listed : (text words numbers headings owners types places : List ℕ) (k t : ℕ) → Cards text words numbers headings →
-    TypesAre text words numbers headings owners types places k t → AllStored words (take t types)
-types_listed text words numbers headings owners types places k t cs i =
-    listed_stored words (take t types) (same_cards text words) (is_type_card words) k headings cs.stored i.types_are

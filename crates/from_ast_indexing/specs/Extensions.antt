@@ -1,12 +1,11 @@
 -- What each step of listing the extensions and the orphans asks and does, by the cards' numbers alone.
-use Rattle.std.specs.Prelude.{◌≡◌, List, [], ◌∷◌, ◌++◌, Bool, true, false, ℕ, ◌+◌, ◌≤◌, ◌<◌, eqb, length, take, get_or, set}
+use Rattle.std.specs.Prelude.{◌≡◌, List, [], ◌∷◌, ◌++◌, map, Bool, true, false, ℕ, ◌+◌, ◌≤◌, ◌<◌, eqb, length, take, get_or, set}
 use Rattle.definition.specs.Lists.{choose, filter, firsts}
 use Rattle.definition.specs.Answers.{absent}
-use Rattle.definition.specs.Refusals.{card_capacity}
 use Rattle.definition.specs.Store.{cards_used_of}
 use Rattle.store_reader.specs.Stored.{card_kind}
-use Rattle.from_ast_index.specs.Index.{same_cards, is_type_extension_kind, Numbered, Cards}
-use Rattle.from_ast_indexing.specs.Entering.{first_card, entered_in, AllStored, Placed}
+use Rattle.from_ast_index.specs.Index.{same_cards, is_type_extension_kind, Hashed, card_hash, Cards}
+use Rattle.from_ast_indexing.specs.Entering.{first_card, entered_in}
 
 unfoldable pub is_extension_card : List ℕ → ℕ → Bool
 is_extension_card words c = is_type_extension_kind (card_kind words c)
@@ -17,13 +16,11 @@ is_unowned owners c = eqb (get_or owners c 0) absent
 
 -- ---- Extensions.
 
--- A stored card, the types with their places, and arrays that hold an owner for each card and one extension more.
-pub record ExtensionAsked (text words numbers types places owners extensions : List ℕ) (card count : ℕ) : Type 0 where
-  pub numbered : Numbered text words numbers
+-- A stored card, and arrays that hold an owner for each card and one extension more.
+pub record ExtensionAsked (text words hashes types typeHashes owners extensions : List ℕ) (card count : ℕ) : Type 0 where
+  pub hashed : Hashed text words hashes
   pub stored : card < cards_used_of words
-  pub types_stored : AllStored words types
-  pub places_are : Placed numbers types places
-  pub places_capacity : cards_used_of words ≤ length places
+  pub hashes_are : typeHashes ≡ map (card_hash text words) types
   pub owners_capacity : cards_used_of words ≤ length owners
   pub extensions_capacity : count < length extensions
 
@@ -33,11 +30,9 @@ pub record ExtensionTurn (text words types : List ℕ) (card count r : ℕ) (own
   pub extensions_are : take r extensions ≡ choose (is_extension_card words card) (take count extensions₀ ++ (card ∷ [])) (take count extensions₀)
   pub count_most : r ≤ count + 1
 
-pub record ExtensionsAsked (text words numbers headings types places owners extensions : List ℕ) : Type 0 where
-  pub cards : Cards text words numbers headings
-  pub types_stored : AllStored words types
-  pub places_are : Placed numbers types places
-  pub places_capacity : cards_used_of words ≤ length places
+pub record ExtensionsAsked (text words hashes headings types typeHashes owners extensions : List ℕ) : Type 0 where
+  pub cards : Cards text words hashes headings
+  pub hashes_are : typeHashes ≡ map (card_hash text words) types
   pub owners_capacity : cards_used_of words ≤ length owners
   pub extensions_capacity : cards_used_of words ≤ length extensions
 
@@ -52,33 +47,30 @@ pub record ExtensionsAre (text words headings types owners₀ owners extensions 
 
 -- ---- Orphans.
 
--- The first `count` orphans, with room for one more, and the owners of all cards.
-pub record OrphanAsked (text words numbers owners orphans places : List ℕ) (card count : ℕ) : Type 0 where
-  pub numbered : Numbered text words numbers
+pub record OrphanAsked (text words hashes owners orphans orphanHashes : List ℕ) (card count : ℕ) : Type 0 where
+  pub hashed : Hashed text words hashes
   pub stored : card < cards_used_of words
   pub owners_capacity : cards_used_of words ≤ length owners
   pub orphans_capacity : count < length orphans
-  pub places_capacity : cards_used_of words ≤ length places
-  pub few : count ≤ card_capacity
-  pub orphans_stored : AllStored words (take count orphans)
-  pub places_are : Placed numbers (take count orphans) places
+  pub hashes_capacity : count < length orphanHashes
+  pub hashes_are : take count orphanHashes ≡ map (card_hash text words) (take count orphans)
 
 -- What one extension does to them.
-pub record OrphanTurn (text words numbers owners : List ℕ) (card count r : ℕ) (orphans₀ orphans places : List ℕ) : Type 0 where
+pub record OrphanTurn (text words owners : List ℕ) (card count r : ℕ) (orphans₀ orphans orphanHashes : List ℕ) : Type 0 where
   pub orphans_are : take r orphans ≡ choose (is_unowned owners card) (entered_in (same_cards text words) card (take count orphans₀)) (take count orphans₀)
-  pub places_are : Placed numbers (take r orphans) places
+  pub hashes_are : take r orphanHashes ≡ map (card_hash text words) (take r orphans)
   pub count_most : r ≤ count + 1
 
-pub record OrphansAsked (text words numbers owners extensions orphans places : List ℕ) : Type 0 where
-  pub numbered : Numbered text words numbers
-  pub stored : AllStored words extensions
+pub record OrphansAsked (text words hashes owners extensions orphans orphanHashes : List ℕ) : Type 0 where
+  pub hashed : Hashed text words hashes
+  pub stored : (j : ℕ) → j < length extensions → get_or extensions j 0 < cards_used_of words
   pub few : length extensions ≤ cards_used_of words
   pub owners_capacity : cards_used_of words ≤ length owners
   pub orphans_capacity : cards_used_of words ≤ length orphans
-  pub places_capacity : cards_used_of words ≤ length places
+  pub hashes_capacity : cards_used_of words ≤ length orphanHashes
 
 -- What the first k extensions did.
-pub record OrphansAre (text words numbers owners extensions orphans places : List ℕ) (k o : ℕ) : Type 0 where
+pub record OrphansAre (text words owners extensions orphans orphanHashes : List ℕ) (k o : ℕ) : Type 0 where
   pub orphans_are : take o orphans ≡ firsts (same_cards text words) [] (filter (is_unowned owners) (take k extensions))
-  pub places_are : Placed numbers (take o orphans) places
+  pub hashes_are : take o orphanHashes ≡ map (card_hash text words) (take o orphans)
   pub orphans_most : o ≤ k

@@ -3,4 +3,4 @@ pub mod Steps
 pub mod Entering
 pub mod Types
 pub mod Extensions
-pub mod Chains
+pub mod Spans

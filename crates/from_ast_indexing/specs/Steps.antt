@@ -13,34 +13,19 @@ use Rattle.from_ast_indexing.specs.Extensions.{is_extension_card, is_unowned}
 
 -- ---- All arrays.
 
--- What filling the arrays asks: a store that decodes, and room for its cards; one more heading marks the end. The table's length is what numbering
--- names asks.
-pub record IndexAsked (text words headings numbers owners types orphans extensions heads nexts standing table : List ℕ) : Type 0 where
+-- What filling the arrays asks: a store that decodes, and room for its cards; one more heading marks the end. `buckets` has any length but 0.
+pub record IndexAsked (text words headings hashes owners types orphans extensions starts ends buckets : List ℕ) : Type 0 where
   pub store_sound : sound text words ≡ true
   pub words_length : words_capacity ≤ length words
   pub headings_length : cards_used_of words < length headings
-  pub numbers_length : cards_used_of words ≤ length numbers
+  pub hashes_length : cards_used_of words ≤ length hashes
   pub owners_length : cards_used_of words ≤ length owners
   pub types_length : cards_used_of words ≤ length types
   pub orphans_length : cards_used_of words ≤ length orphans
   pub extensions_length : cards_used_of words ≤ length extensions
-  pub heads_length : cards_used_of words ≤ length heads
-  pub nexts_length : cards_used_of words ≤ length nexts
-  pub standing_length : cards_used_of words ≤ length standing
-  pub table_length : cards_used_of words ≤ length table
-  pub table_least : 32 < length table
-  pub table_most : length table ≤ 65536
-
--- ---- Numbers.
-
-pub record NumbersAsked (words hashes table numbers : List ℕ) : Type 0 where
-  pub words_length : words_capacity ≤ length words
-  pub cards_most : cards_used_of words ≤ card_capacity
-  pub hashes_length : cards_used_of words ≤ length hashes
-  pub table_length : cards_used_of words ≤ length table
-  pub table_least : 32 < length table
-  pub table_most : length table ≤ 65536
-  pub numbers_length : cards_used_of words ≤ length numbers
+  pub starts_length : cards_used_of words ≤ length starts
+  pub ends_length : cards_used_of words ≤ length ends
+  pub slots : 0 < length buckets
 
 -- ---- Headings.
 
@@ -56,13 +41,13 @@ pub record HeadingsAre (words headings : List ℕ) (heading_count : ℕ) : Type 
 
 -- ---- Types, extensions and orphans of all headings' cards.
 
-pub record OwnersAsked (text words numbers cards owners types orphans extensions places : List ℕ) : Type 0 where
-  pub all_cards : Cards text words numbers cards
+pub record OwnersAsked (text words hashes cards owners types orphans extensions scratch : List ℕ) : Type 0 where
+  pub all_cards : Cards text words hashes cards
   pub owners_capacity : cards_used_of words ≤ length owners
   pub types_capacity : cards_used_of words ≤ length types
   pub orphans_capacity : cards_used_of words ≤ length orphans
   pub extensions_capacity : cards_used_of words ≤ length extensions
-  pub places_capacity : cards_used_of words ≤ length places
+  pub scratch_capacity : cards_used_of words ≤ length scratch
 
 pub record OwnersAre (text words cards owners types orphans extensions : List ℕ) (r : Counts) : Type 0 where
   pub headings_are : r.headings ≡ length cards

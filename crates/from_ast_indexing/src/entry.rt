@@ -1,11 +1,10 @@
-// `Entry` of the hash maps in from_ast.rs: the search for a card's name among cards, and the card that is added where none has it. A word of
-// `places` says for a name's number where the card stands. It is believed only where a card of that number stands there, so the words of other names
-// may be anything, and nothing is cleared before a list begins.
-ghost use Rattle.std.specs.Prelude.{◌≡◌};
+// `Entry` of the hash maps in from_ast.rs: the search_lem for a card's name among cards, and the card that is added where none has it.
+ghost use Rattle.std.specs.Prelude.{◌≡◌, ◌%◌, ◌≤◌, ◌<◌, length, get_or};
 ghost use Rattle.definition.specs.Lists.{find};
-ghost use Rattle.from_ast_indexing.specs.Entering.{same_number, entry_of, Searched, Entering, Entered};
+ghost use Rattle.from_ast_index.specs.Index.{same_cards};
+ghost use Rattle.from_ast_indexing.specs.Entering.{entry_of, Searched, Entering, Entered};
 
-// What a search for a name finds: the first card that has it.
+// What a search_lem for a name finds: the first card that has it.
 #[derive(Drop)]
 pub enum Entry {
     Occupied(u32),
@@ -19,41 +18,74 @@ pub struct First {
     pub count: usize,
 }
 
-// The first of the cards that has the name of the card.
-pub fn find(numbers: &[u32], cards: &[u32], places: &[u32], card: u32) -> Entry
-    requires { Searched numbers.now cards.now places.now card }
-    ensures { result ≡ entry_of (find (same_number numbers.now card) cards.now) }
+// The first of the cards that has the name of the card; beside the cards stand their hashes.
+pub fn find(
+    text: &[u8],
+    words: &[u32],
+    cards: &[u32],
+    hashes: &[u32],
+    card: u32,
+    hash: u32,
+) -> Entry
+    requires { Searched text.now words.now cards.now hashes.now card hash }
+    ensures { result ≡ entry_of (find (same_cards text.now words.now card) cards.now) }
 {
-    let number = numbers[card as usize];
-    let place = places[number as usize] as usize;
-    if cards.len() <= place {
-        return Entry::Vacant;
+    let mut i = 0;
+    while i < hashes.len() {
+        if hashes[i] == hash {
+            let other = cards[i];
+            if from_ast_index::same_names(text, words, card, other) {
+                return Entry::Occupied(other);
+            }
+        }
+        i += 1;
     }
-    let first = cards[place];
-    if numbers[first as usize] != number {
-        return Entry::Vacant;
-    }
-    Entry::Occupied(first)
+    Entry::Vacant
 }
 
-// Adds the card to the first `count` cards where none of them has its name.
+// Adds the card to the first `count` cards where none of them has its name. None before `from` has its hash.
 pub fn enter(
-    numbers: &[u32],
+    text: &[u8],
+    words: &[u32],
     card: u32,
+    hash: u32,
     cards: &mut [u32],
-    places: &mut [u32],
+    hashes: &mut [u32],
+    from: usize,
     count: usize,
 ) -> First
-    requires { Entering numbers.now cards.old places.old count card }
-    ensures { Entered numbers.now card count result cards.old cards.new places.new }
+    requires { Entering text.now words.now cards.old hashes.old from count card hash }
+    ensures { Entered text.now words.now card count result cards.old cards.new
+        hashes.new }
 {
-    let Entry::Occupied(first) = find(numbers, &cards[0..count], places, card) else {
+    let Entry::Occupied(first) = find(
+        text,
+        words,
+        &cards[from..count],
+        &hashes[from..count],
+        card,
+        hash,
+    ) else {
         cards[count] = card;
-        places[numbers[card as usize] as usize] = count as u32;
+        hashes[count] = hash;
         return First {
             card,
             count: count + 1,
         };
     };
     First { card: first, count }
+}
+
+// Where the search_lem for a hash among the first `count` types begins: none before has it. A word of `buckets` is the place of the first
+// type whose hash falls on it; where none does, any word will do, and a large one spares the search_lem.
+pub fn hint(buckets: &[u32], hash: u32, count: usize) -> usize
+    requires { 0 < length buckets.now }
+    ensures { (result ≤ count)
+        × (result ≤ get_or buckets.now (hash % length buckets.now) 0) }
+{
+    let first = buckets[hash as usize % buckets.len()] as usize;
+    if count < first {
+        return count;
+    }
+    first
 }

@@ -1,5 +1,6 @@
-// The type extensions of a store, their owners, and the first orphan of each name. The text is for the contracts, which speak of names.
+// The type extensions of a store, their owners, and the first orphan of each name.
 ghost use Rattle.std.specs.Prelude.{length};
+ghost use Rattle.from_ast_indexing.specs.Entering.{Hinted};
 ghost use Rattle.from_ast_indexing.specs.Extensions.{
   ExtensionAsked,
   ExtensionTurn,
@@ -19,16 +20,18 @@ use definition::ABSENT;
 fn index_extension(
     text: &[u8],
     words: &[u32],
-    numbers: &[u32],
+    hashes: &[u32],
     types: &[u32],
-    places: &[u32],
+    type_hashes: &[u32],
+    buckets: &[u32],
     card: u32,
     owners: &mut [u32],
     extensions: &mut [u32],
     count: usize,
 ) -> usize
-    requires { ExtensionAsked text.now words.now numbers.now types.now places.now owners.old extensions.old card
-        count }
+    requires { ExtensionAsked text.now words.now hashes.now types.now type_hashes.now owners.old extensions.old
+        card count
+        × Hinted type_hashes.now buckets.now }
     ensures { ExtensionTurn text.now words.now types.now card count result owners.old
         owners.new extensions.old extensions.new }
 {
@@ -37,7 +40,16 @@ fn index_extension(
         return count;
     }
     extensions[count] = card;
-    let Entry::Occupied(first) = crate::entry::find(numbers, types, places, card) else {
+    let hash = hashes[at];
+    let from = crate::entry::hint(buckets, hash, type_hashes.len());
+    let Entry::Occupied(first) = crate::entry::find(
+        text,
+        words,
+        &types[from..],
+        &type_hashes[from..],
+        card,
+        hash,
+    ) else {
         owners[at] = ABSENT;
         return count + 1;
     };
@@ -50,23 +62,33 @@ pub fn index_extensions(
     text: &[u8],
     words: &[u32],
     headings: &[u32],
-    numbers: &[u32],
+    hashes: &[u32],
     types: &[u32],
-    places: &[u32],
+    type_hashes: &[u32],
+    buckets: &[u32],
     owners: &mut [u32],
     extensions: &mut [u32],
 ) -> usize
-    requires { ExtensionsAsked text.now words.now numbers.now headings.now types.now places.now owners.old
-        extensions.old }
+    requires { ExtensionsAsked text.now words.now hashes.now headings.now types.now type_hashes.now owners.old
+        extensions.old
+        × Hinted type_hashes.now buckets.now }
     ensures { ExtensionsAre text.now words.now headings.now types.now
         owners.old owners.new extensions.new (length headings.now) result }
 {
     let mut count = 0;
     let mut k = 0;
     while k < headings.len() {
-        let card = headings[k];
         count = index_extension(
-            text, words, numbers, types, places, card, owners, extensions, count,
+            text,
+            words,
+            hashes,
+            types,
+            type_hashes,
+            buckets,
+            headings[k],
+            owners,
+            extensions,
+            count,
         );
         k += 1;
     }
@@ -77,21 +99,31 @@ pub fn index_extensions(
 fn index_orphan(
     text: &[u8],
     words: &[u32],
-    numbers: &[u32],
+    hashes: &[u32],
     owners: &[u32],
     card: u32,
     orphans: &mut [u32],
-    places: &mut [u32],
+    orphan_hashes: &mut [u32],
     count: usize,
 ) -> usize
-    requires { OrphanAsked text.now words.now numbers.now owners.now orphans.old places.old card count }
-    ensures { OrphanTurn text.now words.now numbers.now owners.now card count result
-        orphans.old orphans.new places.new }
+    requires { OrphanAsked text.now words.now hashes.now owners.now orphans.old orphan_hashes.old card count }
+    ensures { OrphanTurn text.now words.now owners.now card count result orphans.old
+        orphans.new orphan_hashes.new }
 {
-    if owners[card as usize] != ABSENT {
+    let at = card as usize;
+    if owners[at] != ABSENT {
         return count;
     }
-    let first = crate::entry::enter(numbers, card, orphans, places, count);
+    let first = crate::entry::enter(
+        text,
+        words,
+        card,
+        hashes[at],
+        orphans,
+        orphan_hashes,
+        0,
+        count,
+    );
     first.count
 }
 
@@ -99,15 +131,16 @@ fn index_orphan(
 pub fn index_orphans(
     text: &[u8],
     words: &[u32],
-    numbers: &[u32],
+    hashes: &[u32],
     owners: &[u32],
     extensions: &[u32],
     orphans: &mut [u32],
-    places: &mut [u32],
+    orphan_hashes: &mut [u32],
 ) -> usize
-    requires { OrphansAsked text.now words.now numbers.now owners.now extensions.now orphans.old places.old }
-    ensures { OrphansAre text.now words.now numbers.now owners.now
-        extensions.now orphans.new places.new (length extensions.now) result }
+    requires { OrphansAsked text.now words.now hashes.now owners.now extensions.now orphans.old
+        orphan_hashes.old }
+    ensures { OrphansAre text.now words.now owners.now extensions.now
+        orphans.new orphan_hashes.new (length extensions.now) result }
 {
     let mut count = 0;
     let mut k = 0;
@@ -115,11 +148,11 @@ pub fn index_orphans(
         count = index_orphan(
             text,
             words,
-            numbers,
+            hashes,
             owners,
             extensions[k],
             orphans,
-            places,
+            orphan_hashes,
             count,
         );
         k += 1;

@@ -1,23 +1,34 @@
 // The arrays that build reads are filled once, from the stored cards.
-ghost use Rattle.std.specs.Prelude.{take};
-ghost use Rattle.from_ast_index.specs.Index.{Numbered, Indexed, Chained, DirectivesAre};
-ghost use Rattle.from_ast_indexing.specs.Steps.{
-  IndexAsked,
-  NumbersAsked,
-  HeadingsAsked,
-  HeadingsAre,
-  OwnersAsked,
-  OwnersAre,
-};
+ghost use Rattle.std.specs.Prelude.{◌≡◌, ◌≤◌, ◌<◌, length, take};
+ghost use Rattle.definition.specs.Refusals.{card_capacity};
+ghost use Rattle.definition.specs.Store.{cards_used_of, words_capacity};
+ghost use Rattle.from_ast_index.specs.Index.{hash_of, Hashed, Indexed, Spanned};
+ghost use Rattle.from_ast_indexing.specs.Steps.{IndexAsked, HeadingsAsked, HeadingsAre, OwnersAsked, OwnersAre};
 
-use definition::layout::{CARD_WORDS, CARDS_AT};
 use from_ast_index::Counts;
 
-pub mod chains;
-pub mod directives;
 pub mod entry;
 pub mod extensions;
+pub mod spans;
 pub mod types;
+
+// What the hash so far is multiplied by before the next byte is added, and how many numbers a word has.
+const HASH_FACTOR: u64 = 16777619;
+
+const HASH_RANGE: u64 = 4294967296;
+
+// A number made of a name's bytes: where two differ, so do the names.
+pub fn hash_of(name: &[u8]) -> u32
+    ensures { result ≡ hash_of name.now }
+{
+    let mut hash: u64 = 0;
+    let mut i = 0;
+    while i < name.len() {
+        hash = (hash * HASH_FACTOR + name[i] as u64) % HASH_RANGE;
+        i += 1;
+    }
+    hash as u32
+}
 
 // The cards of the headings in order, then the number of cards. The text is for the reader that goes to the next heading.
 pub fn index_headings(text: &[u8], words: &[u32], headings: &mut [u32]) -> usize
@@ -36,60 +47,62 @@ pub fn index_headings(text: &[u8], words: &[u32], headings: &mut [u32]) -> usize
     count
 }
 
-// The number of each card's name.
-pub fn index_numbers(
-    text: &[u8],
-    words: &[u32],
-    hashes: &mut [u32],
-    table: &mut [u32],
-    numbers: &mut [u32],
-)
-    requires { NumbersAsked words.now hashes.old table.old numbers.old }
-    ensures { Numbered text.now words.now numbers.new }
+// The hash of each card's name.
+pub fn hash_names(text: &[u8], words: &[u32], hashes: &mut [u32])
+    requires { (words_capacity ≤ length words.now)
+        × (cards_used_of words.now ≤ card_capacity)
+        × (cards_used_of words.now ≤ length hashes.old) }
+    ensures { Hashed text.now words.now hashes.new }
 {
     let used = store_reader::cards_used(words);
-    let cards = &words[CARDS_AT..CARDS_AT + CARD_WORDS * used];
-    numbering::number_names(text, cards, hashes, table, numbers);
+    let mut i = 0;
+    while i < used {
+        hashes[i] = hash_of(store_reader::card_name(text, words, i));
+        i += 1;
+    }
 }
 
-// Types, extensions, orphans and owners, from the headings' cards. `places` has the places of the types, then those of the orphans.
+// Types, extensions, orphans and owners, from the headings' cards. The scratch holds the hashes of the types, then those of the orphans.
 fn index_owners(
     text: &[u8],
     words: &[u32],
     headings: &[u32],
-    numbers: &[u32],
+    hashes: &[u32],
     owners: &mut [u32],
     types: &mut [u32],
     orphans: &mut [u32],
     extensions: &mut [u32],
-    places: &mut [u32],
+    buckets: &mut [u32],
+    scratch: &mut [u32],
 ) -> Counts
-    requires { OwnersAsked text.now words.now numbers.now headings.now owners.old types.old orphans.old
-        extensions.old places.old }
+    requires { OwnersAsked text.now words.now hashes.now headings.now owners.old types.old orphans.old
+        extensions.old scratch.old
+        × (0 < length buckets.old) }
     ensures { OwnersAre text.now words.now headings.now owners.new
         types.new orphans.new extensions.new result }
 {
     let type_count = crate::types::index_types(
-        text, words, headings, numbers, owners, types, places,
+        text, words, headings, hashes, owners, types, scratch, buckets,
     );
     let extension_count = crate::extensions::index_extensions(
         text,
         words,
         headings,
-        numbers,
+        hashes,
         &types[0..type_count],
-        places,
+        &scratch[0..type_count],
+        buckets,
         owners,
         extensions,
     );
     let orphan_count = crate::extensions::index_orphans(
         text,
         words,
-        numbers,
+        hashes,
         owners,
         &extensions[0..extension_count],
         orphans,
-        places,
+        scratch,
     );
     Counts {
         headings: headings.len(),
@@ -99,47 +112,45 @@ fn index_owners(
     }
 }
 
-// Fills all arrays; what `table` holds then means nothing. Until the owners are known their array holds hashes, and until the chains are, that of
-// their heads holds places.
+// Fills all arrays; what `buckets` holds then means nothing. Large words in `buckets` make it fast. Until the starts are noted, their array holds
+// hashes.
 pub fn index(
     text: &[u8],
     words: &[u32],
     headings: &mut [u32],
-    numbers: &mut [u32],
+    hashes: &mut [u32],
     owners: &mut [u32],
     types: &mut [u32],
     orphans: &mut [u32],
     extensions: &mut [u32],
-    heads: &mut [u32],
-    nexts: &mut [u32],
-    standing: &mut [u32],
-    table: &mut [u32],
+    starts: &mut [u32],
+    ends: &mut [u32],
+    buckets: &mut [u32],
 ) -> Counts
-    requires { IndexAsked text.now words.now headings.old numbers.old owners.old types.old orphans.old
-        extensions.old heads.old nexts.old standing.old table.old }
-    ensures { Indexed text.now words.now headings.new numbers.new
+    requires { IndexAsked text.now words.now headings.old hashes.old owners.old types.old orphans.old
+        extensions.old starts.old ends.old buckets.old }
+    ensures { Indexed text.now words.now headings.new hashes.new
         owners.new types.new orphans.new extensions.new result.headings result.types
         result.orphans result.extensions
-        × Chained words.now numbers.new (take result.extensions extensions.new) heads.new
-        nexts.new
-        × DirectivesAre text.now words.now numbers.new (take result.headings headings.new)
-        standing.new }
+        × Spanned words.now owners.new (take result.extensions extensions.new)
+        starts.new ends.new }
 {
     let count = index_headings(text, words, headings);
-    index_numbers(text, words, owners, table, numbers);
+    hash_names(text, words, hashes);
     let counts = index_owners(
         text,
         words,
         &headings[0..count],
-        numbers,
+        hashes,
         owners,
         types,
         orphans,
         extensions,
-        heads,
+        buckets,
+        starts,
     );
     let extension_count = counts.extensions;
-    crate::chains::index_chains(numbers, &extensions[0..extension_count], heads, nexts);
-    crate::directives::index_standing(text, words, &headings[0..count], numbers, standing);
+    crate::spans::index_starts(owners, &extensions[0..extension_count], starts);
+    crate::spans::index_ends(owners, &extensions[0..extension_count], ends);
     counts
 }

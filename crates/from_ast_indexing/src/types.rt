@@ -1,5 +1,6 @@
-// The types of a store: the first definition of each name.
-ghost use Rattle.std.specs.Prelude.{length};
+// The types of a store: the first definition of each name, found among those before by the hash.
+ghost use Rattle.std.specs.Prelude.{◌<◌, length, take};
+ghost use Rattle.from_ast_indexing.specs.Entering.{Hinted};
 ghost use Rattle.from_ast_indexing.specs.Types.{TypeAsked, TypeTurn, TypesAsked, TypesAre};
 
 use ast::kinds;
@@ -8,39 +9,49 @@ use ast::kinds;
 fn index_type(
     text: &[u8],
     words: &[u32],
-    numbers: &[u32],
+    hashes: &[u32],
     card: u32,
     owners: &mut [u32],
     types: &mut [u32],
-    places: &mut [u32],
+    type_hashes: &mut [u32],
+    buckets: &mut [u32],
     count: usize,
 ) -> usize
-    requires { TypeAsked text.now words.now numbers.now owners.old types.old places.old card count }
-    ensures { TypeTurn text.now words.now numbers.now card count result owners.old
-        owners.new types.old types.new places.new }
+    requires { TypeAsked text.now words.now hashes.now owners.old types.old type_hashes.old card count
+        × Hinted (take count type_hashes.old) buckets.old }
+    ensures { TypeTurn text.now words.now card count result owners.old owners.new
+        types.old types.new type_hashes.new
+        × Hinted (take result type_hashes.new) buckets.new }
 {
     let at = card as usize;
     if !kinds::is_type(store_reader::card_kind(words, at)) {
         return count;
     }
-    let first = crate::entry::enter(numbers, card, types, places, count);
+    let hash = hashes[at];
+    let from = crate::entry::hint(buckets, hash, count);
+    let slot = hash as usize % buckets.len();
+    buckets[slot] = from as u32;
+    let first = crate::entry::enter(text, words, card, hash, types, type_hashes, from, count);
     owners[at] = first.card;
     first.count
 }
 
-// The first definition of each type, and for each definition the first one of its name. The text is for the contract, which speaks of names.
+// The first definition of each type, and for each definition the first one of its name.
 pub fn index_types(
     text: &[u8],
     words: &[u32],
     headings: &[u32],
-    numbers: &[u32],
+    hashes: &[u32],
     owners: &mut [u32],
     types: &mut [u32],
-    places: &mut [u32],
+    type_hashes: &mut [u32],
+    buckets: &mut [u32],
 ) -> usize
-    requires { TypesAsked text.now words.now numbers.now headings.now owners.old types.old places.old }
-    ensures { TypesAre text.now words.now numbers.now headings.now
-        owners.new types.new places.new (length headings.now) result }
+    requires { TypesAsked text.now words.now hashes.now headings.now owners.old types.old type_hashes.old
+        × (0 < length buckets.old) }
+    ensures { TypesAre text.now words.now headings.now owners.new
+        types.new type_hashes.new (length headings.now) result
+        × Hinted (take result type_hashes.new) buckets.new }
 {
     let mut count = 0;
     let mut k = 0;
@@ -48,11 +59,12 @@ pub fn index_types(
         count = index_type(
             text,
             words,
-            numbers,
+            hashes,
             headings[k],
             owners,
             types,
-            places,
+            type_hashes,
+            buckets,
             count,
         );
         k += 1;

@@ -14,11 +14,12 @@ use Rattle.definition.specs.Outcomes.{words_of_row}
 use Rattle.definition.specs.Store.{cards_used_of}
 use Rattle.store_reader.specs.Stored.{stored_headings}
 use Rattle.store_reader.proofs.Words.{headings_at}
-use Rattle.from_ast_index.specs.Index.{Indexed, Chained, DirectivesAre, heading_number}
+use Rattle.from_ast_index.specs.Index.{Indexed, heading_number}
 use Rattle.from_ast_index.proofs.Lists.{taken_front, taken_most}
 use Rattle.component.specs.Pushed.{Filled, filled, Fits, pushed}
 use Rattle.component.specs.RowsByCards.{Stored, types_rows_at, all_types_rows_at, type_rows_at, directive_rows_at, schema_rows_at}
 use Rattle.from_ast_rows.specs.Arrays.{Used, Arrays}
+use Rattle.from_ast_rows.specs.Parted.{Parted}
 use Rattle.component.proofs.Pushing.{Rest, rest_begin}
 use Rattle.component.proofs.Blocks.{types_rows, orphans_rows}
 use Rattle.component.proofs.Directives.{directives_rows}
@@ -34,16 +35,16 @@ front_used words cards count inside stored = record {
   };
 }
 
-module _ (text words headings numbers owners typeCards orphanCards extensionCards : List ℕ) (m t o e : ℕ)
-    (x : Indexed text words headings numbers owners typeCards orphanCards extensionCards m t o e) where
+module _ (text words headings hashes owners typeCards orphanCards extensionCards : List ℕ) (m t o e : ℕ)
+    (x : Indexed text words headings hashes owners typeCards orphanCards extensionCards m t o e) where
   headings_before : take m headings ≡ map heading_number (stored_headings text words)
   headings_before =
       let n : length (map heading_number (stored_headings text words)) ≡ m = length-map (stored_headings text words) heading_number ∙ x.headings_count in
       taken_front m headings (map heading_number (stored_headings text words)) (cards_used_of words) x.headings_are n
 
-  pub indexed_arrays : Arrays text words headings numbers typeCards orphanCards extensionCards m t o e
+  pub indexed_arrays : Arrays text words headings hashes typeCards orphanCards extensionCards m t o e
   indexed_arrays =
-      let most = x.numbered.cards_most in
+      let most = x.hashed.cards_most in
       let a = x.headings_most in
       let b = x.types_most in
       let c = x.orphans_most in
@@ -53,7 +54,7 @@ module _ (text words headings numbers owners typeCards orphanCards extensionCard
       let j = x.orphans_length in
       let k = x.extensions_length in
       record {
-        numbered = x.numbered;
+        hashed = x.hashed;
         headings_used = front_used words headings m (omega arith) x.headings_stored;
         types_used = front_used words typeCards t (omega arith) x.types_stored;
         orphans_used = front_used words orphanCards o (omega arith) x.orphans_stored;
@@ -70,8 +71,8 @@ first_capacity : (ws : List ℕ) (rs : List Row) → 3 * length rs ≤ length ws
 unfolding pushed
 first_capacity ws rs h = omega arith
 
-module _ (text words headings numbers typeCards orphanCards extensionCards : List ℕ) (m t o e : ℕ)
-    (x : Arrays text words headings numbers typeCards orphanCards extensionCards m t o e) (adopt : Bool) where
+module _ (text words headings hashes typeCards orphanCards extensionCards : List ℕ) (m t o e : ℕ)
+    (x : Arrays text words headings hashes typeCards orphanCards extensionCards m t o e) (adopt : Bool) where
   types_built : types_rows_at text words (take t typeCards) (take e extensionCards)
       ≡ flat_map (type_rows (stored_headings text words)) (defined_types (stored_headings text words))
   types_built =
@@ -91,7 +92,7 @@ module _ (text words headings numbers typeCards orphanCards extensionCards : Lis
   built_cut =
       sym (λ i.
       (ap (schema_rows_at text words adopt) x.headings_are ∙ schema_rows_lem text words (stored_headings text words) (headings_at text words)
-      x.numbered.cards_most adopt) i
+      x.hashed.cards_most adopt) i
       ++ ((ap (directive_rows_at text words) x.headings_are ∙ directives_rows text words (stored_headings text words) (headings_at text words)) i
       ++ (types_built i
       ++ choose adopt (orphans_built i) [])))
@@ -115,13 +116,9 @@ used_lent {n = n} u = rw (sub-zero n) u.stored
 pub lent_fits : (n : ℕ) (cards mine : List ℕ) → n ≤ length mine → length (take (n - 0) cards) ≤ length mine
 lent_fits n cards mine h = omega (arith, taken_most (n - 0) cards)
 
-pub lent_chained : (words numbers extensions heads nexts : List ℕ) (e : ℕ) → Chained words numbers (take e extensions) heads nexts →
-    Chained words numbers (take (e - 0) extensions) heads nexts
-lent_chained words numbers extensions heads nexts e x = rw (sub-zero e) x
-
-pub lent_directives : (text words numbers headings standing : List ℕ) (m : ℕ) → DirectivesAre text words numbers (take m headings) standing →
-    DirectivesAre text words numbers (take (m - 0) headings) standing
-lent_directives text words numbers headings standing m x = rw (sub-zero m) x
+pub lent_parted : (text words types extensions starts ends : List ℕ) (t e : ℕ) → Parted text words (take t types) (take e extensions) starts ends →
+    Parted text words (take (t - 0) types) (take (e - 0) extensions) starts ends
+lent_parted text words types extensions starts ends t e x = rw (sub-zero t, sub-zero e) x
 
 -- From the beginning of the slice.
 pub pushed_first : (ws : List ℕ) (rs : List Row) (out : List ℕ) (r : ℕ) → filled out r ≡ pushed rs (filled ws 0) →

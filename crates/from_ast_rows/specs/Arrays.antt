@@ -4,7 +4,7 @@ use Rattle.std.specs.Prelude.{◌≡◌, List, [], map, ℕ, ◌≤◌, length, 
 use Rattle.definition.specs.Lists.{filter, firsts}
 use Rattle.definition.specs.Headings.{defined_types, orphans, same_named, is_type_extension}
 use Rattle.store_reader.specs.Stored.{stored_headings}
-use Rattle.from_ast_index.specs.Index.{Numbered, heading_number}
+use Rattle.from_ast_index.specs.Index.{Hashed, heading_number}
 use Rattle.component.specs.RowsByCards.{Stored}
 
 -- The first words of an array are numbers of stored cards.
@@ -12,9 +12,9 @@ pub record Used (words cards : List ℕ) (count : ℕ) : Type 0 where
   pub inside : count ≤ length cards
   pub stored : Stored words (take count cards)
 
-pub record Arrays (text words headings numbers typeCards orphanCards extensionCards : List ℕ)
+pub record Arrays (text words headings hashes typeCards orphanCards extensionCards : List ℕ)
     (heading_count type_count orphan_count extension_count : ℕ) : Type 0 where
-  pub numbered : Numbered text words numbers
+  pub hashed : Hashed text words hashes
   pub headings_used : Used words headings heading_count
   pub types_used : Used words typeCards type_count
   pub orphans_used : Used words orphanCards orphan_count

@@ -1,48 +1,82 @@
 // The rows of the directive definitions, of schema/from_ast.rs.
-ghost use Rattle.std.specs.Prelude.{◌≡◌, ◌≤◌, ◌<◌, length};
+ghost use Rattle.std.specs.Prelude.{◌≡◌, ◌<◌};
 ghost use Rattle.definition.specs.Store.{cards_used_of};
-ghost use Rattle.store_reader.specs.Stored.{card_kind};
-ghost use Rattle.from_ast_index.specs.Index.{Numbered, DirectivesAre, standing_at};
+ghost use Rattle.from_ast_index.specs.Index.{Hashed};
 ghost use Rattle.component.specs.Pushed.{filled, Fits, pushed};
-ghost use Rattle.component.specs.Places.{Placed};
-ghost use Rattle.component.specs.RowsByCards.{Stored, extend_by_directive, directive_rows_at};
+ghost use Rattle.component.specs.RowsByCards.{Stored, names_directive, standing_at, extend_by_directive, directive_rows_at};
 
 use ast::kinds;
 use definition::ABSENT;
+
+// Whether a heading is a directive definition with the name of the card.
+fn names_directive(text: &[u8], words: &[u32], hashes: &[u32], card: u32, other: u32) -> bool
+    requires { Hashed text.now words.now hashes.now
+        × (card < cards_used_of words.now)
+        × (other < cards_used_of words.now) }
+    ensures { result ≡ names_directive text.now words.now card other }
+{
+    if store_reader::card_kind(words, other as usize) != kinds::DIRECTIVE_DEFINITION {
+        return false;
+    }
+    from_ast_index::same_cards(text, words, hashes, card, other)
+}
+
+// The directive definition that stands for a card's name: a built-in one gives way to the next, and any other stays.
+fn standing_directive(
+    text: &[u8],
+    words: &[u32],
+    headings: &[u32],
+    hashes: &[u32],
+    card: u32,
+) -> u32
+    requires { Hashed text.now words.now hashes.now
+        × Stored words.now headings.now
+        × (card < cards_used_of words.now) }
+    ensures { result ≡ standing_at text.now words.now headings.now card }
+{
+    let first = store_reader::documents::built_in_count(words);
+    let mut standing = ABSENT;
+    let mut i = 0;
+    while i < headings.len() {
+        let other = headings[i];
+        i += 1;
+        if !names_directive(text, words, hashes, card, other) {
+            continue;
+        }
+        if first <= other as usize {
+            return other;
+        }
+        standing = other;
+    }
+    standing
+}
 
 // Pushes the directive definition that stands for a heading's name, unless it stands already: it has the place of the first.
 fn directive_definition(
     text: &[u8],
     words: &[u32],
     headings: &[u32],
-    numbers: &[u32],
-    standing: &[u32],
+    hashes: &[u32],
     card: u32,
-    places: &mut [u32],
     rows: &mut [u32],
     start: usize,
     used: usize,
 ) -> usize
-    requires { Numbered text.now words.now numbers.now
-        × Placed words.now numbers.now places.old 3 start (filled rows.old used)
-        × DirectivesAre text.now words.now numbers.now headings.now standing.now
+    requires { Hashed text.now words.now hashes.now
         × Stored words.now headings.now
         × (card < cards_used_of words.now)
-        × (card_kind words.now card ≡ 3 → standing_at text.now words.now headings.now card < cards_used_of words.now)
-        × (start ≤ used)
         × Fits rows.old (extend_by_directive text.now words.now headings.now card start (filled rows.old used)) }
-    ensures { (filled rows.new result
+    ensures { filled rows.new result
         ≡ extend_by_directive text.now words.now headings.now card start
-        (filled rows.old used))
-        × Placed words.now numbers.now places.new 3 start (filled rows.new result) }
+        (filled rows.old used) }
 {
     if store_reader::card_kind(words, card as usize) != kinds::DIRECTIVE_DEFINITION {
         return used;
     }
-    let stands = standing[numbers[card as usize] as usize];
+    let standing = standing_directive(text, words, headings, hashes, card);
     let kind = kinds::DIRECTIVE_DEFINITION;
     component::extend_sticky(
-        text, words, numbers, kind, stands, ABSENT, places, rows, start, used,
+        text, words, hashes, kind, standing, ABSENT, rows, start, used,
     )
 }
 
@@ -51,15 +85,11 @@ pub fn directive_definitions(
     text: &[u8],
     words: &[u32],
     headings: &[u32],
-    numbers: &[u32],
-    standing: &[u32],
-    places: &mut [u32],
+    hashes: &[u32],
     rows: &mut [u32],
     used: usize,
 ) -> usize
-    requires { Numbered text.now words.now numbers.now
-        × (cards_used_of words.now ≤ length places.old)
-        × DirectivesAre text.now words.now numbers.now headings.now standing.now
+    requires { Hashed text.now words.now hashes.now
         × Stored words.now headings.now
         × Fits rows.old (pushed (directive_rows_at text.now words.now headings.now) (filled rows.old used)) }
     ensures { filled rows.new result
@@ -70,9 +100,7 @@ pub fn directive_definitions(
     let mut i = 0;
     while i < headings.len() {
         let card = headings[i];
-        next = directive_definition(
-            text, words, headings, numbers, standing, card, places, rows, used, next,
-        );
+        next = directive_definition(text, words, headings, hashes, card, rows, used, next);
         i += 1;
     }
     next

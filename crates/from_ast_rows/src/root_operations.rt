@@ -1,13 +1,12 @@
 // The rows of the schema definition: its directive uses and its root operations, set or default, of schema/from_ast.rs.
-ghost use Rattle.std.specs.Prelude.{◌≡◌, true, ◌≤◌, ◌<◌, length};
+ghost use Rattle.std.specs.Prelude.{◌≡◌, true, ◌≤◌, ◌<◌};
 ghost use Rattle.definition.specs.Lists.{any};
 ghost use Rattle.definition.specs.Answers.{absent};
 ghost use Rattle.definition.specs.Cards.{is_root};
 ghost use Rattle.definition.specs.Refusals.{card_capacity};
 ghost use Rattle.definition.specs.Store.{cards_used_of};
-ghost use Rattle.from_ast_index.specs.Index.{Numbered};
+ghost use Rattle.from_ast_index.specs.Index.{Hashed};
 ghost use Rattle.component.specs.Pushed.{filled, Fits, pushed};
-ghost use Rattle.component.specs.Places.{Placed};
 ghost use Rattle.component.specs.RowsByCards.{
   Stored,
   schema_card,
@@ -58,29 +57,26 @@ fn schema_definition(words: &[u32], headings: &[u32]) -> u32
 fn schema_extension(
     text: &[u8],
     words: &[u32],
-    numbers: &[u32],
+    hashes: &[u32],
     kind: u32,
     heading: u32,
-    places: &mut [u32],
     rows: &mut [u32],
     start: usize,
     used: usize,
 ) -> usize
-    requires { Numbered text.now words.now numbers.now
-        × Placed words.now numbers.now places.old kind start (filled rows.old used)
+    requires { Hashed text.now words.now hashes.now
         × (heading < cards_used_of words.now)
         × (start ≤ used)
         × Fits rows.old (extend_by_schema_extension text.now words.now kind heading start (filled rows.old used)) }
-    ensures { (filled rows.new result
+    ensures { filled rows.new result
         ≡ extend_by_schema_extension text.now words.now kind heading start
-        (filled rows.old used))
-        × Placed words.now numbers.now places.new kind start (filled rows.new result) }
+        (filled rows.old used) }
 {
     if store_reader::card_kind(words, heading as usize) != kinds::SCHEMA_EXTENSION {
         return used;
     }
     component::extend_ast(
-        text, words, numbers, kind, heading, heading, places, rows, start, used,
+        text, words, hashes, kind, heading, heading, rows, start, used,
     )
 }
 
@@ -89,29 +85,26 @@ fn schema_extensions(
     text: &[u8],
     words: &[u32],
     headings: &[u32],
-    numbers: &[u32],
+    hashes: &[u32],
     kind: u32,
-    places: &mut [u32],
     rows: &mut [u32],
     start: usize,
     used: usize,
 ) -> usize
-    requires { Numbered text.now words.now numbers.now
-        × Placed words.now numbers.now places.old kind start (filled rows.old used)
+    requires { Hashed text.now words.now hashes.now
         × Stored words.now headings.now
         × (start ≤ used)
         × Fits rows.old
         (extend_by_schema_extensions text.now words.now kind headings.now start (filled rows.old used)) }
-    ensures { (filled rows.new result
+    ensures { filled rows.new result
         ≡ extend_by_schema_extensions text.now words.now kind headings.now start
-        (filled rows.old used))
-        × Placed words.now numbers.now places.new kind start (filled rows.new result) }
+        (filled rows.old used) }
 {
     let mut next = used;
     let mut i = 0;
     while i < headings.len() {
         let card = headings[i];
-        next = schema_extension(text, words, numbers, kind, card, places, rows, start, next);
+        next = schema_extension(text, words, hashes, kind, card, rows, start, next);
         i += 1;
     }
     next
@@ -187,22 +180,18 @@ fn add_implicit_root(
     text: &[u8],
     words: &[u32],
     headings: &[u32],
-    numbers: &[u32],
+    hashes: &[u32],
     adopt: bool,
     kind: u32,
-    places: &mut [u32],
     rows: &mut [u32],
     start: usize,
     used: usize,
 ) -> usize
-    requires { Numbered text.now words.now numbers.now
-        × Placed words.now numbers.now places.old kind start (filled rows.old used)
-        × (start ≤ used)
+    requires { Hashed text.now words.now hashes.now
         × Fits rows.old (extend_by_default text.now words.now adopt headings.now kind start (filled rows.old used)) }
-    ensures { (filled rows.new result
+    ensures { filled rows.new result
         ≡ extend_by_default text.now words.now adopt headings.now kind start
-        (filled rows.old used))
-        × Placed words.now numbers.now places.new kind start (filled rows.new result) }
+        (filled rows.old used) }
 {
     if !kinds::is_root(kind) {
         return used;
@@ -210,9 +199,7 @@ fn add_implicit_root(
     if !is_default_object(text, words, headings, adopt, kind) {
         return used;
     }
-    component::extend_sticky(
-        text, words, numbers, kind, ABSENT, ABSENT, places, rows, start, used,
-    )
+    component::extend_sticky(text, words, hashes, kind, ABSENT, ABSENT, rows, start, used)
 }
 
 // Whether there is a default root.
@@ -286,15 +273,13 @@ fn schema_list(
     text: &[u8],
     words: &[u32],
     headings: &[u32],
-    numbers: &[u32],
+    hashes: &[u32],
     schema: Schema,
     kind: u32,
-    places: &mut [u32],
     rows: &mut [u32],
     used: usize,
 ) -> usize
-    requires { Numbered text.now words.now numbers.now
-        × (cards_used_of words.now ≤ length places.old)
+    requires { Hashed text.now words.now hashes.now
         × Stored words.now headings.now
         × ((schema.card ≡ absent → ⊥) → schema.card < cards_used_of words.now)
         × Fits rows.old
@@ -311,31 +296,19 @@ fn schema_list(
     let adopt = schema.adopt;
     let implicit = schema.implicit;
     if card != ABSENT {
-        let own = component::extend_ast(
-            text, words, numbers, kind, card, ABSENT, places, rows, used, used,
-        );
-        return schema_extensions(
-            text, words, headings, numbers, kind, places, rows, used, own,
-        );
+        let own = component::extend_ast(text, words, hashes, kind, card, ABSENT, rows, used, used);
+        return schema_extensions(text, words, headings, hashes, kind, rows, used, own);
     }
     if schema.adopt {
-        let set = schema_extensions(
-            text, words, headings, numbers, kind, places, rows, used, used,
-        );
+        let set = schema_extensions(text, words, headings, hashes, kind, rows, used, used);
         if implicit {
-            return add_implicit_root(
-                text, words, headings, numbers, adopt, kind, places, rows, used, set,
-            );
+            return add_implicit_root(text, words, headings, hashes, adopt, kind, rows, used, set);
         }
         return set;
     }
     if implicit {
-        let root = add_implicit_root(
-            text, words, headings, numbers, adopt, kind, places, rows, used, used,
-        );
-        return schema_extensions(
-            text, words, headings, numbers, kind, places, rows, used, root,
-        );
+        let root = add_implicit_root(text, words, headings, hashes, adopt, kind, rows, used, used);
+        return schema_extensions(text, words, headings, hashes, kind, rows, used, root);
     }
     used
 }
@@ -345,14 +318,12 @@ fn schema_lists(
     text: &[u8],
     words: &[u32],
     headings: &[u32],
-    numbers: &[u32],
+    hashes: &[u32],
     schema: Schema,
-    places: &mut [u32],
     rows: &mut [u32],
     used: usize,
 ) -> usize
-    requires { Numbered text.now words.now numbers.now
-        × (cards_used_of words.now ≤ length places.old)
+    requires { Hashed text.now words.now hashes.now
         × Stored words.now headings.now
         × ((schema.card ≡ absent → ⊥) → schema.card < cards_used_of words.now)
         × Fits rows.old
@@ -370,18 +341,10 @@ fn schema_lists(
     let mutation = kinds::MUTATION;
     let subscribe = kinds::SUBSCRIPTION;
     let mut next = used;
-    next = schema_list(
-        text, words, headings, numbers, schema, directive, places, rows, next,
-    );
-    next = schema_list(
-        text, words, headings, numbers, schema, query, places, rows, next,
-    );
-    next = schema_list(
-        text, words, headings, numbers, schema, mutation, places, rows, next,
-    );
-    schema_list(
-        text, words, headings, numbers, schema, subscribe, places, rows, next,
-    )
+    next = schema_list(text, words, headings, hashes, schema, directive, rows, next);
+    next = schema_list(text, words, headings, hashes, schema, query, rows, next);
+    next = schema_list(text, words, headings, hashes, schema, mutation, rows, next);
+    schema_list(text, words, headings, hashes, schema, subscribe, rows, next)
 }
 
 // Pushes the schema: its row and its lists.
@@ -389,14 +352,12 @@ pub fn push_schema(
     text: &[u8],
     words: &[u32],
     headings: &[u32],
-    numbers: &[u32],
+    hashes: &[u32],
     adopt: bool,
-    places: &mut [u32],
     rows: &mut [u32],
     used: usize,
 ) -> usize
-    requires { Numbered text.now words.now numbers.now
-        × (cards_used_of words.now ≤ length places.old)
+    requires { Hashed text.now words.now hashes.now
         × Stored words.now headings.now
         × Fits rows.old (pushed (schema_rows_at text.now words.now adopt headings.now) (filled rows.old used)) }
     ensures { filled rows.new result
@@ -411,5 +372,5 @@ pub fn push_schema(
         implicit,
     };
     let next = component::push_row(kinds::SCHEMA_DEFINITION, card, ABSENT, rows, used);
-    schema_lists(text, words, headings, numbers, schema, places, rows, next)
+    schema_lists(text, words, headings, hashes, schema, rows, next)
 }

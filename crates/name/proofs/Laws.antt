@@ -81,23 +81,9 @@ pub rest_good : (s : List ℕ) (i : ℕ) → i < length s → is_name_byte (get_
 unfolding all
 rest_good s i l h = rw (step s i l, h)
 
-pub rest_pair : (s : List ℕ) (i : ℕ) → i + 1 < length s → is_name_byte (get_or s i 0) ≡ true → is_name_byte (get_or s (i + 1) 0) ≡ true
-    → all is_name_byte (drop i s) ≡ all is_name_byte (drop (i + 2) s)
-rest_pair s i l g h =
-    let e : i + 1 + 1 ≡ i + 2 = omega arith in
-    rest_good s i (omega arith) g ∙ rest_good s (i + 1) l h ∙ ap (λ (k : ℕ). all is_name_byte (drop k s)) e
-
 pub rest_end : (s : List ℕ) (i : ℕ) → length s ≤ i → all is_name_byte (drop i s) ≡ true
 unfolding all
 rest_end s i l = rw (drop_of_length-le s l)
-
-pub rest_last : (s : List ℕ) (i : ℕ) → i < length s → length s ≤ i + 1 → is_name_byte (get_or s i 0) ≡ all is_name_byte (drop i s)
-unfolding all
-rest_last s i l h = go (is_name_byte (get_or s i 0)) refl
-  where
-    go : (b : Bool) → is_name_byte (get_or s i 0) ≡ b → b ≡ all is_name_byte (drop i s)
-    go true e = sym (rest_good s i l e ∙ rest_end s (i + 1) h)
-    go false e = sym (rest_bad s i l e)
 
 -- ---- Two names.
 

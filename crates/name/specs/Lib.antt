@@ -1,3 +1,2 @@
 -- What is handed back of a text.
 pub mod Parts
-pub mod Classes

@@ -2,12 +2,8 @@
 ghost use Rattle.std.specs.Prelude.{◌≡◌};
 ghost use Rattle.definition.specs.Names.{is_name_start, is_name_byte, is_name, compare_names, same_name, bytes_at};
 ghost use Rattle.name.specs.Parts.{PartAt};
-ghost use Rattle.name.specs.Classes.{byte_classes};
 
-use crate::classes::{CONTINUE, START};
 use definition::NameOrder;
-
-pub mod classes;
 
 // A letter or an underscore.
 pub fn is_name_start(b: u8) -> bool
@@ -56,50 +52,6 @@ pub fn is_valid_syntax(name: &[u8]) -> bool
             return false;
         }
         i += 1;
-    }
-    true
-}
-
-// A letter, an underscore or a digit.
-fn continues(classes: &[u8], b: u8) -> bool
-    requires { classes.now ≡ byte_classes }
-    ensures { result ≡ is_name_byte b }
-{
-    classes[b as usize] <= CONTINUE
-}
-
-// A letter or an underscore.
-fn starts(classes: &[u8], b: u8) -> bool
-    requires { classes.now ≡ byte_classes }
-    ensures { result ≡ is_name_start b }
-{
-    classes[b as usize] == START
-}
-
-// The same as `is_valid_syntax`, by the classes of bytes and two bytes a turn.
-pub fn is_valid_by(classes: &[u8], name: &[u8]) -> bool
-    requires { classes.now ≡ byte_classes }
-    ensures { result ≡ is_name name.now }
-{
-    let len = name.len();
-    if len == 0 {
-        return false;
-    }
-    if !starts(classes, name[0]) {
-        return false;
-    }
-    let mut i: usize = 1;
-    while i < len - 1 {
-        if !continues(classes, name[i]) {
-            return false;
-        }
-        if !continues(classes, name[i + 1]) {
-            return false;
-        }
-        i += 2;
-    }
-    if i < len {
-        return continues(classes, name[i]);
     }
     true
 }

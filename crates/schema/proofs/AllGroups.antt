@@ -7,7 +7,7 @@ use Prim.Native.Nat.{ℕ, suc, ◌+◌, ◌*◌, ◌/◌, ◌≤◌, ◌<◌}
 use native.Mathlib.Omega.{arith}
 use borrow.Author.Tests.{eq-eqb, eqb-true, eqb-false, not-true, not-false}
 use lib.Dec.{eqb}
-use lib.ListN.{length, length-map, take, drop, get_or, length-append}
+use lib.ListN.{length, length-map, take, drop, length-append}
 use lib.Seq.{take_at, take-length}
 use Rattle.definition.specs.Lists.{choose, any, filter, firsts, flat_map, written, All}
 use Rattle.definition.specs.Answers.{absent}
@@ -17,17 +17,15 @@ use Rattle.definition.specs.Catalogue.{Row}
 use Rattle.definition.specs.Refusals.{card_capacity, groups_capacity}
 use Rattle.definition.specs.Store.{account_in, sound}
 use Rattle.definition.specs.LentRows.{held, lent_rows, is_row_named, is_type_row, is_type_row_named, is_default_root, card_passes, rows_refusal}
-use Rattle.definition.specs.Lookups.{is_row_of, is_part_named, origin_of, Implementing, implementing, same_interface, all_implementing, same_group}
+use Rattle.definition.specs.Lookups.{is_row_of, is_part_named, origin_of, Implementing, same_interface, all_implementing, same_group}
 use Rattle.definition.specs.Lookups.{is_implementing, type_card, group_of, groups, group_words}
 use Rattle.name.proofs.Laws.{same_sym}
 use Rattle.store_reader.specs.Stored.{stored_parts}
 use Rattle.store_reader.proofs.Laws.{held_stored}
-use Rattle.store_reader.proofs.Lists.{all_get}
-use Rattle.store_reader.proofs.Words.{length_stored}
 use Rattle.schema_rows.specs.Passing.{row_passes}
 use Rattle.schema_rows.specs.Rows.{row_at}
-use Rattle.schema_rows.proofs.Rows.{row_get, row_next, row_end, contradiction, taken_next}
-use Rattle.schema_rows.proofs.Passing.{card_is, card_stored, row_passed}
+use Rattle.schema_rows.proofs.Rows.{row_next, row_end, contradiction, taken_next}
+use Rattle.schema_rows.proofs.Passing.{row_passed}
 use Rattle.schema_rows.proofs.RowsWithCards.{cards_of, cards_without, cards_with, accepted, cards_capacity}
 use Rattle.definition.proofs.All.{all_to}
 use Rattle.definition.proofs.BuiltWords.{words_length, rows_back}
@@ -36,8 +34,6 @@ use Rattle.definition.proofs.Sums.{length_kept}
 use Rattle.schema_rows.proofs.Walk.{any_snoc}
 use Rattle.schema.specs.Gather.{news, gather, as_row, pair_words, pairs_capacity}
 use Rattle.schema.specs.Owners.{named}
-use Rattle.schema.specs.Numbered.{Numbered, PairsStored}
-use Rattle.schema.specs.Chains.{NextsFrom, PairsNumbered, Chained}
 use Rattle.schema.specs.Groups.{implementers_named, pair_group, pair_groups}
 use Rattle.schema.proofs.Gather.{news_nil, news_old, news_new, news_firsts, interfaces_same, gather_type, gather_outside}
 use Rattle.schema.proofs.Gather.{gather_other, gather_again, gather_new, gather_nil, gather_all}
@@ -334,48 +330,6 @@ implementing_few text words rows ok e =
     let d = ap length (gather_all (stored_parts text words) (lent_rows rows)) in
     omega arith
 
--- ---- The interfaces of the pairs have stored cards.
-
-module _ (cs : List NamedCard) (n : ℕ) where
-  gather_stored : (pre mid : List Row) (o : Option Row) (rs : List Row) → All (λ r. is_row_of 21 r ≡ true → r.card < n) rs →
-      All (λ i. i.interface.card < n) (gather cs pre mid o rs)
-  gather_stored pre mid o [] a = rw (gather_nil cs pre mid o) tt
-  gather_stored pre mid o (r ∷ rs) a =
-      go o (is_type_row r) (is_row_of 21 r) (any (is_part_named cs 21 (named cs r)) mid) refl refl refl
-      (λ m p. gather_stored (pre ++ (r ∷ [])) m p rs a.1)
-    where
-      go : (o : Option Row) (x y z : Bool) → is_type_row r ≡ x → is_row_of 21 r ≡ y → any (is_part_named cs 21 (named cs r)) mid ≡ z →
-          ((m : List Row) (p : Option Row) → All (λ i. i.interface.card < n) (gather cs (pre ++ (r ∷ [])) m p rs)) →
-          All (λ i. i.interface.card < n) (gather cs pre mid o (r ∷ rs))
-      go o true y z s t u ih = rw (gather_type cs pre mid r rs o s) (ih [] (choose (any (is_type_row_named cs (named cs r)) pre) none (some r)))
-      go none false y z s t u ih = rw (gather_outside cs pre mid r rs s) (ih [] none)
-      go (some p) false false z s t u ih = rw (gather_other cs pre mid r rs s p t) (ih (mid ++ (r ∷ [])) (some p))
-      go (some p) false true true s t u ih = rw (gather_again cs pre mid r rs s p t u) (ih (mid ++ (r ∷ [])) (some p))
-      go (some p) false true false s t u ih =
-          rw (gather_new cs pre mid r rs s p t u) (unfold implementing in (a.0 t, ih (mid ++ (r ∷ [])) (some p)))
-
-  rows_all : (is : List Implementing) → All (λ i. i.interface.card < n) is → All (λ r. r.card < n) (map as_row is)
-  unfolding as_row
-  rows_all [] a = tt
-  rows_all (i ∷ is) a = (a.0, rows_all is a.1)
-
-implementing_stored : (text words rows : List ℕ) → sound text words ≡ true → rows_refusal (account_in text words).documents rows ≡ 0 →
-    All (λ i. i.interface.card < length (stored_parts text words)) (all_implementing (stored_parts text words) (lent_rows rows))
-implementing_stored text words rows ok e =
-    let cs = stored_parts text words in
-    rw (← gather_all cs (lent_rows rows))
-    (gather_stored cs (length cs) [] [] none (lent_rows rows)
-    (all_to (λ r. row_passes cs (lent_rows rows) r ≡ true) (λ r. is_row_of 21 r ≡ true → r.card < length cs) (λ r p f. stored r p f) (lent_rows rows)
-    (accepted text words rows ok e).each))
-  where
-    stored : (r : Row) → row_passes (stored_parts text words) (lent_rows rows) r ≡ true → is_row_of 21 r ≡ true → r.card < length (stored_parts text words)
-    stored r p f =
-        let c = row_passed (stored_parts text words) (lent_rows rows) r p in
-        let h = card_stored r.what r.card r.origin words (card_is r.what r.card r.origin words text ∙ c)
-        (has_card_lem (stored_parts text words) (lent_rows rows) r p f) in
-        let l = length_stored text words in
-        omega arith
-
 -- ---- The same as words.
 
 unfoldable pub groups_left : List NamedCard → List ℕ → ℕ → List ℕ
@@ -430,31 +384,6 @@ module _ (text words rows : List ℕ) (ok : sound text words ≡ true) (e : rows
 
     pub lent_fits : length lent ≤ pairs_capacity
     lent_fits = let a = pairs_fit in let b = ap length lent_is in omega arith
-
-    pub lent_stored : PairsStored (stored_parts text words) lent
-    lent_stored i h =
-        let cs = stored_parts text words in
-        all_get (λ r. r.card < length cs) (lent_rows lent)
-        (rw rows_are (rows_all cs (length cs) (all_implementing cs (lent_rows rows)) (implementing_stored text words rows ok e))) i (row_at lent i) (row_get lent i h)
-
-    -- Their names are numbered, and they are chained.
-    module _ (numbers : List ℕ) (u : Numbered (stored_parts text words) numbers) where
-      pub lent_numbered : (heads : List ℕ) → card_capacity ≤ length heads → PairsNumbered numbers lent heads
-      lent_numbered heads k = record {
-        stored = λ i h. (let s = lent_stored i h in omega (arith, s, u.size));
-        headed = λ i h. (let b = u.below (get_or lent (3 * i + 1) 0) (lent_stored i h) in omega (arith, b, u.few));
-        few = (let f = lent_fits in omega arith);
-      }
-
-      pub lent_chained : (nexts : List ℕ) → card_capacity ≤ length nexts → NextsFrom numbers lent nexts 0 →
-          Chained (stored_parts text words) numbers lent nexts
-      lent_chained nexts k c = record {
-        numbered = u;
-        stored = lent_stored;
-        chained = c;
-        size = (let f = lent_fits in omega arith);
-        few = (let f = lent_fits in omega arith);
-      }
 
     pub lent_capacity : (list : List ℕ) → groups_capacity ≤ length list → length (pair_groups (stored_parts text words) (lent_rows lent)) ≤ length list
     lent_capacity list h =

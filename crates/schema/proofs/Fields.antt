@@ -16,10 +16,10 @@ use Rattle.definition.specs.Lookups.{Block, blocks, type_named, is_part_named, m
 use Rattle.store_reader.specs.Stored.{stored_parts}
 use Rattle.store_reader.proofs.Laws.{held_stored}
 use Rattle.schema_rows.specs.Rows.{row_at}
-use Rattle.schema_rows.specs.declared.search.Found.{Found as FoundRow}
-use Rattle.schema_rows.specs.declared.search.Found.TheVariants.{Row as RowAt, Nothing}
+use Rattle.schema_rows.specs.declared.search_lem.Found.{Found as FoundRow}
+use Rattle.schema_rows.specs.declared.search_lem.Found.TheVariants.{Row as RowAt, Nothing}
 use Rattle.schema_rows.proofs.Rows.{Hit, hit_inside, hit_row}
-use Rattle.schema_rows.specs.declared.search.Located.{Located}
+use Rattle.schema_rows.specs.declared.search_lem.Located.{Located}
 use Rattle.schema_rows.specs.Search.{located_from}
 use Rattle.schema.specs.Answers.{isInside, explicitField, firstFound}
 use Rattle.schema_rows.proofs.SearchLaws.{block_after, TypeAt, located_none, located_type, located_no_part, located_part}

@@ -1,19 +1,78 @@
--- Groups over the pairs: the turns of the walks, and a group as it is written.
+-- Groups over the pairs: the turns of the walks.
 use mathlib.Core.Path.{◌≡◌, refl, sym, ◌∙◌, ap}
-use mathlib.Core.List.{List, [], ◌∷◌, ◌++◌, append_assoc, append-nil}
-use mathlib.Core.Bool.{Bool, true, false}
-use Prim.Native.Nat.{ℕ, ◌+◌, ◌/◌, ◌≤◌, ◌<◌}
+use mathlib.Core.List.{List, [], ◌∷◌, ◌++◌, map, append_assoc, append-nil}
+use mathlib.Core.Bool.{Bool, true, false, ◌&&◌, not}
+use Prim.Native.Nat.{ℕ, ◌+◌, ◌*◌, ◌/◌, ◌≤◌, ◌<◌, suc}
 use native.Mathlib.Omega.{arith}
-use lib.ListN.{length, take, drop, set, length-append, take-append-drop}
+use borrow.Author.Tests.{eqb-true, eqb-false}
+use lib.Dec.{eqb}
+use lib.ListN.{length, take, drop, get_or, set, length-append, take-append-drop}
 use lib.Seq.{paste, length-take-le, take-length, take-paste, drop-paste, length-paste}
-use Rattle.definition.specs.Lists.{filter, written}
+use Rattle.definition.specs.Lists.{choose, any, filter, written}
+use Rattle.definition.specs.Headings.{NamedCard}
 use Rattle.definition.specs.Catalogue.{Row}
-use Rattle.definition.specs.LentRows.{lent_rows}
-use Rattle.schema_rows.specs.Rows.{row_at}
-use Rattle.schema_rows.proofs.Rows.{row_next, row_end}
+use Rattle.definition.specs.LentRows.{lent_rows, is_row_named}
+use Rattle.definition.specs.Lookups.{is_row_of, is_part_named, origin_of, same_interface}
+use Rattle.store_reader.specs.Stored.{stored_parts, card_name}
+use Rattle.store_reader.proofs.Words.{name_stored}
+use Rattle.schema_rows.specs.Rows.{row_at, found_from}
+use Rattle.schema_rows.specs.declared.search_lem.Found.TheVariants.{Row as RowAt, Nothing}
+use Rattle.schema_rows.proofs.Rows.{row_next, row_end, never_row, contradiction}
 use Rattle.schema_rows.proofs.Listing.{Listing, listing_length, listing_same, drop_more}
+use Rattle.schema.specs.Owners.{named}
+use Rattle.schema.specs.Groups.{implementers_named, pair_group}
 use Rattle.schema.proofs.ThreeWords.{three_capacity, three_pushed}
-use Rattle.definition.proofs.Lists.{filter_yes, filter_no, filter_nil}
+use Rattle.definition.proofs.Lists.{filter_yes, filter_no, filter_nil, same_name_refl}
+use Rattle.schema.proofs.SearchStops.{rows_split, taken_length}
+
+-- ---- Where a search stops: at a row that passes, if none before it does, else before it.
+
+module _ (p : Row → Bool) where
+  found_first : (k : ℕ) (pre : List Row) (r : Row) (post : List Row) → any p pre ≡ false → p r ≡ true →
+      found_from p k (pre ++ (r ∷ post)) ≡ RowAt (k + length pre)
+  unfolding found_from any
+  found_first k [] r post e f = rw f (let z : k ≡ k + 0 = omega arith in ap RowAt z)
+  found_first k (x ∷ pre) r post e f = go (p x) e (found_first (k + 1) pre r post)
+    where
+      go : (b : Bool) → choose b true (any p pre) ≡ false →
+          (any p pre ≡ false → p r ≡ true → found_from p (k + 1) (pre ++ (r ∷ post)) ≡ RowAt (k + 1 + length pre)) →
+          choose b (RowAt k) (found_from p (k + 1) (pre ++ (r ∷ post))) ≡ RowAt (k + suc (length pre))
+      go true e ih = contradiction false refl (sym e)
+      go false e ih = ih e f ∙ (let z : k + 1 + length pre ≡ k + suc (length pre) = omega arith in ap RowAt z)
+
+  found_before : (k : ℕ) (pre post : List Row) (t : ℕ) → any p pre ≡ true → found_from p k (pre ++ post) ≡ RowAt t → t < k + length pre
+  unfolding found_from any
+  found_before k [] post t e f = contradiction false refl e
+  found_before k (x ∷ pre) post t e f = go (p x) e f (found_before (k + 1) pre post t)
+    where
+      go : (b : Bool) → choose b true (any p pre) ≡ true → choose b (RowAt k) (found_from p (k + 1) (pre ++ post)) ≡ RowAt t →
+          (any p pre ≡ true → found_from p (k + 1) (pre ++ post) ≡ RowAt t → t < k + 1 + length pre) → t < k + suc (length pre)
+      go true e f ih = let q : k ≡ t = cc in omega arith
+      go false e f ih = let l = ih e f in omega arith
+
+  -- Which of the two, by the number that was found.
+  module _ (pre : List Row) (r : Row) (post : List Row) (f : p r ≡ true) where
+    pub first_none : found_from p 0 (pre ++ (r ∷ post)) ≡ Nothing → any p pre ≡ true
+    first_none e = go (any p pre) refl
+      where
+        go : (b : Bool) → any p pre ≡ b → any p pre ≡ true
+        go true s = s
+        go false s = never_row (sym (found_first 0 pre r post s f) ∙ e)
+
+    pub first_here : (t : ℕ) → found_from p 0 (pre ++ (r ∷ post)) ≡ RowAt t → t ≡ length pre → any p pre ≡ false
+    first_here t e q = go (any p pre) refl
+      where
+        go : (b : Bool) → any p pre ≡ b → any p pre ≡ false
+        go true s = absurd (let l = found_before 0 pre (r ∷ post) t s e in omega arith)
+        go false s = s
+
+    pub first_other : (t : ℕ) → found_from p 0 (pre ++ (r ∷ post)) ≡ RowAt t → (t ≡ length pre → ⊥) → any p pre ≡ true
+    first_other t e n = go (any p pre) refl
+      where
+        go : (b : Bool) → any p pre ≡ b → any p pre ≡ true
+        go true s = s
+        go false s =
+            absurd (n (let q : RowAt t ≡ RowAt (0 + length pre) = sym e ∙ found_first 0 pre r post s f in let z : t ≡ 0 + length pre = cc in omega arith))
 
 -- ---- A list that is written from a place on.
 
@@ -58,7 +117,20 @@ module _ (list₀ list : List ℕ) (n : ℕ) (l rest whole : List ℕ) (k : List
         within = (let m = length-paste list n l (length l) h (omega arith) in omega arith);
       })
 
--- ---- The pairs that pass, from one on.
+-- ---- How many pass.
+
+filter_both : (cs : List NamedCard) (k : ℕ) (n : List ℕ) (xs : List Row) → filter (is_row_of k) (filter (is_row_named cs n) xs) ≡ filter (is_part_named cs k n) xs
+unfolding filter is_part_named
+filter_both cs k n [] = refl
+filter_both cs k n (x ∷ xs) = go (is_row_of k x) (is_row_named cs n x) refl (filter_both cs k n xs)
+  where
+    go : (a b : Bool) → is_row_of k x ≡ a → filter (is_row_of k) (filter (is_row_named cs n) xs) ≡ filter (is_part_named cs k n) xs →
+        filter (is_row_of k) (choose b (x ∷ filter (is_row_named cs n) xs) (filter (is_row_named cs n) xs))
+        ≡ choose (a && b) (x ∷ filter (is_part_named cs k n) xs) (filter (is_part_named cs k n) xs)
+    go true true s ih = rw s (ap (λ (l : List Row). x ∷ l) ih)
+    go true false s ih = ih
+    go false true s ih = rw s ih
+    go false false s ih = ih
 
 module _ (p : Row → Bool) (pairs : List ℕ) (i : ℕ) where
   pub filter_end : length pairs / 3 ≤ i → filter p (drop i (lent_rows pairs)) ≡ []
@@ -71,7 +143,70 @@ module _ (p : Row → Bool) (pairs : List ℕ) (i : ℕ) where
   pub filter_over : i < length pairs / 3 → p (row_at pairs i) ≡ false → filter p (drop i (lent_rows pairs)) ≡ filter p (drop (i + 1) (lent_rows pairs))
   filter_over h e = ap (filter p) (row_next pairs i h) ∙ filter_no p (row_at pairs i) (drop (i + 1) (lent_rows pairs)) e
 
+pub counted : (cs : List NamedCard) (k : ℕ) (n : List ℕ) (pairs : List ℕ) (m i : ℕ) → length pairs / 3 ≤ i →
+    length (filter (is_part_named cs k n) (lent_rows pairs)) ≡ m + length (filter (is_part_named cs k n) (drop i (lent_rows pairs))) →
+    m ≡ length (filter (is_row_of k) (filter (is_row_named cs n) (lent_rows pairs)))
+counted cs k n pairs m i h e =
+    let a = ap length (filter_end (is_part_named cs k n) pairs i h) in
+    let b : m ≡ length (filter (is_part_named cs k n) (lent_rows pairs)) = omega arith in
+    b ∙ ap length (sym (filter_both cs k n (lent_rows pairs)))
+
+-- ---- The types that list an interface.
+
+module _ (cs : List NamedCard) (n : List ℕ) (pairs : List ℕ) (i : ℕ) where
+  pub implementers_end : length pairs / 3 ≤ i → implementers_named cs (drop i (lent_rows pairs)) n ≡ []
+  unfolding implementers_named
+  implementers_end h = ap (map origin_of) (filter_end (is_row_named cs n) pairs i h)
+
+  pub implementers_here : i < length pairs / 3 → is_row_named cs n (row_at pairs i) ≡ true →
+      implementers_named cs (drop i (lent_rows pairs)) n ≡ get_or pairs (3 * i + 2) 0 ∷ implementers_named cs (drop (i + 1) (lent_rows pairs)) n
+  unfolding implementers_named origin_of
+  implementers_here h e = ap (map origin_of) (filter_here (is_row_named cs n) pairs i h e)
+
+  pub implementers_over : i < length pairs / 3 → is_row_named cs n (row_at pairs i) ≡ false →
+      implementers_named cs (drop i (lent_rows pairs)) n ≡ implementers_named cs (drop (i + 1) (lent_rows pairs)) n
+  unfolding implementers_named
+  implementers_over h e = ap (map origin_of) (filter_over (is_row_named cs n) pairs i h e)
+
 -- ---- A group.
+
+module _ (text words pairs : List ℕ) (i : ℕ) (name : List ℕ) (n : name ≡ card_name text words (get_or pairs (3 * i + 1) 0)) where
+  is_named_lem : name ≡ named (stored_parts text words) (row_at pairs i)
+  is_named_lem = n ∙ sym (name_stored text words (get_or pairs (3 * i + 1) 0))
+
+  pub group_words_lem : (objects interfaces : ℕ) →
+      objects ≡ length (filter (is_row_of 6) (filter (is_row_named (stored_parts text words) name) (lent_rows pairs))) →
+      interfaces ≡ length (filter (is_row_of 7) (filter (is_row_named (stored_parts text words) name) (lent_rows pairs))) →
+      pair_group (stored_parts text words) (lent_rows pairs) (row_at pairs i) ≡
+      get_or pairs (3 * i + 1) 0 ∷ (objects ∷ (interfaces ∷ implementers_named (stored_parts text words) (lent_rows pairs) name))
+  unfolding pair_group
+  group_words_lem objects interfaces a b = rw (a, b, is_named_lem)
+
+  -- Whether its interface is the first of its name.
+  module _ (h : i < length pairs / 3) where
+    passes : is_row_named (stored_parts text words) (named (stored_parts text words) (row_at pairs i)) (row_at pairs i) ≡ true
+    unfolding is_row_named
+    passes = same_name_refl (named (stored_parts text words) (row_at pairs i))
+
+    search_lem : found_from (is_row_named (stored_parts text words) name) 0 (lent_rows pairs) ≡
+        found_from (is_row_named (stored_parts text words) (named (stored_parts text words) (row_at pairs i))) 0
+        (take i (lent_rows pairs) ++ (row_at pairs i ∷ drop (i + 1) (lent_rows pairs)))
+    search_lem = λ j. found_from (is_row_named (stored_parts text words) (is_named_lem j)) 0 (rows_split pairs i h j)
+
+    pub pair_none : found_from (is_row_named (stored_parts text words) name) 0 (lent_rows pairs) ≡ Nothing →
+        false ≡ not (any (same_interface (stored_parts text words) (row_at pairs i)) (take i (lent_rows pairs)))
+    unfolding same_interface
+    pair_none f = sym (ap not (first_none _ _ _ _ passes (sym search_lem ∙ f)))
+
+    pub pair_some : (t : ℕ) → found_from (is_row_named (stored_parts text words) name) 0 (lent_rows pairs) ≡ RowAt t →
+        eqb t i ≡ not (any (same_interface (stored_parts text words) (row_at pairs i)) (take i (lent_rows pairs)))
+    unfolding same_interface
+    pair_some t f = go (eqb t i) refl
+      where
+        go : (b : Bool) → eqb t i ≡ b →
+            b ≡ not (any (is_row_named (stored_parts text words) (named (stored_parts text words) (row_at pairs i))) (take i (lent_rows pairs)))
+        go true s = sym (ap not (first_here _ _ _ _ passes t (sym search_lem ∙ f) (eqb-true t i s ∙ sym (taken_length pairs i h))))
+        go false s = sym (ap not (first_other _ _ _ _ passes t (sym search_lem ∙ f) (λ z. eqb-false t i s (z ∙ taken_length pairs i h))))
 
 -- The group as it is written: three words, then the types.
 module _ (list₀ : List ℕ) (start : ℕ) (a b c : ℕ) (l : List ℕ) (group : List ℕ) (g : group ≡ a ∷ (b ∷ (c ∷ l))) (h : start + length group ≤ length list₀) where

@@ -5,17 +5,14 @@ pub mod MetaFields
 -- type_field and is_subtype.
 pub mod Fields
 pub mod Subtypes
--- iter_origins and extensions: the turns of their walks, the marks, and that the lists fit.
+-- iter_origins and extensions: the turns of their walks, and that the lists fit.
 pub mod OriginsLaws
-pub mod OriginMarks
 pub mod OriginsFit
--- implementers_map. CardNumbers: names numbered. Gather: the walk over the rows. Pairs: its turns. Stamps: which interfaces count.
--- ThreeWords: three words at once. Chains: the pairs of one interface. Groups: the groups over the pairs. AllGroups: all of them.
+-- implementers_map. SearchStops: which interfaces count. Gather: the walk over the rows. Pairs: its turns. ThreeWords: three words at once.
+-- Groups: the groups over the pairs. AllGroups: all of them.
+pub mod SearchStops
 pub mod Gather
 pub mod Pairs
-pub mod Stamps
-pub mod CardNumbers
 pub mod ThreeWords
 pub mod Groups
-pub mod Chains
 pub mod AllGroups

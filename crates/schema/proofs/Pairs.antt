@@ -17,14 +17,15 @@ use Rattle.definition.specs.LentRows.{lent_rows, is_type_row, is_type_row_named}
 use Rattle.definition.specs.Lookups.{is_row_of, is_part_named, Implementing, implementing, all_implementing}
 use Rattle.definition.specs.Outcomes.{words_of_row}
 use Rattle.schema_rows.specs.Rows.{row_at}
-use Rattle.schema_rows.specs.declared.search.Found.{Found}
-use Rattle.schema_rows.specs.declared.search.Found.TheVariants.{Row as RowAt, Nothing}
+use Rattle.schema_rows.specs.declared.search_lem.Found.{Found}
+use Rattle.schema_rows.specs.declared.search_lem.Found.TheVariants.{Row as RowAt, Nothing}
 use Rattle.schema_rows.proofs.Rows.{length_rows, row_next, row_end, taken_next, contradiction}
 use Rattle.schema.specs.Owners.{named, first_type, owner_of, LastType, is_listed}
 use Rattle.definition.proofs.Lists.{any_nil}
 use Rattle.schema_rows.proofs.Walk.{any_snoc}
 use Rattle.schema.specs.Gather.{gather, owner_row, under_owner, as_row, pair_words, pairs_left}
 use Rattle.schema.proofs.Gather.{gather_type, gather_outside, gather_other, gather_again, gather_new, gather_nil, gather_all}
+use Rattle.schema.proofs.SearchStops.{taken_length}
 
 -- ---- The start: no type row was seen.
 
@@ -32,17 +33,16 @@ pub last_start : (rows : List ℕ) → LastType rows 0 0
 unfolding any
 last_start rows = record { before = omega arith; outside = λ e. refl; between = refl }
 
-pub owner_start : (cs : List NamedCard) (rows : List ℕ) → owner_of cs rows 0 0 ≡ Nothing
-unfolding owner_of
-owner_start cs rows = go (is_type (get_or rows (3 * 0) 0))
-  where
-    go : (b : Bool) → choose (b && false) (first_type cs (lent_rows rows) (row_at rows 0) 0) Nothing ≡ Nothing
-    go true = refl
-    go false = refl
-
 pub pairs_start : (cs : List NamedCard) (rows : List ℕ) → pair_words (all_implementing cs (lent_rows rows)) ≡ pairs_left cs rows (owner_of cs rows 0 0) 0
 unfolding pairs_left
-pairs_start cs rows = ap pair_words (sym (gather_all cs (lent_rows rows))) ∙ ap (λ (owner : Found). pairs_left cs rows owner 0) (sym (owner_start cs rows))
+pairs_start cs rows = ap pair_words (sym (gather_all cs (lent_rows rows))) ∙ ap (λ (owner : Found). pairs_left cs rows owner 0) (sym owner_start)
+  where
+    owner_start : owner_of cs rows 0 0 ≡ Nothing
+    owner_start = unfold owner_of in go (is_type (get_or rows (3 * 0) 0))
+      where
+        go : (b : Bool) → choose (b && false) (first_type cs (lent_rows rows) (row_at rows 0) 0) Nothing ≡ Nothing
+        go true = refl
+        go false = refl
 
 pub pairs_end : (cs : List NamedCard) (rows : List ℕ) (owner : Found) (i : ℕ) → length rows / 3 ≤ i → pairs_left cs rows owner i ≡ []
 unfolding pairs_left pair_words flat_map
@@ -54,15 +54,12 @@ pairs_end cs rows owner i h =
 -- ---- The last type row, and the rows under it.
 
 module _ (rows : List ℕ) (i : ℕ) (h : i < length rows / 3) where
-  taken_length : length (take i (lent_rows rows)) ≡ i
-  taken_length = length-take-le i (lent_rows rows) (let l = length_rows rows in omega arith)
-
-  pub under_next : (t : ℕ) → t < i → drop (t + 1) (take (i + 1) (lent_rows rows)) ≡ drop (t + 1) (take i (lent_rows rows)) ++ (row_at rows i ∷ [])
+  under_next : (t : ℕ) → t < i → drop (t + 1) (take (i + 1) (lent_rows rows)) ≡ drop (t + 1) (take i (lent_rows rows)) ++ (row_at rows i ∷ [])
   under_next t l =
       ap (drop (t + 1)) (taken_next rows i h)
-      ∙ drop-append-le (t + 1) (take i (lent_rows rows)) (row_at rows i ∷ []) (let k = taken_length in omega arith)
+      ∙ drop-append-le (t + 1) (take i (lent_rows rows)) (row_at rows i ∷ []) (let k = taken_length rows i h in omega arith)
 
-  pub under_none : drop (i + 1) (take (i + 1) (lent_rows rows)) ≡ []
+  under_none : drop (i + 1) (take (i + 1) (lent_rows rows)) ≡ []
   under_none =
       drop_of_length-le (take (i + 1) (lent_rows rows)) {i = i + 1}
       (let a = length-take-le (i + 1) (lent_rows rows) (let l = length_rows rows in omega arith) in omega arith)
@@ -115,7 +112,7 @@ module _ (cs : List NamedCard) (rows : List ℕ) (i : ℕ) (h : i < length rows 
     unfolding is_type_row
     is_type_lem = e
 
-    pub owner_first : owner_of cs rows i (i + 1) ≡ first_type cs (lent_rows rows) (row_at rows i) i
+    owner_first : owner_of cs rows i (i + 1) ≡ first_type cs (lent_rows rows) (row_at rows i) i
     unfolding owner_of
     owner_first = rw (e, lt-ltb i (i + 1) (omega arith))
 
@@ -202,7 +199,7 @@ module _ (cs : List NamedCard) (rows : List ℕ) (i : ℕ) (h : i < length rows 
     is_21 f = eq-eqb (get_or rows (3 * i) 0) 21 f
 
     module _ (t : ℕ) (o : LastType rows t i) where
-      pub owner_stays : owner_of cs rows t i ≡ owner_of cs rows t (i + 1)
+      owner_stays : owner_of cs rows t i ≡ owner_of cs rows t (i + 1)
       unfolding owner_of
       owner_stays = go (ltb t i) refl
         where
@@ -212,7 +209,7 @@ module _ (cs : List NamedCard) (rows : List ℕ) (i : ℕ) (h : i < length rows 
           go true u = rw (u, lt-ltb t (i + 1) (let a = ltb-true t i u in omega arith))
           go false u = let q : is_type (get_or rows (3 * t) 0) ≡ false = ap (λ (k : ℕ). is_type (get_or rows (3 * k) 0)) (same_row rows i h e t o u) ∙ e in rw q
 
-      pub owner_either : (P : Found → Type 0) → P Nothing → (t < i → P (RowAt t)) → P (owner_of cs rows t i)
+      owner_either : (P : Found → Type 0) → P Nothing → (t < i → P (RowAt t)) → P (owner_of cs rows t i)
       unfolding owner_of first_type
       owner_either P outside under =
           go (is_type (get_or rows (3 * t) 0)) (ltb t i) (any (is_type_row_named cs (named cs (row_at rows t))) (take t (lent_rows rows))) refl

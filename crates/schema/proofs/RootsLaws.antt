@@ -26,7 +26,7 @@ use Rattle.store_reader.proofs.Lists.{bytes_none}
 use Rattle.store_reader.proofs.Laws.{held_stored, span_bytes}
 use Rattle.store_reader.proofs.Words.{name_stored}
 use Rattle.schema_rows.specs.Rows.{row_at, found_from}
-use Rattle.schema_rows.specs.declared.search.Found.TheVariants.{Row as RowAt, Nothing}
+use Rattle.schema_rows.specs.declared.search_lem.Found.TheVariants.{Row as RowAt, Nothing}
 use Rattle.schema_rows.proofs.Rows.{found_none, found_some, hit_inside, hit_row}
 
 -- ---- Roots.

@@ -17,8 +17,8 @@ use Rattle.definition.specs.Lookups.{Block, type_named, is_row_of, is_part_named
 use Rattle.store_reader.specs.Stored.{stored_parts}
 use Rattle.store_reader.proofs.Laws.{held_stored}
 use Rattle.schema_rows.specs.Rows.{row_at}
-use Rattle.schema_rows.specs.declared.search.Found.TheVariants.{Row as RowAt, Nothing}
-use Rattle.schema_rows.specs.declared.search.Located.{Located}
+use Rattle.schema_rows.specs.declared.search_lem.Found.TheVariants.{Row as RowAt, Nothing}
+use Rattle.schema_rows.specs.declared.search_lem.Located.{Located}
 use Rattle.schema_rows.specs.Search.{located_from, is_row_found}
 use Rattle.schema_rows.proofs.SearchLaws.{block_after, TypeAt, located_none, located_type, listed}
 

@@ -3,8 +3,8 @@ use Rattle.std.specs.Prelude.{List, ℕ, ◌+◌, ◌*◌, ◌/◌, ◌<◌, len
 use Rattle.definition.specs.declared.FieldFound.TheVariants.{Explicit}
 use Rattle.definition.specs.declared.FieldLookup.{FieldLookup}
 use Rattle.definition.specs.declared.FieldLookup.TheVariants.{Found as FoundField, NoSuchType, NoSuchField, Refused}
-use Rattle.schema_rows.specs.declared.search.Found.{Found}
-use Rattle.schema_rows.specs.declared.search.Found.TheVariants.{Row as RowAt, Nothing}
+use Rattle.schema_rows.specs.declared.search_lem.Found.{Found}
+use Rattle.schema_rows.specs.declared.search_lem.Found.TheVariants.{Row as RowAt, Nothing}
 
 -- A row that was found is one of the rows.
 abbrev pub isInside : List ℕ → Found → Type 0

@@ -6,7 +6,8 @@ use Rattle.definition.specs.Catalogue.{Row}
 use Rattle.definition.specs.LentRows.{lent_rows, is_row_named}
 use Rattle.definition.specs.Lookups.{is_row_of, origin_of, same_interface}
 use Rattle.store_reader.specs.Stored.{stored_parts}
-use Rattle.schema_rows.specs.Rows.{row_at}
+use Rattle.schema_rows.specs.Rows.{row_at, found_from}
+use Rattle.schema_rows.specs.declared.search_lem.Found.{Found}
 use Rattle.schema.specs.Gather.{news}
 use Rattle.schema.specs.Owners.{named}
 
@@ -24,6 +25,17 @@ unfoldable pub pair_groups : List NamedCard → List Row → List ℕ
 pair_groups cs ps = flat_map (pair_group cs ps) (news (same_interface cs) [] ps)
 
 -- ---- The same by the words of a store and of pairs.
+
+-- The first pair whose interface has the name.
+abbrev pub pair_found : List ℕ → List ℕ → List ℕ → List ℕ → Found
+pair_found text words pairs name = found_from (is_row_named (stored_parts text words) name) 0 (lent_rows pairs)
+
+-- How many types of a kind list the interface of a name.
+abbrev pub kind_count : List ℕ → List ℕ → List ℕ → List ℕ → ℕ → ℕ
+kind_count text words pairs name kind = length (filter (is_row_of kind) (filter (is_row_named (stored_parts text words) name) (lent_rows pairs)))
+
+abbrev pub implementers_in : List ℕ → List ℕ → List ℕ → List ℕ → List ℕ
+implementers_in text words pairs name = implementers_named (stored_parts text words) (lent_rows pairs) name
 
 abbrev pub group_at : List ℕ → List ℕ → List ℕ → ℕ → List ℕ
 group_at text words pairs i = pair_group (stored_parts text words) (lent_rows pairs) (row_at pairs i)

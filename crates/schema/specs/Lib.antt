@@ -7,6 +7,3 @@ pub mod Owners
 -- Gather: which interfaces count, as a walk over the rows finds them. Groups: groups over them.
 pub mod Gather
 pub mod Groups
--- Numbered: names by their numbers. Chains: the pairs of one interface.
-pub mod Numbered
-pub mod Chains

@@ -1,36 +1,27 @@
-// Which interfaces count for implementers_map: the first of its name under a type that is the first of its own. Names are told by their numbers, so
-// a word for each number says what was seen; no word is cleared, since each type that counts has a stamp of its own.
-ghost use Rattle.std.specs.Prelude.{◌≡◌, not, ◌+◌, ◌<◌, ◌≤◌, eqb, length, get_or, set};
-ghost use Rattle.definition.specs.Lists.{choose};
-ghost use Rattle.definition.specs.Refusals.{card_capacity};
+// Which interfaces count for implementers_map: the first of its name under a type that is the first of its own.
+ghost use Rattle.std.specs.Prelude.{◌≡◌, ◌/◌, ◌<◌, length};
+ghost use Rattle.schema_rows.specs.Rows.{row_at};
+ghost use Rattle.schema.specs.Owners.{LastType, is_listed_under};
 
-// Enters a type row's name among those of the types seen. Handed back is the type's stamp if it is the first of its name, else 0.
-pub fn enter_type(numbers: &[u32], types: &mut [u8], card: u32) -> u32
-    requires { (card < length numbers.now)
-        × (get_or numbers.now card 0 < length types.old)
-        × (length types.old ≤ card_capacity) }
-    ensures { (result
-        ≡ choose (eqb (get_or types.old (get_or numbers.now card 0) 0) 0) (get_or numbers.now card 0 + 1) 0)
-        × (types.new ≡ set types.old (get_or numbers.now card 0) 1) }
-{
-    let number = numbers[card as usize];
-    let seen = types[number as usize];
-    types[number as usize] = 1;
-    if seen == 0 {
-        return number + 1;
-    }
-    0
-}
+use ast::kinds;
+use definition::layout::ROW_WORDS;
+use schema_rows::search_lem::Found;
 
-// Enters an interface's name among those that the type of a stamp lists. Handed back is whether it was not among them.
-pub fn enter_interface(numbers: &[u32], interfaces: &mut [u32], card: u32, stamp: u32) -> bool
-    requires { (card < length numbers.now)
-        × (get_or numbers.now card 0 < length interfaces.old) }
-    ensures { (result ≡ not (eqb (get_or interfaces.old (get_or numbers.now card 0) 0) stamp))
-        × (interfaces.new ≡ set interfaces.old (get_or numbers.now card 0) stamp) }
+// Whether an interface counts: the first of its name under the type row t, which is the first of its own name. One search_lem tells both: of an earlier
+// type of the name, or where t is no type row, it finds another part or none.
+pub fn is_first_interface(text: &[u8], words: &[u32], rows: &[u32], t: usize, i: usize) -> bool
+    requires { (i < length rows.now / 3)
+        × ((row_at rows.now i).what ≡ 21)
+        × LastType rows.now t i }
+    ensures { result ≡ is_listed_under text.now words.now rows.now t i }
 {
-    let number = numbers[card as usize];
-    let last = interfaces[number as usize];
-    interfaces[number as usize] = stamp;
-    last != stamp
+    let owner = store_reader::card_name(text, words, rows[ROW_WORDS * t + 1] as usize);
+    let name = store_reader::card_name(text, words, rows[ROW_WORDS * i + 1] as usize);
+    let kind = kinds::IMPLEMENTS_INTERFACE;
+    let located = schema_rows::search_lem::find_part(text, words, rows, owner, kind, name);
+    let part = located.part;
+    let Found::Row(listed) = part else {
+        return false;
+    };
+    listed == i
 }

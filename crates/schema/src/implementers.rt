@@ -1,19 +1,17 @@
 // implementers_map of schema/mod.rs: which objects and interfaces list an interface.
-ghost use Rattle.std.specs.Prelude.{◌≡◌, true, false, map, ◌+◌, ◌/◌, ◌<◌, ◌≤◌, length, set};
-ghost use Rattle.definition.specs.Lists.{written, filter, flat_map};
-ghost use Rattle.definition.specs.Refusals.{card_capacity, groups_capacity};
-ghost use Rattle.definition.specs.Store.{account_in, too_short, sound};
+ghost use Rattle.std.specs.Prelude.{◌≡◌, true, ◌+◌, ◌/◌, ◌<◌, ◌≤◌, length, set};
+ghost use Rattle.definition.specs.Lists.{written, flat_map};
+ghost use Rattle.definition.specs.Refusals.{groups_capacity};
+ghost use Rattle.definition.specs.Store.{account_in, sound};
 ghost use Rattle.definition.specs.LentRows.{rows_refusal};
-ghost use Rattle.definition.specs.Lookups.{is_row_of, origin_of, group_words};
+ghost use Rattle.definition.specs.Lookups.{group_words};
 ghost use Rattle.schema.specs.InStore.{groups_in, Fills, Writes};
-ghost use Rattle.schema.specs.Gather.{pairs_in};
-ghost use Rattle.store_reader.specs.Stored.{stored_parts};
-ghost use Rattle.schema.specs.Groups.{group_at, is_opener, openers_over, groups_over};
-ghost use Rattle.schema.specs.Numbered.{Numbered, RowsStored, PairsStored};
-ghost use Rattle.schema.specs.Chains.{number_at, FirstFrom, HeadsFrom, NextsFrom, PairsNumbered, Chained, same_from};
+ghost use Rattle.schema.specs.Gather.{pairs_capacity, pairs_in};
+ghost use Rattle.schema.specs.Groups.{pair_found, kind_count, implementers_in, group_at, is_opener, openers_over, groups_over};
 
 use ast::kinds;
-use definition::layout::{CARD_CAPACITY, CARD_WORDS, CARDS_AT, ROW_WORDS};
+use definition::layout::{CARD_CAPACITY, ROW_WORDS};
+use schema_rows::search_lem::Found;
 
 // The words that pairs may have: at most one interface a card, and a pair is as wide as a row.
 const PAIRS_CAPACITY: usize = ROW_WORDS * CARD_CAPACITY;
@@ -30,49 +28,21 @@ fn put_words(list: &mut [u32], n: usize, a: u32, b: u32, c: u32) -> usize
     n + 3
 }
 
-// The numbers of the names of all stored cards. `hashes` and `table` are lent to work in.
-fn number_cards(
-    text: &[u8],
-    words: &[u32],
-    hashes: &mut [u32],
-    table: &mut [u32],
-    numbers: &mut [u32],
-)
-    requires { (too_short text.now words.now ≡ false)
-        × (sound text.now words.now ≡ true)
-        × (card_capacity ≤ length hashes.old)
-        × (card_capacity ≤ length table.old)
-        × (length table.old ≤ 65536)
-        × (card_capacity ≤ length numbers.old) }
-    ensures { Numbered (stored_parts text.now words.now) numbers.new }
-{
-    let used = store_reader::cards_used(words);
-    let cards = &words[CARDS_AT..CARDS_AT + CARD_WORDS * used];
-    numbering::number_names(text, cards, hashes, table, numbers);
-}
-
 // The interfaces that count, each with the type that lists it, in row order: three words each, the type's kind, the interface's card, the type's card.
-fn collect(text: &[u8], words: &[u32], numbers: &[u32], rows: &[u32], pairs: &mut [u32]) -> usize
-    requires { Numbered (stored_parts text.now words.now) numbers.now
-        × RowsStored (stored_parts text.now words.now) rows.now
-        × (length (pairs_in text.now words.now rows.now) ≤ length pairs.old) }
+fn collect(text: &[u8], words: &[u32], rows: &[u32], pairs: &mut [u32]) -> usize
+    requires { length (pairs_in text.now words.now rows.now) ≤ length pairs.old }
     ensures { Fills pairs.old (pairs_in text.now words.now rows.now)
         pairs.new result }
 {
     let count = rows.len() / ROW_WORDS;
-    let mut types = [0u8; CARD_CAPACITY];
-    let mut interfaces = [0u32; CARD_CAPACITY];
-    // The last type row, and its stamp; the stamp is 0 where no interface counts: before the first type row, and under one that is not the first of its name.
+    // The last type row; before the first one any row that is none, so that no interface counts.
     let mut owner = 0;
-    let mut stamp: u32 = 0;
     let mut n = 0;
     let mut i = 0;
     while i < count {
         let what = rows[ROW_WORDS * i];
-        let card = rows[ROW_WORDS * i + 1];
         if kinds::is_type(what) {
             owner = i;
-            stamp = crate::first_interface::enter_type(numbers, &mut types, card);
             i += 1;
             continue;
         }
@@ -80,11 +50,7 @@ fn collect(text: &[u8], words: &[u32], numbers: &[u32], rows: &[u32], pairs: &mu
             i += 1;
             continue;
         }
-        if stamp == 0 {
-            i += 1;
-            continue;
-        }
-        if !crate::first_interface::enter_interface(numbers, &mut interfaces, card, stamp) {
+        if !crate::first_interface::is_first_interface(text, words, rows, owner, i) {
             i += 1;
             continue;
         }
@@ -92,7 +58,7 @@ fn collect(text: &[u8], words: &[u32], numbers: &[u32], rows: &[u32], pairs: &mu
             pairs,
             n,
             rows[ROW_WORDS * owner],
-            card,
+            rows[ROW_WORDS * i + 1],
             rows[ROW_WORDS * owner + 1],
         );
         i += 1;
@@ -100,117 +66,84 @@ fn collect(text: &[u8], words: &[u32], numbers: &[u32], rows: &[u32], pairs: &mu
     n
 }
 
-// The next pair of the interface of the pair i, or how many pairs there are. Those after i are chained.
-fn next_pair(numbers: &[u32], pairs: &[u32], heads: &[u32], i: usize) -> usize
-    requires { PairsNumbered numbers.now pairs.now heads.now
-        × HeadsFrom numbers.now pairs.now heads.now (i + 1)
-        × (i < length pairs.now / 3) }
-    ensures { FirstFrom numbers.now pairs.now
-        (number_at numbers.now pairs.now i) (i + 1) result }
+// The first pair whose interface has the name.
+fn find_interface(text: &[u8], words: &[u32], pairs: &[u32], name: &[u8]) -> Found
+    ensures { result ≡ pair_found text.now words.now pairs.now name.now }
 {
     let count = pairs.len() / ROW_WORDS;
-    let number = numbers[pairs[ROW_WORDS * i + 1] as usize];
-    let head = heads[number as usize] as usize;
-    if head <= i {
-        return count;
+    let mut i = 0;
+    while i < count {
+        if schema_rows::search_lem::is_named(text, words, pairs[ROW_WORDS * i + 1], name) {
+            return Found::Row(i);
+        }
+        i += 1;
     }
-    if count <= head {
-        return count;
-    }
-    if numbers[pairs[ROW_WORDS * head + 1] as usize] != number {
-        return count;
-    }
-    head
-}
-
-// All chains, from the last pair to the first.
-fn chain(numbers: &[u32], pairs: &[u32], heads: &mut [u32], nexts: &mut [u32])
-    requires { PairsNumbered numbers.now pairs.now heads.old
-        × (length pairs.now / 3 ≤ length nexts.old) }
-    ensures { HeadsFrom numbers.now pairs.now heads.new 0
-        × NextsFrom numbers.now pairs.now nexts.new 0 }
-{
-    let mut i = pairs.len() / ROW_WORDS;
-    while i > 0 {
-        i -= 1;
-        nexts[i] = next_pair(numbers, pairs, heads, i) as u32;
-        heads[numbers[pairs[ROW_WORDS * i + 1] as usize] as usize] = i as u32;
-    }
+    Found::Nothing
 }
 
 // Whether a pair's interface is the first of its name.
-fn is_first_pair(
-    text: &[u8],
-    words: &[u32],
-    numbers: &[u32],
-    pairs: &[u32],
-    heads: &[u32],
-    i: usize,
-) -> bool
-    requires { Numbered (stored_parts text.now words.now) numbers.now
-        × PairsStored (stored_parts text.now words.now) pairs.now
-        × PairsNumbered numbers.now pairs.now heads.now
-        × HeadsFrom numbers.now pairs.now heads.now 0
-        × (i < length pairs.now / 3) }
+fn is_first_pair(text: &[u8], words: &[u32], pairs: &[u32], i: usize) -> bool
+    requires { i < length pairs.now / 3 }
     ensures { result ≡ is_opener text.now words.now pairs.now i }
 {
-    let number = numbers[pairs[ROW_WORDS * i + 1] as usize];
-    heads[number as usize] as usize == i
+    let name = store_reader::card_name(text, words, pairs[ROW_WORDS * i + 1] as usize);
+    let Found::Row(first) = find_interface(text, words, pairs, name) else {
+        return false;
+    };
+    first == i
 }
 
-// How many types of a kind list the interface of the pair i, from that pair on.
-fn count_kind(
-    text: &[u8],
-    words: &[u32],
-    numbers: &[u32],
-    pairs: &[u32],
-    nexts: &[u32],
-    i: usize,
-    kind: u32,
-) -> u32
-    requires { Chained (stored_parts text.now words.now) numbers.now pairs.now nexts.now
-        × (i < length pairs.now / 3) }
-    ensures { result ≡ length (filter (is_row_of kind) (same_from text.now words.now pairs.now i i)) }
+// How many types of a kind list the interface of a name.
+fn count_kind(text: &[u8], words: &[u32], pairs: &[u32], name: &[u8], kind: u32) -> u32
+    requires { length pairs.now ≤ pairs_capacity }
+    ensures { result ≡ kind_count text.now words.now pairs.now name.now kind }
 {
     let count = pairs.len() / ROW_WORDS;
     let mut n: u32 = 0;
-    let mut j = i;
-    while j < count {
-        if pairs[ROW_WORDS * j] != kind {
-            j = nexts[j] as usize;
+    let mut i = 0;
+    while i < count {
+        if !schema_rows::search_lem::is_part_named(
+            text,
+            words,
+            pairs[ROW_WORDS * i],
+            pairs[ROW_WORDS * i + 1],
+            kind,
+            name,
+        ) {
+            i += 1;
             continue;
         }
         n += 1;
-        j = nexts[j] as usize;
+        i += 1;
     }
     n
 }
 
-// Writes the cards of the types that list the interface of the pair i, from that pair on.
+// Writes the cards of the types that list the interface of a name.
 fn push_implementers(
     text: &[u8],
     words: &[u32],
-    numbers: &[u32],
     pairs: &[u32],
-    nexts: &[u32],
-    i: usize,
+    name: &[u8],
     list: &mut [u32],
     start: usize,
 ) -> usize
-    requires { Chained (stored_parts text.now words.now) numbers.now pairs.now nexts.now
-        × (i < length pairs.now / 3)
-        × (start + length (map origin_of (same_from text.now words.now pairs.now i i)) ≤ length list.old) }
+    requires { start + length (implementers_in text.now words.now pairs.now name.now) ≤ length list.old }
     ensures { Writes list.old start
-        (map origin_of (same_from text.now words.now pairs.now i i))
+        (implementers_in text.now words.now pairs.now name.now)
         list.new result }
 {
     let count = pairs.len() / ROW_WORDS;
     let mut n = start;
-    let mut j = i;
-    while j < count {
-        list[n] = pairs[ROW_WORDS * j + 2];
+    let mut i = 0;
+    while i < count {
+        if !schema_rows::search_lem::is_named(text, words, pairs[ROW_WORDS * i + 1], name) {
+            i += 1;
+            continue;
+        }
+        list[n] = pairs[ROW_WORDS * i + 2];
         n += 1;
-        j = nexts[j] as usize;
+        i += 1;
     }
     n
 }
@@ -219,56 +152,28 @@ fn push_implementers(
 fn write_group(
     text: &[u8],
     words: &[u32],
-    numbers: &[u32],
     pairs: &[u32],
-    nexts: &[u32],
     i: usize,
     list: &mut [u32],
     start: usize,
 ) -> usize
-    requires { Chained (stored_parts text.now words.now) numbers.now pairs.now nexts.now
-        × (i < length pairs.now / 3)
-        × (is_opener text.now words.now pairs.now i ≡ true)
+    requires { (i < length pairs.now / 3)
+        × (length pairs.now ≤ pairs_capacity)
         × (start + length (group_at text.now words.now pairs.now i) ≤ length list.old) }
     ensures { Writes list.old start (group_at text.now words.now pairs.now i)
         list.new result }
 {
     let naming = pairs[ROW_WORDS * i + 1];
-    let objects = count_kind(
-        text,
-        words,
-        numbers,
-        pairs,
-        nexts,
-        i,
-        kinds::OBJECT_TYPE_DEFINITION,
-    );
-    let interfaces = count_kind(
-        text,
-        words,
-        numbers,
-        pairs,
-        nexts,
-        i,
-        kinds::INTERFACE_TYPE_DEFINITION,
-    );
+    let name = store_reader::card_name(text, words, naming as usize);
+    let objects = count_kind(text, words, pairs, name, kinds::OBJECT_TYPE_DEFINITION);
+    let interfaces = count_kind(text, words, pairs, name, kinds::INTERFACE_TYPE_DEFINITION);
     let next = put_words(list, start, naming, objects, interfaces);
-    push_implementers(text, words, numbers, pairs, nexts, i, list, next)
+    push_implementers(text, words, pairs, name, list, next)
 }
 
 // Writes the groups, each at the first pair of its interface's name. How many there are is handed back.
-fn write_groups(
-    text: &[u8],
-    words: &[u32],
-    numbers: &[u32],
-    pairs: &[u32],
-    heads: &[u32],
-    nexts: &[u32],
-    list: &mut [u32],
-) -> usize
-    requires { PairsNumbered numbers.now pairs.now heads.now
-        × HeadsFrom numbers.now pairs.now heads.now 0
-        × Chained (stored_parts text.now words.now) numbers.now pairs.now nexts.now
+fn write_groups(text: &[u8], words: &[u32], pairs: &[u32], list: &mut [u32]) -> usize
+    requires { (length pairs.now ≤ pairs_capacity)
         × (length (groups_over text.now words.now pairs.now) ≤ length list.old) }
     ensures { (result ≡ length (openers_over text.now words.now pairs.now))
         × (list.new
@@ -279,11 +184,11 @@ fn write_groups(
     let mut n = 0;
     let mut i = 0;
     while i < count {
-        if !is_first_pair(text, words, numbers, pairs, heads, i) {
+        if !is_first_pair(text, words, pairs, i) {
             i += 1;
             continue;
         }
-        n = write_group(text, words, numbers, pairs, nexts, i, list, n);
+        n = write_group(text, words, pairs, i, list, n);
         groups += 1;
         i += 1;
     }
@@ -294,20 +199,13 @@ fn write_groups(
 pub fn implementers_map(text: &[u8], words: &[u32], rows: &[u32], list: &mut [u32]) -> usize
     requires { (sound text.now words.now ≡ true)
         × (rows_refusal (account_in text.now words.now).documents rows.now ≡ 0)
-        × (groups_capacity ≤ length list.old)
-        × (too_short text.now words.now ≡ false) }
+        × (groups_capacity ≤ length list.old) }
     ensures { (result ≡ length (groups_in text.now words.now rows.now))
         × (list.new
         ≡ written list.old 0
         (flat_map group_words (groups_in text.now words.now rows.now))) }
 {
-    let mut numbers = [0u32; CARD_CAPACITY];
-    let mut heads = [0u32; CARD_CAPACITY];
-    // Names are numbered in the arrays that the pairs and their chains then have.
-    let mut nexts = [0u32; CARD_CAPACITY];
     let mut pairs = [0u32; PAIRS_CAPACITY];
-    number_cards(text, words, &mut nexts, &mut pairs, &mut numbers);
-    let n = collect(text, words, &numbers, rows, &mut pairs);
-    chain(&numbers, &pairs[0..n], &mut heads, &mut nexts);
-    write_groups(text, words, &numbers, &pairs[0..n], &heads, &nexts, list)
+    let n = collect(text, words, rows, &mut pairs);
+    write_groups(text, words, &pairs[0..n], list)
 }

@@ -8,7 +8,7 @@ ghost use Rattle.schema.specs.Answers.{isInside, explicitField, firstFound};
 use ast::kinds;
 use definition::layout::ROW_WORDS;
 use definition::{FieldFound, FieldLookup, SubtypeLookup};
-use schema_rows::search::{Found, find_part};
+use schema_rows::search_lem::{Found, find_part};
 
 // The field of a row that was found, or that the type of the card has no such field.
 fn explicit_field(rows: &[u32], part: Found, card: u32) -> FieldLookup

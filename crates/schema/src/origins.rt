@@ -6,12 +6,12 @@ ghost use Rattle.definition.specs.LentRows.{lent_rows};
 ghost use Rattle.definition.specs.Lookups.{is_schema_part, origin_list, extension_list};
 ghost use Rattle.schema_rows.specs.Search.{part_from};
 ghost use Rattle.schema.specs.InStore.{Fills};
-ghost use Rattle.schema.specs.Extensions.{is_new, MarksAre};
+ghost use Rattle.schema.specs.Extensions.{is_new};
 
 use ast::kinds;
 use definition::ABSENT;
-use definition::layout::{CARD_CAPACITY, ROW_WORDS};
-use schema_rows::search::Found;
+use definition::layout::ROW_WORDS;
+use schema_rows::search_lem::Found;
 
 // Directive uses and roots: the parts of the schema definition.
 fn is_schema_part(what: u32) -> bool
@@ -72,46 +72,20 @@ fn contains(list: &[u32], x: u32) -> bool
     false
 }
 
-// Whether an origin is among those listed: its mark tells. Only a number that no stored card has is sought in the list, so that any rows are answered for.
-fn is_listed(list: &[u32], marks: &[u8], origin: u32) -> bool
-    requires { MarksAre marks.now list.now }
-    ensures { result ≡ any (eqb origin) list.now }
-{
-    let place = origin as usize;
-    if place < marks.len() {
-        return marks[place] == 1;
-    }
-    contains(list, origin)
-}
-
-// Marks a card's number, if it is one that a stored card may have.
-fn mark(marks: &mut [u8], card: u32)
-    ensures { marks.new ≡ set marks.old card 1 }
-{
-    let place = card as usize;
-    if marks.len() <= place {
-        return;
-    }
-    marks[place] = 1;
-}
-
-// Adds an origin to the first n words, if it is an extension that is not among them; the marks tell which are.
-fn add_extension(list: &mut [u32], n: usize, marks: &mut [u8], origin: u32) -> usize
+// Adds an origin to the first n words, if it is an extension that is not among them.
+fn add_extension(list: &mut [u32], n: usize, origin: u32) -> usize
     requires { (n ≤ length list.old)
-        × (is_new (take n list.old) origin ≡ true → n < length list.old)
-        × MarksAre marks.old (take n list.old) }
+        × (is_new (take n list.old) origin ≡ true → n < length list.old) }
     ensures { (result ≡ choose (is_new (take n list.old) origin) (n + 1) n)
-        × (list.new ≡ choose (is_new (take n list.old) origin) (set list.old n origin) list.old)
-        × MarksAre marks.new (take result list.new) }
+        × (list.new ≡ choose (is_new (take n list.old) origin) (set list.old n origin) list.old) }
 {
     if origin == ABSENT {
         return n;
     }
-    if is_listed(&list[0..n], marks, origin) {
+    if contains(&list[0..n], origin) {
         return n;
     }
     list[n] = origin;
-    mark(marks, origin);
     n + 1
 }
 
@@ -120,14 +94,13 @@ pub fn extensions(rows: &[u32], list: &mut [u32]) -> usize
     requires { length (extension_list (lent_rows rows.now)) ≤ length list.old }
     ensures { Fills list.old (extension_list (lent_rows rows.now)) list.new result }
 {
-    let mut marks = [0u8; CARD_CAPACITY];
     let mut n = 0;
     let mut i = 0;
     loop {
         let Found::Row(k) = next_part(rows, i) else {
             return n;
         };
-        n = add_extension(list, n, &mut marks, rows[ROW_WORDS * k + 2]);
+        n = add_extension(list, n, rows[ROW_WORDS * k + 2]);
         i = k + 1;
     }
 }

@@ -100,9 +100,9 @@ module _ (k p w : ℕ) where
     unfolding kind_after place_after
     after_type t = (rw (ne_eqb k 0 z, t), rw (ne_eqb k 0 z, t))
 
-    pub after_part_lem : is_type w ≡ false → (q : ℕ) → q ≡ place_in (row_order k) w → (k ≡ kind_after k w) × (q ≡ place_after k w)
+    pub after_part : is_type w ≡ false → (q : ℕ) → q ≡ place_in (row_order k) w → (k ≡ kind_after k w) × (q ≡ place_after k w)
     unfolding kind_after place_after
-    after_part_lem t q e = (rw (ne_eqb k 0 z, t), rw (ne_eqb k 0 z, t, e))
+    after_part t q e = (rw (ne_eqb k 0 z, t), rw (ne_eqb k 0 z, t, e))
 
   pub after_first : k ≡ 0 → (w ≡ kind_after k w) × (0 ≡ place_after k w)
   unfolding kind_after place_after

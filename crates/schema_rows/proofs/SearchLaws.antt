@@ -16,12 +16,12 @@ use Rattle.definition.specs.Headings.{NamedCard}
 use Rattle.definition.specs.Lookups.{Block, blocks, is_block_named, type_named, is_row_of, is_part_named, lists}
 use Rattle.store_reader.specs.Stored.{stored_parts, card_name}
 use Rattle.schema_rows.specs.Rows.{row_at}
-use Rattle.schema_rows.specs.declared.search.Found.{Found}
-use Rattle.schema_rows.specs.declared.search.Found.TheVariants.{Row as RowAt, Nothing}
+use Rattle.schema_rows.specs.declared.search_lem.Found.{Found}
+use Rattle.schema_rows.specs.declared.search_lem.Found.TheVariants.{Row as RowAt, Nothing}
 use Rattle.store_reader.proofs.Lists.{and_true, and_left_false, get_inside, get_drop}
 use Rattle.schema_rows.proofs.Rows.{length_rows, row_get, row_next, row_end, row_named, Hit, hit_here, hit_later, never, never_row}
 use Rattle.schema_rows.specs.Search.{part_from, located_from, is_row_found}
-use Rattle.schema_rows.specs.declared.search.Located.{Located}
+use Rattle.schema_rows.specs.declared.search_lem.Located.{Located}
 
 -- ---- A part of a kind and a name, by a row's words.
 
@@ -220,34 +220,34 @@ module _ (cs : List NamedCard) (rows : List ℕ) (n : List ℕ) where
     located_none o = owner_none cs n hit 0 (lent_rows rows) (sym (ap (λ (l : Located). l.owner) e) ∙ o)
 
     module _ (t : ℕ) (o : l.owner ≡ RowAt t) where
-      owner_at : Owner 0 (lent_rows rows) (find (is_block_named cs n) (blocks (lent_rows rows)).1) hit
+      owner_at_lem : Owner 0 (lent_rows rows) (find (is_block_named cs n) (blocks (lent_rows rows)).1) hit
           (located_from (is_type_row_named cs n) hit 0 (lent_rows rows)).part t
-      owner_at = owner_some cs n hit 0 (lent_rows rows) t (sym (ap (λ (l : Located). l.owner) e) ∙ o)
+      owner_at_lem = owner_some cs n hit 0 (lent_rows rows) t (sym (ap (λ (l : Located). l.owner) e) ∙ o)
 
-      owner_place : owner_at.at ≡ t
-      owner_place = let q = owner_at.place in omega arith
+      owner_place : owner_at_lem.at ≡ t
+      owner_place = let q = owner_at_lem.place in omega arith
 
       owner_inside : t < length rows / 3
       owner_inside =
-          let k = get_inside (lent_rows rows) owner_at.at owner_at.row owner_at.held in
+          let k = get_inside (lent_rows rows) owner_at_lem.at owner_at_lem.row owner_at_lem.held in
           let l = length_rows rows in
           let q = owner_place in
           omega arith
 
-      owner_row_lem : some owner_at.row ≡ some (row_at rows t)
-      owner_row_lem = sym owner_at.held ∙ ap (get_elem? (lent_rows rows)) owner_place ∙ row_get rows t owner_inside
+      owner_row_lem : some owner_at_lem.row ≡ some (row_at rows t)
+      owner_row_lem = sym owner_at_lem.held ∙ ap (get_elem? (lent_rows rows)) owner_place ∙ row_get rows t owner_inside
 
       pub located_type : TypeAt t
       unfolding type_named
       located_type = record {
         inside = owner_inside;
         block =
-            let r : owner_at.row ≡ row_at rows t = (let q = owner_row_lem in cc) in
-            owner_at.block ∙ (λ j. some (block_after (r j) (lent_rows rows) (owner_place j)));
+            let r : owner_at_lem.row ≡ row_at rows t = (let q = owner_row_lem in cc) in
+            owner_at_lem.block ∙ (λ j. some (block_after (r j) (lent_rows rows) (owner_place j)));
       }
 
       part_is : l.part ≡ part_from hit (t + 1) (drop (suc t) (lent_rows rows))
-      part_is = ap (λ (l : Located). l.part) e ∙ owner_at.under ∙ ap (λ (k : ℕ). part_from hit (t + 1) (drop (suc k) (lent_rows rows))) owner_place
+      part_is = ap (λ (l : Located). l.part) e ∙ owner_at_lem.under ∙ ap (λ (k : ℕ). part_from hit (t + 1) (drop (suc k) (lent_rows rows))) owner_place
 
       pub located_no_part : l.part ≡ Nothing → find hit (blocks (drop (suc t) (lent_rows rows))).0 ≡ none
       located_no_part p = part_none hit (t + 1) (drop (suc t) (lent_rows rows)) (sym part_is ∙ p)

@@ -12,7 +12,7 @@ use definition::layout::{CARD_CAPACITY, ROW_WORDS};
 
 pub mod cards;
 pub mod order;
-pub mod search;
+pub mod search_lem;
 
 fn card_passes(words: &[u32], what: u32, card: u32, origin: u32) -> bool
     ensures { result ≡ card_fits words.now (row what card origin) }

@@ -13,7 +13,7 @@ use ast::kinds;
 use definition::NameOrder;
 use definition::layout::ROW_WORDS;
 
-// What a search over rows finds: the number of a row.
+// What a search_lem over rows finds: the number of a row.
 #[derive(Drop)]
 pub enum Found {
     Row(usize),
@@ -102,7 +102,7 @@ pub fn is_part_named(
     is_named(text, words, card, name)
 }
 
-// One search answers for the type and for its part, so that no type is searched twice.
+// One search_lem answers for the type and for its part, so that no type is searched twice.
 pub fn find_part(
     text: &[u8],
     words: &[u32],
@@ -119,7 +119,7 @@ pub fn find_part(
     let mut owner = Found::Nothing;
     let mut part = Found::Nothing;
     let mut i = 0;
-    'search: while i < count {
+    'search_lem: while i < count {
         if is_type_named(
             text,
             words,
@@ -131,7 +131,7 @@ pub fn find_part(
             let mut j = i + 1;
             while j < count {
                 if kinds::is_type(rows[ROW_WORDS * j]) {
-                    break 'search;
+                    break 'search_lem;
                 }
                 if is_part_named(
                     text,
@@ -142,7 +142,7 @@ pub fn find_part(
                     part_name,
                 ) {
                     part = Found::Row(j);
-                    break 'search;
+                    break 'search_lem;
                 }
                 j += 1;
             }

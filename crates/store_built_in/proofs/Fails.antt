@@ -7,11 +7,40 @@ use Prim.Native.Nat.{ℕ, ◌+◌, ◌*◌, ◌<◌, ◌≤◌}
 use borrow.Author.Tests.{eq-eqb, ne_eqb, le-leb, lt-leb}
 use lib.ListN.{drop}
 use Rattle.definition.specs.Lists.{any}
-use Rattle.definition.specs.Cards.{Card, card_words, card_from, cards_from, is_part}
-use Rattle.definition.specs.Headings.{name_of}
+use Rattle.definition.specs.Names.{same_name}
+use Rattle.definition.specs.Cards.{Card, card_words, card_from, cards_from, is_part, is_type, is_root}
+use Rattle.definition.specs.Headings.{name_of, named_card, alike}
 use Rattle.ast.specs.Cards.{cards_between}
 use Rattle.ast.proofs.Walk.{between_all, between_next, between_end}
 use Rattle.store_built_in.specs.Fails.{type_named, alike_cards, heading_fails, card_fails}
+
+-- ---- Two cards.
+
+module _ (text : List ℕ) (c d : Card) where
+  pub type_other : is_type d.kind ≡ false → type_named text (name_of text c) d ≡ false
+  unfolding type_named
+  type_other e = simp e
+
+  pub type_same : (b : Bool) → is_type d.kind ≡ true → b ≡ same_name (name_of text c) (name_of text d) → b ≡ type_named text (name_of text c) d
+  unfolding type_named
+  type_same b e f = simp (e, f)
+
+  pub alike_kinds : (c.kind ≡ d.kind → ⊥) → alike_cards text c d ≡ false
+  unfolding alike_cards alike named_card
+  alike_kinds n = simp (ne_eqb c.kind d.kind n)
+
+  pub alike_roots : c.kind ≡ d.kind → is_root c.kind ≡ true → alike_cards text c d ≡ true
+  unfolding alike_cards alike named_card
+  alike_roots k e = simp (eq-eqb c.kind d.kind k, e)
+
+  pub alike_directives : c.kind ≡ d.kind → is_root c.kind ≡ false → c.kind ≡ 20 → alike_cards text c d ≡ false
+  unfolding alike_cards alike named_card
+  alike_directives k e f = simp (eq-eqb c.kind d.kind k, e, eq-eqb c.kind 20 f)
+
+  pub alike_names : (b : Bool) → c.kind ≡ d.kind → is_root c.kind ≡ false → (c.kind ≡ 20 → ⊥) → b ≡ same_name (name_of text c) (name_of text d) →
+      b ≡ alike_cards text c d
+  unfolding alike_cards alike named_card
+  alike_names b k e n f = simp (eq-eqb c.kind d.kind k, e, ne_eqb c.kind 20 n, f)
 
 -- ---- A search over the cards from the number `from` to before the number `to`.
 

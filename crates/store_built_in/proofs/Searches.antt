@@ -16,8 +16,8 @@ use Rattle.definition.specs.Cards.{Card, card_words, card_from, cards_from, card
 use Rattle.definition.specs.Refusals.{is_barred, barred_from}
 use Rattle.ast.specs.Cards.{cards_between}
 use Rattle.ast.proofs.Walk.{between_all, between_next, between_end}
-use Rattle.store_built_in.specs.declared.held.Under.{Under}
-use Rattle.store_built_in.specs.declared.held.Under.TheVariants.{«Type» as UnderType, Other}
+use Rattle.store_built_in.specs.declared.card_errors.Under.{Under}
+use Rattle.store_built_in.specs.declared.card_errors.Under.TheVariants.{«Type» as UnderType, Other}
 use Rattle.store_built_in.specs.Fails.{card_fails, seen_of}
 use Rattle.store_built_in.specs.Alone.{seen_after, fails_from, six_at, under_after}
 

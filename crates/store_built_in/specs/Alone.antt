@@ -8,8 +8,8 @@ use Rattle.definition.specs.Answers.{answer}
 use Rattle.definition.specs.Cards.{Card, is_part, is_type}
 use Rattle.store_built_in.specs.declared.Search.{Search}
 use Rattle.store_built_in.specs.declared.Search.TheVariants.{Found, Nothing}
-use Rattle.store_built_in.specs.declared.held.Under.{Under}
-use Rattle.store_built_in.specs.declared.held.Under.TheVariants.{«Type» as UnderType, Other}
+use Rattle.store_built_in.specs.declared.card_errors.Under.{Under}
+use Rattle.store_built_in.specs.declared.card_errors.Under.TheVariants.{«Type» as UnderType, Other}
 use Rattle.store_built_in.specs.Fails.{card_fails}
 
 -- The parts under the same type as the card after c.

@@ -6,8 +6,8 @@ use Rattle.definition.specs.Names.{same_name}
 use Rattle.definition.specs.Cards.{Card, is_part, is_type}
 use Rattle.definition.specs.Headings.{name_of, named_card, alike}
 use Rattle.ast.specs.Cards.{cards_between}
-use Rattle.store_built_in.specs.declared.held.Under.{Under}
-use Rattle.store_built_in.specs.declared.held.Under.TheVariants.{«Type» as UnderType, Other}
+use Rattle.store_built_in.specs.declared.card_errors.Under.{Under}
+use Rattle.store_built_in.specs.declared.card_errors.Under.TheVariants.{«Type» as UnderType, Other}
 
 -- The card defines a type of the name.
 unfoldable pub type_named : List ℕ → List ℕ → Card → Bool

@@ -4,23 +4,20 @@ ghost use Rattle.std.proofs.Math.Option.{none};
 ghost use Rattle.definition.specs.Cards.{cards_of};
 ghost use Rattle.definition.specs.Refusals.{is_barred, barred_from, document, zero_fault};
 ghost use Rattle.ast_check.specs.Checks.{check_option};
-ghost use Rattle.store_built_in.specs.Alone.{fails_from, six_at, found_at};
+ghost use Rattle.store_built_in.specs.Alone.{fails_from, six_at, found_at, under_after};
 
+use crate::card_errors::Under;
 use ast::kinds;
 use ast_check::CardCheck;
 use definition::Answer;
-use definition::layout::{CARD_CAPACITY, CARD_WORDS};
+use definition::layout::CARD_WORDS;
 use definition::refusal::BUILT_INS_FAULTY;
 
-pub mod held;
-pub mod many_blocks;
-pub mod one_block;
-pub mod sizes;
-pub mod slots;
+pub mod card_errors;
 
-// What a search over cards finds: a card's number.
+// What a search_lem over cards finds: a card's number.
 #[derive(Drop)]
-pub enum Search {
+enum Search {
     Found(usize),
     Nothing,
 }
@@ -56,21 +53,43 @@ fn first_barred(cards: &[u32]) -> Search
     Search::Nothing
 }
 
+// What the card after one of that kind stands under, `next` being its number.
+fn under_after(under: Under, kind: u32, next: usize) -> Under
+    ensures { result ≡ under_after under kind next }
+{
+    if kinds::is_part(kind) {
+        return under;
+    }
+    if kinds::is_type(kind) {
+        return Under::Type(next);
+    }
+    Under::Other
+}
+
 // The first card that gives an error where no kind is barred.
 fn first_error(text: &[u8], cards: &[u32]) -> Search
     ensures { found_at result ≡ fails_from text.now [] none 0 (cards_of cards.now) }
 {
-    if cards.len() / CARD_WORDS <= CARD_CAPACITY {
-        return crate::one_block::first_in_block(text, cards);
+    let count = cards.len() / CARD_WORDS;
+    let mut under = Under::Other;
+    let mut i = 0;
+    while i < count {
+        let card = ast::card_at(cards, i);
+        if crate::card_errors::card_fails(text, cards, under, i, card) {
+            return Search::Found(i);
+        }
+        let next = i + 1;
+        under = under_after(under, card.kind, next);
+        i = next;
     }
-    crate::many_blocks::first_in_blocks(text, cards)
+    Search::Nothing
 }
 
 // The refusal of a card that was found.
-fn refusal(search: Search) -> CardCheck
-    ensures { check_option result ≡ six_at (found_at search) }
+fn refusal(search_lem: Search) -> CardCheck
+    ensures { check_option result ≡ six_at (found_at search_lem) }
 {
-    let Search::Found(i) = search else {
+    let Search::Found(i) = search_lem else {
         return CardCheck::Sound;
     };
     CardCheck::Faulty(Answer {

@@ -188,7 +188,7 @@ module _ (R : Slot 2) (ty : Ty) (S : (κs : Lfts 2) → CardReader → (type_at 
             calls_at ! fm At known_at_lem to_at
             (and_then ! (load ! (from ! (stop !)) (look ! 8 refl)) (and_then ! (load ! (from ! (stop !)) (look ! 6 refl))
             (and_then ! (load ! (from ! (stop !)) (look ! 4 refl)) (no_more !)))) (λ u.
-            use1 𝓛 (later (some (λ (d : CardReader). (Tokens 𝓛 κ κ' q q' ⊛ ‵ ((B κs).own d (u ∷ []))) ⊛ raw (At_ensured d)))) (id⊢ 𝓤 _) $
+            use1 𝓛 (later (some (λ (d : CardReader). (Tokens 𝓛 κ κ' q q' ⊛ ‵ ((B κs).own_val d (u ∷ []))) ⊛ raw (At_ensured d)))) (id⊢ 𝓤 _) $
             await ! tt $ pick ! (λ d.
             split ! $ move ! (1 ∷ []) $ use1 𝓛 (raw (fact 𝓤 (Made d))) (at_said d) $ heard ! (Made d) (λ m. split ! $ move ! (1 ∷ []) $
             -- [what the struct owns; the tokens; what the parameters own; room for _4; …]

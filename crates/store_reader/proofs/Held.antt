@@ -63,7 +63,7 @@ card_value d = vint w64 d.card
 module _ (κ κ' : Lft) (d : CardReader) where
   -- What the struct owns, alone and as a function's only parameter.
   abbrev pub Own : Fml
-  Own = (B (κ, (κ', tt))).own d (T'.lowered d ∷ [])
+  Own = (B (κ, (κ', tt))).own_val d (T'.lowered d ∷ [])
 
   abbrev pub Owned : Fml
   Owned = owns (B (κ, (κ', tt)) ∷ []) (d, tt) (T'.lowered d ∷ [], tt)
@@ -123,10 +123,10 @@ module _ {M : Type 1} {𝓤 : Ura M} (𝓛 : Logic 𝓤) (κ κ' : Lft) (q q' : 
 
   -- A callee that takes the struct, which a local holds.
   pub lends_held : (u : Val) →
-      ent 𝓤 (⋆ 𝓛 (‵ ((B (κ, (κ', tt))).own d (u ∷ [])) ∷ Tokens 𝓛 κ κ' q q' ∷ []))
+      ent 𝓤 (⋆ 𝓛 (‵ ((B (κ, (κ', tt))).own_val d (u ∷ [])) ∷ Tokens 𝓛 κ κ' q q' ∷ []))
       (Lent (Tokens 𝓛 κ κ' q q' ⊛ ‵ (owns (B (κ, (κ', tt)) ∷ []) (d, tt) (u ∷ [], tt))))
   lends_held u =
-      qed 𝓛 (‵ ((B (κ, (κ', tt))).own d (u ∷ [])) ∷ Tokens 𝓛 κ κ' q q' ∷ []) ∵ nothing ! $ move ! (1 ∷ 0 ∷ []) $ fjoin ! $ move ! (1 ∷ 0 ∷ []) $
+      qed 𝓛 (‵ ((B (κ, (κ', tt))).own_val d (u ∷ [])) ∷ Tokens 𝓛 κ κ' q q' ∷ []) ∵ nothing ! $ move ! (1 ∷ 0 ∷ []) $ fjoin ! $ move ! (1 ∷ 0 ∷ []) $
       join ! $ frame ! $ done !
 
   -- The same where nothing but the parameters of a function are had, of which a reader at any card can be made.

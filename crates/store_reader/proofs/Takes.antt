@@ -123,9 +123,9 @@ module _ (R : RattleType) (ty : Ty) (F : List ℕ → ℕ → R.Denot) (f : Name
       said r = ex_e 𝓤 _ (λ ws. snd∗ 𝓤 (sem 𝓛 (lasts finds (κ', tt) (d.words, (d.card, tt)) ws)) (fact 𝓤 (r ≡ found)))
 
       exits : (r : R.Denot) (u : Val) → r ≡ found
-          → ent 𝓤 (⋆ 𝓛 (‵ (R.own r (u ∷ [])) ∷ Tokens 𝓛 κ κ' q q' ∷ ‵ (Owned κ κ' d) ∷ [])) (Post u)
+          → ent 𝓤 (⋆ 𝓛 (‵ (R.own_val r (u ∷ [])) ∷ Tokens 𝓛 κ κ' q q' ∷ ‵ (Owned κ κ' d) ∷ [])) (Post u)
       exits r u e =
-          qed 𝓛 (‵ (R.own r (u ∷ [])) ∷ Tokens 𝓛 κ κ' q q' ∷ ‵ (Owned κ κ' d) ∷ []) ∵
+          qed 𝓛 (‵ (R.own_val r (u ∷ [])) ∷ Tokens 𝓛 κ κ' q q' ∷ ‵ (Owned κ κ' d) ∷ []) ∵
           suffices ! _
           (ends_at 𝓛 reads stayed (read_clauses 𝓤) ((κs, (q, (q', tt)), tt, (d, tt), (mach ∷ [], tt)), tt) u r (tt, tt) (tt, tt)) $
           says ! e $ move ! (1 ∷ 2 ∷ []) $ frame ! $ frame ! $ done !
@@ -146,7 +146,7 @@ module _ (R : RattleType) (ty : Ty) (F : List ℕ → ℕ → R.Denot) (f : Name
             -- [what the callee asks; the text's token; what the struct owns; _3; …]
             calls_at ! fm Callee known to
             (and_then ! (load ! (from ! (stop !)) (look ! 5 refl)) (and_then ! (load ! (from ! (stop !)) (look ! 3 refl)) (no_more !))) (λ u.
-            use1 𝓛 (later (some (λ (r : R.Denot). (Token 𝓛 κ κ' q q' ⊛ ‵ (R.own r (u ∷ []))) ⊛ raw (Ensured r)))) (id⊢ 𝓤 _) $
+            use1 𝓛 (later (some (λ (r : R.Denot). (Token 𝓛 κ κ' q q' ⊛ ‵ (R.own_val r (u ∷ []))) ⊛ raw (Ensured r)))) (id⊢ 𝓤 _) $
             await ! tt $ pick ! (λ r.
             split ! $ move ! (1 ∷ []) $ use1 𝓛 (raw (fact 𝓤 (r ≡ found))) (said r) $ heard ! (r ≡ found) (λ e.
             split ! $ move ! (2 ∷ 0 ∷ []) $ join ! $ move ! (1 ∷ []) $

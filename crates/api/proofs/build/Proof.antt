@@ -7,10 +7,10 @@ use Rattle.api.proofs.build.Statement.{statement}
 use Rattle.api.proofs.build.Tie as tie
 
 build-refusal-requires : tie.Need-build-refusal-requires
-build-refusal-requires c κs = search rules
+build-refusal-requires c κs = search_lem rules
 
 refused-drawing-requires : tie.Need-refused-drawing-requires
-refused-drawing-requires c κs = search rules
+refused-drawing-requires c κs = search_lem rules
 
 returns : tie.Need-returns
 returns c =
@@ -24,10 +24,10 @@ build-inner-requires c κs =
     record { store_sound = d.sound; words_length = (long _ _ d.long).1; rows_length = d.rows_capacity_lem; errors_length = d.errors_capacity_lem }
 
 same_length : tie.Need-same-length
-same_length c = search rules
+same_length c = search_lem rules
 
 same-length-2 : tie.Need-same-length-2
-same-length-2 c = search rules
+same-length-2 c = search_lem rules
 
 returns-2 : tie.Need-returns-2
 returns-2 c =

@@ -7,7 +7,7 @@ use Rattle.api.proofs.check_rows.Tie as tie
 use borrow.Author.Rules.{rules}
 
 lookup-refusal-requires : tie.Need-lookup-refusal-requires
-lookup-refusal-requires c κs = search rules
+lookup-refusal-requires c κs = search_lem rules
 
 returns : tie.Need-returns
 returns c = ap (λ (n : ℕ). answer n 0) c.lookup-refusal.ensures ∙ sym (check_rows_by _ _ _)

@@ -8,7 +8,7 @@ use Rattle.api.proofs.extensions.Tie as tie
 use borrow.Author.Rules.{rules}
 
 list-refusal-requires : tie.Need-list-refusal-requires
-list-refusal-requires c κs = search rules
+list-refusal-requires c κs = search_lem rules
 
 returns : tie.Need-returns
 returns c = list_refused _ _ c.before.list-refusal.ensures _ _ _ _ (extensions_listed _ _ _ _) c.if1.true
@@ -21,7 +21,7 @@ extensions-requires c κs =
     omega (arith, list_capacity _ _ _ _ _ z)
 
 same_length : tie.Need-same-length
-same_length c = search rules
+same_length c = search_lem rules
 
 returns-2 : tie.Need-returns-2
 returns-2 c =

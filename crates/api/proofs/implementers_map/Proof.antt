@@ -6,7 +6,7 @@ use Rattle.api.proofs.implementers_map.Tie as tie
 use borrow.Author.Rules.{rules}
 
 list-refusal-requires : tie.Need-list-refusal-requires
-list-refusal-requires c κs = search rules
+list-refusal-requires c κs = search_lem rules
 
 returns : tie.Need-returns
 returns c = list_refused _ _ c.before.list-refusal.ensures _ _ _ _ (implementers_map_listed _ _ _ _) c.if1.true
@@ -15,10 +15,10 @@ implementers-map-requires : tie.Need-implementers-map-requires
 implementers-map-requires c κs =
     let z = sym c.before.before.list-refusal.ensures ∙ c.before.if1.false in
     let u = list_unrefused _ _ _ _ _ z in
-    (u.sound, u.passed, list_capacity _ _ _ _ _ z, u.long)
+    (u.sound, u.passed, list_capacity _ _ _ _ _ z)
 
 same_length : tie.Need-same-length
-same_length c = search rules
+same_length c = search_lem rules
 
 returns-2 : tie.Need-returns-2
 returns-2 c =

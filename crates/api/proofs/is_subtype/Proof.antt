@@ -7,7 +7,7 @@ use Rattle.api.proofs.is_subtype.Tie as tie
 use borrow.Author.Rules.{rules}
 
 lookup-refusal-requires : tie.Need-lookup-refusal-requires
-lookup-refusal-requires c κs = search rules
+lookup-refusal-requires c κs = search_lem rules
 
 returns : tie.Need-returns
 returns c = tells_subtype _ _ (outcome_refused _ _ c.before.lookup-refusal.ensures _ Refused _ (is_subtype_by _ _ _ _ _) c.if1.true)

@@ -7,16 +7,16 @@ use Rattle.api.proofs.root_operation.Statement.{statement}
 use Rattle.api.proofs.root_operation.Tie as tie
 
 lookup-refusal-requires : tie.Need-lookup-refusal-requires
-lookup-refusal-requires c κs = search rules
+lookup-refusal-requires c κs = search_lem rules
 
 sub-result : tie.Need-overflow-sub-result
-sub-result c = search rules
+sub-result c = search_lem rules
 
 part-result-start : tie.Need-slice-bounds-result-start
-part-result-start c = search rules
+part-result-start c = search_lem rules
 
 part-result-end : tie.Need-slice-bounds-result-end
-part-result-end c = search rules
+part-result-end c = search_lem rules
 
 returns : tie.Need-returns
 returns c =

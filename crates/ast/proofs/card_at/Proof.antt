@@ -10,37 +10,37 @@ returns : tie.Need-returns
 returns c = card_missing _ _ c.if1.true
 
 mul_at : tie.Need-overflow-mul-at
-mul_at c = search rules
+mul_at c = search_lem rules
 
 add-word : tie.Need-overflow-add-word
-add-word c = search rules
+add-word c = search_lem rules
 
 word-requires : tie.Need-word-requires
-word-requires c κs = search rules
+word-requires c κs = search_lem rules
 
 add-word-2 : tie.Need-overflow-add-word-2
-add-word-2 c = search rules
+add-word-2 c = search_lem rules
 
 word-requires-2 : tie.Need-word-requires-2
-word-requires-2 c κs = search rules
+word-requires-2 c κs = search_lem rules
 
 add-word-3 : tie.Need-overflow-add-word-3
-add-word-3 c = search rules
+add-word-3 c = search_lem rules
 
 word-requires-3 : tie.Need-word-requires-3
-word-requires-3 c κs = search rules
+word-requires-3 c κs = search_lem rules
 
 add-word-4 : tie.Need-overflow-add-word-4
-add-word-4 c = search rules
+add-word-4 c = search_lem rules
 
 word-requires-4 : tie.Need-word-requires-4
-word-requires-4 c κs = search rules
+word-requires-4 c κs = search_lem rules
 
 add-word-5 : tie.Need-overflow-add-word-5
-add-word-5 c = search rules
+add-word-5 c = search_lem rules
 
 word-requires-5 : tie.Need-word-requires-5
-word-requires-5 c κs = search rules
+word-requires-5 c κs = search_lem rules
 
 returns-2 : tie.Need-returns-2
 returns-2 c =

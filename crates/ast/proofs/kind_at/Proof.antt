@@ -5,7 +5,7 @@ use Rattle.ast.proofs.kind_at.Tie as tie
 use borrow.Author.Rules.{rules}
 
 card-at-requires : tie.Need-card-at-requires
-card-at-requires c κs = search rules
+card-at-requires c κs = search_lem rules
 
 returns : tie.Need-returns
 returns c = ap (λ (x : Card). x.kind) c.card-at.ensures

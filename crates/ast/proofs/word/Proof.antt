@@ -5,13 +5,13 @@ use Rattle.ast.proofs.word.Tie as tie
 use borrow.Author.Rules.{rules}
 
 mul-result : tie.Need-overflow-mul-result
-mul-result c = search rules
+mul-result c = search_lem rules
 
 shared-slice-read-result : tie.Need-shared-slice-read-result
-shared-slice-read-result c = search rules
+shared-slice-read-result c = search_lem rules
 
 returns : tie.Need-returns
-returns c = search rules
+returns c = search_lem rules
 
 returns-2 : tie.Need-returns-2
 returns-2 c = sym (get_or-eq_default c.before.args.words.now 0 c.if1.false)

@@ -8,7 +8,7 @@ returns : tie.Need-returns
 returns c = sym (broken _ _ c.if1.true)
 
 check-cards-requires : tie.Need-check-cards-requires
-check-cards-requires c κs = search rules
+check-cards-requires c κs = search_lem rules
 
 returns-2 : tie.Need-returns-2
 returns-2 c = c.check-cards.ensures ∙ sym (unbroken _ _ c.before.if1.false)

@@ -5,10 +5,10 @@ use Rattle.ast_check.proofs.fault_after.Tie as tie
 use borrow.Author.Rules.{rules}
 
 judged-requires : tie.Need-judged-requires
-judged-requires c κs = search rules
+judged-requires c κs = search_lem rules
 
 fault-among-requires : tie.Need-fault-among-requires
-fault-among-requires c κs = search rules
+fault-among-requires c κs = search_lem rules
 
 returns : tie.Need-returns
 returns c = c.fault-among.ensures ∙ rw (c.before.judged.ensures, judged_place)

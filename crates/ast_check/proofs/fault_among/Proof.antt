@@ -88,14 +88,14 @@ unfolding faults fault place
 passed-10 c = passed-9 c.before.before ∙ fault_passed _ _ _ _ (sym (c.before.misplaced.ensures (place (start-10 c)) refl refl) ∙ c.if10.false)
 
 unknown-kind-requires : tie.Need-unknown-kind-requires
-unknown-kind-requires c κs = search rules
+unknown-kind-requires c κs = search_lem rules
 
 returns : tie.Need-returns
 unfolding faults fault place
 returns c = sym (fault_holds _ _ _ _ (sym (c.before.unknown-kind.ensures (place c.before.before.before)) ∙ c.if1.true))
 
 empty-item-requires : tie.Need-empty-item-requires
-empty-item-requires c κs = search rules
+empty-item-requires c κs = search_lem rules
 
 returns-2 : tie.Need-returns-2
 unfolding faults fault place
@@ -104,7 +104,7 @@ returns-2 c =
     sym (passed-1 failed ∙ fault_holds _ _ _ _ (sym (c.before.empty-item.ensures (place (start-1 failed))) ∙ c.if2.true))
 
 item-outside-text-requires : tie.Need-item-outside-text-requires
-item-outside-text-requires c κs = search rules
+item-outside-text-requires c κs = search_lem rules
 
 returns-3 : tie.Need-returns-3
 unfolding faults fault place
@@ -113,7 +113,7 @@ returns-3 c =
     sym (passed-2 failed ∙ fault_holds _ _ _ _ (sym (c.before.item-outside-text.ensures (place (start-2 failed)) refl refl) ∙ c.if3.true))
 
 item-before-sibling-end-requires : tie.Need-item-before-sibling-end-requires
-item-before-sibling-end-requires c κs = search rules
+item-before-sibling-end-requires c κs = search_lem rules
 
 returns-4 : tie.Need-returns-4
 unfolding faults fault place
@@ -122,7 +122,7 @@ returns-4 c =
     sym (passed-3 failed ∙ fault_holds _ _ _ _ (sym (c.before.item-before-sibling-end.ensures (place (start-3 failed)) refl) ∙ c.if4.true))
 
 item-outside-heading-requires : tie.Need-item-outside-heading-requires
-item-outside-heading-requires c κs = search rules
+item-outside-heading-requires c κs = search_lem rules
 
 returns-5 : tie.Need-returns-5
 unfolding faults fault place
@@ -131,7 +131,7 @@ returns-5 c =
     sym (passed-4 failed ∙ fault_holds _ _ _ _ (sym (c.before.item-outside-heading.ensures (place (start-4 failed)) refl) ∙ c.if5.true))
 
 name-outside-item-requires : tie.Need-name-outside-item-requires
-name-outside-item-requires c κs = search rules
+name-outside-item-requires c κs = search_lem rules
 
 returns-6 : tie.Need-returns-6
 unfolding faults fault place
@@ -140,7 +140,7 @@ returns-6 c =
     sym (passed-5 failed ∙ fault_holds _ _ _ _ (sym (c.before.name-outside-item.ensures (place (start-5 failed))) ∙ c.if6.true))
 
 name-not-item-requires : tie.Need-name-not-item-requires
-name-not-item-requires c κs = search rules
+name-not-item-requires c κs = search_lem rules
 
 returns-7 : tie.Need-returns-7
 unfolding faults fault place
@@ -149,7 +149,7 @@ returns-7 c =
     sym (passed-6 failed ∙ fault_holds _ _ _ _ (sym (c.before.name-not-item.ensures (place (start-6 failed))) ∙ c.if7.true))
 
 name-amiss-requires : tie.Need-name-amiss-requires
-name-amiss-requires c κs = search rules
+name-amiss-requires c κs = search_lem rules
 
 returns-8 : tie.Need-returns-8
 unfolding faults fault place
@@ -158,7 +158,7 @@ returns-8 c =
     sym (passed-7 failed ∙ fault_holds _ _ _ _ (sym (c.before.name-amiss.ensures (place (start-7 failed))) ∙ c.if8.true))
 
 name-no-name-requires : tie.Need-name-no-name-requires
-name-no-name-requires c κs = search rules
+name-no-name-requires c κs = search_lem rules
 
 returns-9 : tie.Need-returns-9
 unfolding faults fault place
@@ -167,7 +167,7 @@ returns-9 c =
     sym (passed-8 failed ∙ fault_holds _ _ _ _ (sym (c.before.name-no-name.ensures (place (start-8 failed)) refl) ∙ c.if9.true))
 
 misplaced-requires : tie.Need-misplaced-requires
-misplaced-requires c κs = search rules
+misplaced-requires c κs = search_lem rules
 
 returns-10 : tie.Need-returns-10
 unfolding faults fault place

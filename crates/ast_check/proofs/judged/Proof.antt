@@ -5,7 +5,7 @@ use Rattle.ast_check.proofs.judged.Tie as tie
 use borrow.Author.Rules.{rules}
 
 is-part-requires : tie.Need-is-part-requires
-is-part-requires c κs = search rules
+is-part-requires c κs = search_lem rules
 
 returns : tie.Need-returns
 unfolding judged_of

@@ -8,39 +8,36 @@ use borrow.Author.Rules.{rules}
 use Rattle.component.proofs.extend_part.Reads as reads
 use Rattle.component.proofs.extend_part.Lts as lts
 use Rattle.component.proofs.extend_sticky.Reads as extend-sticky-reads
+use Rattle.store_reader.proofs.card_kind.Reads as card-kind-reads
+
+card-kind-requires : tie.Need-card-kind-requires
+card-kind-requires c κs = search_lem rules
 
 returns : tie.Need-returns
 returns c =
-    let s = c.before.before.before.before.before.before in
-    let e = s.args in (
-      part_skip e.text.now e.words.now e.origin e.kind e.card e.start (filled e.rows.now e.used) (λ q. c.if1.true (s.requires.3 ∙
-          q)),
-      s.requires.1,
-    )
+    let e = c.before.before.before.before.before.before.args in
+    part_skip e.text.now e.words.now e.origin e.kind e.card e.start (filled e.rows.now e.used)
+    (λ q. c.if1.true (c.before.card_kind_lem.ensures ∙ q))
 
 extend-sticky-requires : tie.Need-extend-sticky-requires
 extend-sticky-requires c κs =
-    let s = c.before.before.before.before.before.before.before.before in
+    let s = c.before.before.before.before.before.before.before in
     let e = s.args in
-    let is = sym s.requires.3 ∙ c.before.before.if1.false in
+    let is = sym c.before.before.card_kind_lem.ensures ∙ c.before.if1.false in
     let u =
     ap (λ (t : Filled). t.used) (part_take e.text.now e.words.now e.origin e.kind e.card e.start (filled e.rows.now e.used) is) in
-    (s.requires.0, s.requires.1, λ o. s.requires.2, s.requires.4, omega (arith, s.requires.5))
+    (s.requires.0, omega (arith, s.requires.1))
 
 same_length : tie.Need-same-length
-same_length c = search rules
-
-same-length-2 : tie.Need-same-length-2
-same-length-2 c = search rules
+same_length c = search_lem rules
 
 returns-2 : tie.Need-returns-2
 returns-2 c =
-    let s = c.before.before.before.before.before.before.before.before.before.before.before.before.before in
-    let e = s.args in
-    let is = sym s.requires.3 ∙ c.before.before.before.before.before.before.before.if1.false in
-    let r = c.before.before.before.before.extend-sticky.ensures in
-    (r.0 ∙ sym (part_take e.text.now e.words.now e.origin e.kind e.card e.start (filled e.rows.now e.used) is), r.1)
+    let e = c.before.before.before.before.before.before.before.before.before.before.args in
+    let is = sym c.before.before.before.before.before.card_kind_lem.ensures ∙ c.before.before.before.before.if1.false in
+    c.before.before.extend-sticky.ensures
+    ∙ sym (part_take e.text.now e.words.now e.origin e.kind e.card e.start (filled e.rows.now e.used) is)
 
 pub extend-part-spec : {M : Type 1} → statement M
 extend-part-spec =
-    tie.close (tie.spec returns extend-sticky-requires same_length same-length-2 returns-2)
+    tie.close (tie.spec card-kind-requires returns extend-sticky-requires same_length returns-2)

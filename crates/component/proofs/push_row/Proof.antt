@@ -8,28 +8,28 @@ use Rattle.component.proofs.push_row.Lts as lts
 use Rattle.component.proofs.write_row.Reads as write-row-reads
 
 mul_at : tie.Need-overflow-mul-at
-mul_at c = search rules
+mul_at c = search_lem rules
 
 mul-write-row : tie.Need-overflow-mul-write-row
-mul-write-row c = search rules
+mul-write-row c = search_lem rules
 
 sub-write-row : tie.Need-overflow-sub-write-row
-sub-write-row c = search rules
+sub-write-row c = search_lem rules
 
 part-write-row-start : tie.Need-slice-bounds-write-row-start
-part-write-row-start c = search rules
+part-write-row-start c = search_lem rules
 
 part-write-row-end : tie.Need-slice-bounds-write-row-end
-part-write-row-end c = search rules
+part-write-row-end c = search_lem rules
 
 write-row-requires : tie.Need-write-row-requires
-write-row-requires c κs = search rules
+write-row-requires c κs = search_lem rules
 
 add-result : tie.Need-overflow-add-result
-add-result c = search rules
+add-result c = search_lem rules
 
 same_length : tie.Need-same-length
-same_length c = search rules
+same_length c = search_lem rules
 
 returns : tie.Need-returns
 returns c =

@@ -8,7 +8,7 @@ use Rattle.component.proofs.write_row.Reads as reads
 use Rattle.component.proofs.write_row.Lts as lts
 
 slice-write-rest : tie.Need-slice-write-rest
-slice-write-rest c = search rules
+slice-write-rest c = search_lem rules
 
 slice-write-rest-2 : tie.Need-slice-write-rest-2
 slice-write-rest-2 c = simp length-set (omega arith)
@@ -17,7 +17,7 @@ slice-write-rest-3 : tie.Need-slice-write-rest-3
 slice-write-rest-3 c = simp length-set (omega arith)
 
 same_length : tie.Need-same-length
-same_length c = search rules
+same_length c = search_lem rules
 
 returns : tie.Need-returns
 returns c = three_set _ _ _ _ c.requires

@@ -16,9 +16,9 @@ pub build-inner-spec : {M : Type 1} → statement M
 build-inner-spec =
     tie.close
     (tie.spec
-    (λ c κs. search rules)
+    (λ c κs. search_lem rules)
     (λ c κs. omega (arith, cards_fit_lem _ _ c.before.before.before.before.before.requires.store_sound, c.cards-used.ensures))
-    (λ c. search rules)
+    (λ c. search_lem rules)
     (λ c κs. (
       c.before.before.before.before.before.before.before.before.before.before.requires,
       served _ _ _ _
@@ -28,7 +28,7 @@ build-inner-spec =
     (λ c. c.before.before.before.before.build-small.auto.1.1.0)
     (λ c. c.before.before.before.before.build-small.auto.1.1.1.0)
     (λ c. c.before.before.before.before.build-small.ensures)
-    (λ c. search rules)
+    (λ c. search_lem rules)
     (λ c κs. (
       c.before.before.before.before.before.before.before.before.before.before.requires,
       served _ _ _ _
@@ -38,7 +38,7 @@ build-inner-spec =
     (λ c. c.before.before.before.before.build-medium.auto.1.1.0)
     (λ c. c.before.before.before.before.build-medium.auto.1.1.1.0)
     (λ c. c.before.before.before.before.build-medium.ensures)
-    (λ c. search rules)
+    (λ c. search_lem rules)
     (λ c κs. (
       c.before.before.before.before.before.before.before.before.before.before.requires,
       served _ _ _ _

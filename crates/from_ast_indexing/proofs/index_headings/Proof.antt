@@ -18,7 +18,7 @@ abbrev decreases-loop : tie.decreases-loop
 decreases-loop text words headings₀ used count₀ card₀ headings count card = used - card
 
 cards-used-requires : tie.Need-cards-used-requires invariant-loop decreases-loop
-cards-used-requires c κs = search rules
+cards-used-requires c κs = search_lem rules
 
 loop-holds : tie.Need-loop-init invariant-loop decreases-loop
 loop-holds c = (headings_begin _ _ c.before.before.before.before.requires, c.cards-used.ensures, refl)
@@ -53,7 +53,7 @@ add-count c =
     omega (arith, i.0.inside, i.0.count_most, c.before.before.before.before.before.before.requires.cards_most)
 
 next-heading-requires : tie.Need-next-heading-requires invariant-loop decreases-loop
-next-heading-requires c κs = search rules
+next-heading-requires c κs = search_lem rules
 
 loop-less : tie.Need-loop-smaller invariant-loop decreases-loop
 loop-less c =

@@ -8,10 +8,10 @@ returns : tie.Need-returns
 returns c = (refl, not_copied _ _ c.if1.true)
 
 copy-text-requires : tie.Need-copy-text-requires
-copy-text-requires c κs = search rules
+copy-text-requires c κs = search_lem rules
 
 same_length : tie.Need-same-length
-same_length c = search rules
+same_length c = search_lem rules
 
 returns-2 : tie.Need-returns-2
 returns-2 c = (refl, c.before.before.copy-text.ensures ∙ copied _ _ c.before.before.before.before.if1.false)

@@ -4,13 +4,13 @@ use Rattle.gimletaspen.proofs.gimletaspen_is_subtype.Statement.{statement}
 use Rattle.gimletaspen.proofs.gimletaspen_is_subtype.Tie as tie
 
 is-subtype-requires : tie.Need-is-subtype-requires
-is-subtype-requires c κs = search rules
+is-subtype-requires c κs = search_lem rules
 
 subtype-refusal-requires : tie.Need-subtype-refusal-requires
-subtype-refusal-requires c κs = search rules
+subtype-refusal-requires c κs = search_lem rules
 
 subtype-number-requires : tie.Need-subtype-number-requires
-subtype-number-requires c κs = search rules
+subtype-number-requires c κs = search_lem rules
 
 returns : tie.Need-returns
 returns c =

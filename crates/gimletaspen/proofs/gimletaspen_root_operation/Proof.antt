@@ -6,13 +6,13 @@ use Rattle.gimletaspen.proofs.gimletaspen_root_operation.Statement.{statement}
 use Rattle.gimletaspen.proofs.gimletaspen_root_operation.Tie as tie
 
 root-of-requires : tie.Need-root-of-requires
-root-of-requires c κs = search rules
+root-of-requires c κs = search_lem rules
 
 copy-name-requires : tie.Need-copy-name-requires
-copy-name-requires c κs = search rules
+copy-name-requires c κs = search_lem rules
 
 same_length : tie.Need-same-length
-same_length c = search rules
+same_length c = search_lem rules
 
 returns : tie.Need-returns
 returns c =

@@ -4,19 +4,19 @@ use Rattle.gimletaspen.proofs.gimletaspen_type_field.Statement.{statement}
 use Rattle.gimletaspen.proofs.gimletaspen_type_field.Tie as tie
 
 type-field-requires : tie.Need-type-field-requires
-type-field-requires c κs = search rules
+type-field-requires c κs = search_lem rules
 
 field-refusal-requires : tie.Need-field-refusal-requires
-field-refusal-requires c κs = search rules
+field-refusal-requires c κs = search_lem rules
 
 field-number-requires : tie.Need-field-number-requires
-field-number-requires c κs = search rules
+field-number-requires c κs = search_lem rules
 
 field-meta-requires : tie.Need-field-meta-requires
-field-meta-requires c κs = search rules
+field-meta-requires c κs = search_lem rules
 
 field-card-requires : tie.Need-field-card-requires
-field-card-requires c κs = search rules
+field-card-requires c κs = search_lem rules
 
 returns : tie.Need-returns
 returns c =

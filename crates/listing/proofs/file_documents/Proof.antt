@@ -12,55 +12,55 @@ abbrev decreases-loop : tie.decreases-loop
 decreases-loop switches text₀ words₀ n₀ text words n = 18446744073709551615 - n
 
 loop-holds : tie.Need-loop-init invariant-loop decreases-loop
-loop-holds c = search rules
+loop-holds c = search_lem rules
 
 run-document-requires : tie.Need-run-document-requires invariant-loop decreases-loop
-run-document-requires c κs = search rules
+run-document-requires c κs = search_lem rules
 
 enum_told : tie.Need-enum-told invariant-loop decreases-loop
-enum_told c = search rules
+enum_told c = search_lem rules
 
 add-n : tie.Need-overflow-add-n invariant-loop decreases-loop
-add-n c = search rules
+add-n c = search_lem rules
 
 loop-less : tie.Need-loop-smaller invariant-loop decreases-loop
-loop-less c = search rules
+loop-less c = search_lem rules
 
 loop-again : tie.Need-loop-preserved invariant-loop decreases-loop
-loop-again c = search rules
+loop-again c = search_lem rules
 
 enum-told-2 : tie.Need-enum-told-2 invariant-loop decreases-loop
-enum-told-2 c = search rules
+enum-told-2 c = search_lem rules
 
 same_length : tie.Need-same-length invariant-loop decreases-loop
-same_length c = search rules
+same_length c = search_lem rules
 
 same-length-2 : tie.Need-same-length-2 invariant-loop decreases-loop
-same-length-2 c = search rules
+same-length-2 c = search_lem rules
 
 returns : tie.Need-returns invariant-loop decreases-loop
-returns c = search rules
+returns c = search_lem rules
 
 enum-told-3 : tie.Need-enum-told-3 invariant-loop decreases-loop
-enum-told-3 c = search rules
+enum-told-3 c = search_lem rules
 
 same-length-3 : tie.Need-same-length-3 invariant-loop decreases-loop
-same-length-3 c = search rules
+same-length-3 c = search_lem rules
 
 same-length-4 : tie.Need-same-length-4 invariant-loop decreases-loop
-same-length-4 c = search rules
+same-length-4 c = search_lem rules
 
 returns-2 : tie.Need-returns-2 invariant-loop decreases-loop
-returns-2 c = search rules
+returns-2 c = search_lem rules
 
 same-length-5 : tie.Need-same-length-5 invariant-loop decreases-loop
-same-length-5 c = search rules
+same-length-5 c = search_lem rules
 
 same-length-6 : tie.Need-same-length-6 invariant-loop decreases-loop
-same-length-6 c = search rules
+same-length-6 c = search_lem rules
 
 returns-3 : tie.Need-returns-3 invariant-loop decreases-loop
-returns-3 c = search rules
+returns-3 c = search_lem rules
 
 pub file-documents-spec : {M : Type 1} → statement M
 file-documents-spec =

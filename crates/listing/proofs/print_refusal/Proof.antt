@@ -6,10 +6,10 @@ use Rattle.listing.proofs.print_refusal.Tie as tie
 use borrow.Author.Rules.{rules}
 
 slice-aggregate-put-refusal : tie.Need-slice-aggregate-put-refusal
-slice-aggregate-put-refusal c = search rules
+slice-aggregate-put-refusal c = search_lem rules
 
 put-refusal-requires : tie.Need-put-refusal-requires
-put-refusal-requires c κs = search rules
+put-refusal-requires c κs = search_lem rules
 
 array-share-prefix-out : tie.Need-array-share-prefix-out
 array-share-prefix-out c = put_within c.before.put-refusal.ensures
@@ -18,10 +18,10 @@ slice-aggregate-print : tie.Need-slice-aggregate-print
 slice-aggregate-print c = sym (length-take-le _ _ (put_within c.before.before.put-refusal.ensures))
 
 print-requires : tie.Need-print-requires
-print-requires c κs = search rules
+print-requires c κs = search_lem rules
 
 returns : tie.Need-returns
-returns c = search rules
+returns c = search_lem rules
 
 pub print-refusal-spec : {M : Type 1} → statement M
 print-refusal-spec =

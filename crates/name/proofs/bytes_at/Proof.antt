@@ -8,13 +8,13 @@ use Rattle.name.proofs.bytes_at.Tie as tie
 use borrow.Author.Rules.{rules}
 
 sub-result : tie.Need-overflow-sub-result
-sub-result c = search rules
+sub-result c = search_lem rules
 
 part-result-start : tie.Need-slice-bounds-result-start
-part-result-start c = search rules
+part-result-start c = search_lem rules
 
 part-result-end : tie.Need-slice-bounds-result-end
-part-result-end c = search rules
+part-result-end c = search_lem rules
 
 returns : tie.Need-returns
 returns c = record {
@@ -24,31 +24,31 @@ returns c = record {
 }
 
 sub-if2 : tie.Need-overflow-sub-if2
-sub-if2 c = search rules
+sub-if2 c = search_lem rules
 
 sub-result-2 : tie.Need-overflow-sub-result-2
-sub-result-2 c = search rules
+sub-result-2 c = search_lem rules
 
 part-result-start-2 : tie.Need-slice-bounds-result-start-2
-part-result-start-2 c = search rules
+part-result-start-2 c = search_lem rules
 
 part-result-end-2 : tie.Need-slice-bounds-result-end-2
-part-result-end-2 c = search rules
+part-result-end-2 c = search_lem rules
 
 returns-2 : tie.Need-returns-2
 returns-2 c = record { bytes = sym (span_clipped _ _ _ c.before.if2.true); block = refl; place = λ h. add_comm _ _ }
 
 add-end : tie.Need-overflow-add-end
-add-end c = search rules
+add-end c = search_lem rules
 
 sub-result-3 : tie.Need-overflow-sub-result-3
-sub-result-3 c = search rules
+sub-result-3 c = search_lem rules
 
 part-result-start-3 : tie.Need-slice-bounds-result-start-3
-part-result-start-3 c = search rules
+part-result-start-3 c = search_lem rules
 
 part-result-end-3 : tie.Need-slice-bounds-result-end-3
-part-result-end-3 c = search rules
+part-result-end-3 c = search_lem rules
 
 returns-3 : tie.Need-returns-3
 unfolding bytes_at

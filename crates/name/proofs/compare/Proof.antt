@@ -34,16 +34,16 @@ loop-holds c = (
 )
 
 shared-slice-read-if2 : tie.Need-shared-slice-read-if2 invariant-loop decreases-loop
-shared-slice-read-if2 c = search rules
+shared-slice-read-if2 c = search_lem rules
 
 shared-slice-read-if2-2 : tie.Need-shared-slice-read-if2-2 invariant-loop decreases-loop
-shared-slice-read-if2-2 c = search rules
+shared-slice-read-if2-2 c = search_lem rules
 
 shared-slice-read-if3 : tie.Need-shared-slice-read-if3 invariant-loop decreases-loop
-shared-slice-read-if3 c = search rules
+shared-slice-read-if3 c = search_lem rules
 
 shared-slice-read-if3-2 : tie.Need-shared-slice-read-if3-2 invariant-loop decreases-loop
-shared-slice-read-if3-2 c = search rules
+shared-slice-read-if3-2 c = search_lem rules
 
 returns : tie.Need-returns invariant-loop decreases-loop
 returns c = sym (c.before.before.before.before.before.before.before.loop.invariant.5 ∙ byte_before _ _ c.before.before.before.before.before.before.before.loop.i (omega arith) (omega arith) c.if3.true)
@@ -52,10 +52,10 @@ returns-2 : tie.Need-returns-2 invariant-loop decreases-loop
 returns-2 c = sym (c.before.before.before.before.before.before.before.loop.invariant.5 ∙ byte_after _ _ c.before.before.before.before.before.before.before.loop.i (omega arith) (omega arith) (omega (arith, c.before.before.before.if2.true, c.if3.false)))
 
 add-i : tie.Need-overflow-add-i invariant-loop decreases-loop
-add-i c = search rules
+add-i c = search_lem rules
 
 loop-less : tie.Need-loop-smaller invariant-loop decreases-loop
-loop-less c = search rules
+loop-less c = search_lem rules
 
 loop-again : tie.Need-loop-preserved invariant-loop decreases-loop
 loop-again c = (

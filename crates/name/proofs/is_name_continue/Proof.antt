@@ -5,7 +5,7 @@ use Rattle.name.proofs.is_name_continue.Tie as tie
 use borrow.Author.Rules.{rules}
 
 is-name-start-requires : tie.Need-is-name-start-requires
-is-name-start-requires c κs = search rules
+is-name-start-requires c κs = search_lem rules
 
 returns : tie.Need-returns
 returns c = sym (continue_start _ (sym c.before.is-name-start.ensures ∙ c.if1.true))

@@ -18,22 +18,22 @@ loop-holds : tie.Need-loop-init invariant-loop decreases-loop
 loop-holds c = (omega arith, paste-zero c.args.to.now 0 c.args.from.now, refl)
 
 mul-to : tie.Need-overflow-mul-to invariant-loop decreases-loop
-mul-to c = search rules
+mul-to c = search_lem rules
 
 shared-slice-read-to : tie.Need-shared-slice-read-to invariant-loop decreases-loop
-shared-slice-read-to c = search rules
+shared-slice-read-to c = search_lem rules
 
 mul-to-2 : tie.Need-overflow-mul-to-2 invariant-loop decreases-loop
-mul-to-2 c = search rules
+mul-to-2 c = search_lem rules
 
 slice-write-to : tie.Need-slice-write-to invariant-loop decreases-loop
-slice-write-to c = search rules
+slice-write-to c = search_lem rules
 
 add-copied : tie.Need-overflow-add-copied invariant-loop decreases-loop
-add-copied c = search rules
+add-copied c = search_lem rules
 
 loop-less : tie.Need-loop-smaller invariant-loop decreases-loop
-loop-less c = search rules
+loop-less c = search_lem rules
 
 loop-again : tie.Need-loop-preserved invariant-loop decreases-loop
 loop-again c =
@@ -45,7 +45,7 @@ loop-again c =
     )
 
 same_length : tie.Need-same-length invariant-loop decreases-loop
-same_length c = search rules
+same_length c = search_lem rules
 
 returns : tie.Need-returns invariant-loop decreases-loop
 returns c =

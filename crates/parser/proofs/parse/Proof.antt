@@ -19,13 +19,13 @@ returns-2 c =
     sym (parse_long a.text.now a.cards.now c.before.if1.false c.if2.true)
 
 slice-aggregate-read-document : tie.Need-slice-aggregate-read-document
-slice-aggregate-read-document c = search rules
+slice-aggregate-read-document c = search_lem rules
 
 read-document-requires : tie.Need-read-document-requires
-read-document-requires c κs = search rules
+read-document-requires c κs = search_lem rules
 
 enum-known-read : tie.Need-enum-known-read
-enum-known-read c = search rules
+enum-known-read c = search_lem rules
 
 returns-3 : tie.Need-returns-3
 unfolding unlisted
@@ -36,16 +36,16 @@ returns-3 c =
     c.before.before.before.before.before.before.before.if2.false t.0 t.1 (omega (arith, t.2, c.if3.true)))
 
 slice-aggregate-copy-words : tie.Need-slice-aggregate-copy-words
-slice-aggregate-copy-words c = search rules
+slice-aggregate-copy-words c = search_lem rules
 
 mul-copy-words : tie.Need-overflow-mul-copy-words
-mul-copy-words c = search rules
+mul-copy-words c = search_lem rules
 
 copy-words-requires : tie.Need-copy-words-requires
-copy-words-requires c κs = search rules
+copy-words-requires c κs = search_lem rules
 
 same_length : tie.Need-same-length
-same_length c = search rules
+same_length c = search_lem rules
 
 returns-4 : tie.Need-returns-4
 returns-4 c =
@@ -54,10 +54,10 @@ returns-4 c =
     c.before.before.before.before.before.before.before.before.before.before.read-document.ensures in
     copied_so a.text.now a.cards.now c.before.before.before.before.before.before.before.before.before.before.before.before.before.if1.false c.before.before.before.before.before.before.before.before.before.before.before.before.if2.false
     c.before.before.before.before.before.before.before.read.given.0.0 _ _ _ t c.before.before.before.before.before.if3.false
-    (search rules) c.before.before.copy-words.ensures
+    (search_lem rules) c.before.before.copy-words.ensures
 
 enum-known-read-2 : tie.Need-enum-known-read-2
-enum-known-read-2 c = search rules
+enum-known-read-2 c = search_lem rules
 
 returns-5 : tie.Need-returns-5
 returns-5 c =

@@ -19,7 +19,7 @@ abbrev decreases-loop : tie.decreases-loop
 decreases-loop text cards₀ c₀ cards c = length text - c.last
 
 next-token-requires : tie.Need-next-token-requires invariant-loop decreases-loop
-next-token-requires c κs = search rules
+next-token-requires c κs = search_lem rules
 
 loop-holds : tie.Need-loop-init invariant-loop decreases-loop
 loop-holds c =
@@ -30,13 +30,13 @@ loop-holds c =
     )
 
 definition-requires : tie.Need-definition-requires invariant-loop decreases-loop
-definition-requires c κs = (c.before.loop.invariant.1, search rules, search rules)
+definition-requires c κs = (c.before.loop.invariant.1, search_lem rules, search_lem rules)
 
 enum-known-e : tie.Need-enum-known-e invariant-loop decreases-loop
-enum-known-e c = search rules
+enum-known-e c = search_lem rules
 
 same_length : tie.Need-same-length invariant-loop decreases-loop
-same_length c = search rules
+same_length c = search_lem rules
 
 returns : tie.Need-returns invariant-loop decreases-loop
 returns c =
@@ -58,13 +58,13 @@ loop-again c =
     let e = c.before.before.before.before.before.before.before.definition in
     let d = rw c.before.before.before.e.given.1 at (e.ensures.0 i.0.ahead) in
     let m = rw c.before.before.before.e.given.1 at e.ensures.1 in
-    (again text c.if1.false (further text (part Definition* ∷ []) i.0 d), m.0, search rules)
+    (again text c.if1.false (further text (part Definition* ∷ []) i.0 d), m.0, search_lem rules)
 
 enum-known-e-2 : tie.Need-enum-known-e-2 invariant-loop decreases-loop
-enum-known-e-2 c = search rules
+enum-known-e-2 c = search_lem rules
 
 same-length-2 : tie.Need-same-length-2 invariant-loop decreases-loop
-same-length-2 c = search rules
+same-length-2 c = search_lem rules
 
 returns-2 : tie.Need-returns-2 invariant-loop decreases-loop
 returns-2 c =
@@ -73,10 +73,10 @@ returns-2 c =
     refused_29 c.before.before.before.before.before.before.before.before.before.before.before.args.text.now (part Definition* ∷ []) i.0 d
 
 enum-known-e-3 : tie.Need-enum-known-e-3 invariant-loop decreases-loop
-enum-known-e-3 c = search rules
+enum-known-e-3 c = search_lem rules
 
 same-length-3 : tie.Need-same-length-3 invariant-loop decreases-loop
-same-length-3 c = search rules
+same-length-3 c = search_lem rules
 
 returns-3 : tie.Need-returns-3 invariant-loop decreases-loop
 returns-3 c =

@@ -22,13 +22,13 @@ loop-holds : tie.Need-loop-init invariant-loop decreases-loop
 loop-holds c = (omega arith, omega arith, refl)
 
 shared-slice-read-if1 : tie.Need-shared-slice-read-if1 invariant-loop decreases-loop
-shared-slice-read-if1 c = search rules
+shared-slice-read-if1 c = search_lem rules
 
 add-i : tie.Need-overflow-add-i invariant-loop decreases-loop
-add-i c = search rules
+add-i c = search_lem rules
 
 loop-less : tie.Need-loop-smaller invariant-loop decreases-loop
-loop-less c = search rules
+loop-less c = search_lem rules
 
 loop-again : tie.Need-loop-preserved invariant-loop decreases-loop
 loop-again c = (
@@ -41,10 +41,10 @@ loop-again c = (
 )
 
 lexeme-at-requires : tie.Need-lexeme-at-requires invariant-loop decreases-loop
-lexeme-at-requires c κs = search rules
+lexeme-at-requires c κs = search_lem rules
 
 enum-known-size : tie.Need-enum-known-size invariant-loop decreases-loop
-enum-known-size c = search rules
+enum-known-size c = search_lem rules
 
 add-i-2 : tie.Need-overflow-add-i-2 invariant-loop decreases-loop
 add-i-2 c =
@@ -75,7 +75,7 @@ loop-again-2 c =
     )
 
 enum-known-sort : tie.Need-enum-known-sort invariant-loop decreases-loop
-enum-known-sort c = search rules
+enum-known-sort c = search_lem rules
 
 add-t13 : tie.Need-overflow-add-t13 invariant-loop decreases-loop
 add-t13 c =
@@ -107,10 +107,10 @@ returns c =
     )
 
 enum_told : tie.Need-enum-told invariant-loop decreases-loop
-enum_told c = search rules
+enum_told c = search_lem rules
 
 stopped-requires : tie.Need-stopped-requires invariant-loop decreases-loop
-stopped-requires c κs = search rules
+stopped-requires c κs = search_lem rules
 
 returns-2 : tie.Need-returns-2 invariant-loop decreases-loop
 returns-2 c =
@@ -132,7 +132,7 @@ returns-2 c =
     )
 
 stopped-requires-2 : tie.Need-stopped-requires-2 invariant-loop decreases-loop
-stopped-requires-2 c κs = search rules
+stopped-requires-2 c κs = search_lem rules
 
 returns-3 : tie.Need-returns-3 invariant-loop decreases-loop
 returns-3 c =

@@ -7,10 +7,10 @@ use Rattle.parser_values.proofs.name_and_colon.Statement.{statement}
 use Rattle.parser_values.proofs.name_and_colon.Tie as tie
 
 take-requires : tie.Need-take-requires
-take-requires c κs = search rules
+take-requires c κs = search_lem rules
 
 enum-known-named : tie.Need-enum-known-named
-enum-known-named c = search rules
+enum-known-named c = search_lem rules
 
 returns : tie.Need-returns
 returns c =

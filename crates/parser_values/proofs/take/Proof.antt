@@ -18,7 +18,7 @@ returns-2 c =
     (λ h level l. lacks_token a.text.now level a.c h a.lo a.hi (above a.lo a.hi a.c.sort c.if2.true) [], omega arith)
 
 next-token-requires : tie.Need-next-token-requires
-next-token-requires c κs = search rules
+next-token-requires c κs = search_lem rules
 
 returns-3 : tie.Need-returns-3
 returns-3 c =

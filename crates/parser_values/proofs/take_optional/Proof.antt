@@ -7,7 +7,7 @@ use Rattle.parser_values.proofs.take_optional.Statement.{statement}
 use Rattle.parser_values.proofs.take_optional.Tie as tie
 
 next-token-requires : tie.Need-next-token-requires
-next-token-requires c κs = search rules
+next-token-requires c κs = search_lem rules
 
 returns : tie.Need-returns
 returns c =

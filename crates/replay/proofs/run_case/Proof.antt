@@ -4,73 +4,73 @@ use Rattle.replay.proofs.run_case.Statement.{statement}
 use Rattle.replay.proofs.run_case.Tie as tie
 
 slice-aggregate-put-name : tie.Need-slice-aggregate-put-name
-slice-aggregate-put-name c = search rules
+slice-aggregate-put-name c = search_lem rules
 
 slice-aggregate-put-name-2 : tie.Need-slice-aggregate-put-name-2
-slice-aggregate-put-name-2 c = search rules
+slice-aggregate-put-name-2 c = search_lem rules
 
 slice-aggregate-put-name-3 : tie.Need-slice-aggregate-put-name-3
-slice-aggregate-put-name-3 c = search rules
+slice-aggregate-put-name-3 c = search_lem rules
 
 slice-aggregate-put-name-4 : tie.Need-slice-aggregate-put-name-4
-slice-aggregate-put-name-4 c = search rules
+slice-aggregate-put-name-4 c = search_lem rules
 
 put-name-requires : tie.Need-put-name-requires
-put-name-requires c κs = search rules
+put-name-requires c κs = search_lem rules
 
 slice-aggregate-put-bytes : tie.Need-slice-aggregate-put-bytes
-slice-aggregate-put-bytes c = search rules
+slice-aggregate-put-bytes c = search_lem rules
 
 slice-aggregate-put-bytes-2 : tie.Need-slice-aggregate-put-bytes-2
-slice-aggregate-put-bytes-2 c = search rules
+slice-aggregate-put-bytes-2 c = search_lem rules
 
 put-bytes-requires : tie.Need-put-bytes-requires
-put-bytes-requires c κs = search rules
+put-bytes-requires c κs = search_lem rules
 
 slice-aggregate-first-bytes : tie.Need-slice-aggregate-first-bytes
-slice-aggregate-first-bytes c = search rules
+slice-aggregate-first-bytes c = search_lem rules
 
 first-bytes-requires : tie.Need-first-bytes-requires
-first-bytes-requires c κs = search rules
+first-bytes-requires c κs = search_lem rules
 
 is-missing-requires : tie.Need-is-missing-requires
-is-missing-requires c κs = search rules
+is-missing-requires c κs = search_lem rules
 
 returns : tie.Need-returns
-returns c = search rules
+returns c = search_lem rules
 
 file-bytes-requires : tie.Need-file-bytes-requires
-file-bytes-requires c κs = search rules
+file-bytes-requires c κs = search_lem rules
 
 slice-aggregate-read-file : tie.Need-slice-aggregate-read-file
-slice-aggregate-read-file c = search rules
+slice-aggregate-read-file c = search_lem rules
 
 slice-aggregate-read-file-2 : tie.Need-slice-aggregate-read-file-2
-slice-aggregate-read-file-2 c = search rules
+slice-aggregate-read-file-2 c = search_lem rules
 
 read-file-requires : tie.Need-read-file-requires
-read-file-requires c κs = search rules
+read-file-requires c κs = search_lem rules
 
 enum-known-size : tie.Need-enum-known-size
-enum-known-size c = search rules
+enum-known-size c = search_lem rules
 
 enum_told : tie.Need-enum-told
-enum_told c = search rules
+enum_told c = search_lem rules
 
 print-unread-requires : tie.Need-print-unread-requires
-print-unread-requires c κs = search rules
+print-unread-requires c κs = search_lem rules
 
 returns-2 : tie.Need-returns-2
-returns-2 c = search rules
+returns-2 c = search_lem rules
 
 first-bytes-requires-2 : tie.Need-first-bytes-requires-2
-first-bytes-requires-2 c κs = search rules
+first-bytes-requires-2 c κs = search_lem rules
 
 slice-aggregate-first-bytes-2 : tie.Need-slice-aggregate-first-bytes-2
-slice-aggregate-first-bytes-2 c = search rules
+slice-aggregate-first-bytes-2 c = search_lem rules
 
 first-bytes-requires-3 : tie.Need-first-bytes-requires-3
-first-bytes-requires-3 c κs = search rules
+first-bytes-requires-3 c κs = search_lem rules
 
 run-lines-requires : tie.Need-run-lines-requires
 run-lines-requires c κs =
@@ -80,10 +80,10 @@ run-lines-requires c κs =
     let w = within c.before.before.before.before.size.given.1 c.before.before.before.before.before.before.before.read-file.ensures in
     let e = far.file-bytes.ensures in
     let q = far.before.before.before.before.before.before.before.before.before.before.put-name.ensures.1 in
-    search rules
+    search_lem rules
 
 returns-3 : tie.Need-returns-3
-returns-3 c = search rules
+returns-3 c = search_lem rules
 
 pub run-case-spec : {M : Type 1} → statement M
 run-case-spec =

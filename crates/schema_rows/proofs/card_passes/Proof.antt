@@ -10,13 +10,13 @@ returns : tie.Need-returns
 returns c = card_schema _ _ _ _ c.before.if1.true c.if2.true
 
 is-default-root-requires : tie.Need-is-default-root-requires
-is-default-root-requires c κs = search rules
+is-default-root-requires c κs = search_lem rules
 
 returns-2 : tie.Need-returns-2
 returns-2 c = c.is-default-root.ensures ∙ card_default _ _ _ _ c.before.before.if1.true c.before.if2.false
 
 cards-used-requires : tie.Need-cards-used-requires
-cards-used-requires c κs = search rules
+cards-used-requires c κs = search_lem rules
 
 returns-3 : tie.Need-returns-3
 returns-3 c =
@@ -25,10 +25,10 @@ returns-3 c =
     (omega arith)
 
 card-kind-requires : tie.Need-card-kind-requires
-card-kind-requires c κs = search rules
+card-kind-requires c κs = search_lem rules
 
 wanted-kind-requires : tie.Need-wanted-kind-requires
-wanted-kind-requires c κs = search rules
+wanted-kind-requires c κs = search_lem rules
 
 returns-4 : tie.Need-returns-4
 returns-4 c =

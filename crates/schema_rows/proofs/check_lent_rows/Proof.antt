@@ -36,25 +36,25 @@ unfolding is_standing
 loop-holds c = (omega arith, marked_start _ refl, refl, whole _ _ _ c.before.before.before.before.requires c.if1.false)
 
 mul-what : tie.Need-overflow-mul-what invariant-loop decreases-loop
-mul-what c = search rules
+mul-what c = search_lem rules
 
 mul-what-2 : tie.Need-overflow-mul-what-2 invariant-loop decreases-loop
-mul-what-2 c = search rules
+mul-what-2 c = search_lem rules
 
 shared-slice-read-what : tie.Need-shared-slice-read-what invariant-loop decreases-loop
-shared-slice-read-what c = search rules
+shared-slice-read-what c = search_lem rules
 
 mul-card : tie.Need-overflow-mul-card invariant-loop decreases-loop
-mul-card c = search rules
+mul-card c = search_lem rules
 
 add-card : tie.Need-overflow-add-card invariant-loop decreases-loop
-add-card c = search rules
+add-card c = search_lem rules
 
 mul-card-2 : tie.Need-overflow-mul-card-2 invariant-loop decreases-loop
-mul-card-2 c = search rules
+mul-card-2 c = search_lem rules
 
 shared-slice-read-card : tie.Need-shared-slice-read-card invariant-loop decreases-loop
-shared-slice-read-card c = search rules
+shared-slice-read-card c = search_lem rules
 
 row-fits-requires : tie.Need-row-fits-requires invariant-loop decreases-loop
 row-fits-requires c κs = c.before.before.before.loop.invariant.2
@@ -65,35 +65,35 @@ returns-2 c =
     ∙ walk_order _ _ _ _ _ _ c.before.before.before.before.loop-test.true (sym c.before.row_fits.ensures ∙ not-true _ c.if2.true))
 
 mul-row-passes : tie.Need-overflow-mul-row-passes invariant-loop decreases-loop
-mul-row-passes c = search rules
+mul-row-passes c = search_lem rules
 
 add-row-passes : tie.Need-overflow-add-row-passes invariant-loop decreases-loop
-add-row-passes c = search rules
+add-row-passes c = search_lem rules
 
 mul-row-passes-2 : tie.Need-overflow-mul-row-passes-2 invariant-loop decreases-loop
-mul-row-passes-2 c = search rules
+mul-row-passes-2 c = search_lem rules
 
 shared-slice-read-row-passes : tie.Need-shared-slice-read-row-passes invariant-loop decreases-loop
-shared-slice-read-row-passes c = search rules
+shared-slice-read-row-passes c = search_lem rules
 
 row-passes-requires : tie.Need-row-passes-requires invariant-loop decreases-loop
-row-passes-requires c κs = search rules
+row-passes-requires c κs = search_lem rules
 
 returns-3 : tie.Need-returns-3 invariant-loop decreases-loop
 returns-3 c =
     sym (c.before.before.before.before.before.before.before.before.loop.invariant.3
     ∙ walk_row _ _ _ _ _ _ c.before.before.before.before.before.before.before.loop-test.true
-    (sym c.before.row_passes_lem.ensures ∙ not-true _ c.if3.true))
+    (sym c.before.row-passes.ensures ∙ not-true _ c.if3.true))
 
 slice-aggregate-mark : tie.Need-slice-aggregate-mark invariant-loop decreases-loop
-slice-aggregate-mark c = search rules
+slice-aggregate-mark c = search_lem rules
 
 mark-requires : tie.Need-mark-requires invariant-loop decreases-loop
 mark-requires c κs =
     mark_capacity _ _ _ 0 0 _ c.before.before.before.before.before.before.before.before.loop-test.true _
     c.before.before.before.before.before.before.before.before.before.loop.invariant.1
     c.before.before.before.before.before.before.before.before.before.before.before.before.before.before.requires
-    (sym c.before.before.row_passes_lem.ensures ∙ not-false _ c.before.if3.false)
+    (sym c.before.before.row-passes.ensures ∙ not-false _ c.before.if3.false)
 
 returns-4 : tie.Need-returns-4 invariant-loop decreases-loop
 returns-4 c =
@@ -101,17 +101,17 @@ returns-4 c =
     ∙ walk_card _ _ _ _ _ _ c.before.before.before.before.before.before.before.before.before.before.before.loop-test.true _
     c.before.before.before.before.before.before.before.before.before.before.before.before.loop.invariant.1
     c.before.before.before.before.before.before.before.before.before.before.before.before.before.before.before.before.before.requires
-    (sym c.before.before.before.before.before.row_passes_lem.ensures ∙ not-false _ c.before.before.before.before.if3.false)
+    (sym c.before.before.before.before.before.row-passes.ensures ∙ not-false _ c.before.before.before.before.if3.false)
     (sym c.before.before.mark.ensures.0 ∙ not-true _ c.if4.true))
 
 place-after-requires : tie.Need-place-after-requires invariant-loop decreases-loop
 place-after-requires c κs = c.before.before.before.before.before.before.before.before.before.before.before.before.loop.invariant.2
 
 add-i : tie.Need-overflow-add-i invariant-loop decreases-loop
-add-i c = search rules
+add-i c = search_lem rules
 
 loop-less : tie.Need-loop-smaller invariant-loop decreases-loop
-loop-less c = search rules
+loop-less c = search_lem rules
 
 loop-again : tie.Need-loop-preserved invariant-loop decreases-loop
 loop-again c =
@@ -120,7 +120,7 @@ loop-again c =
     let t = far.loop-test.true in
     let f = sym c.before.before.before.before.before.before.before.before.before.row_fits.ensures
     ∙ not-false _ c.before.before.before.before.before.before.before.before.if2.false in
-    let p = sym c.before.before.before.before.before.before.row_passes_lem.ensures ∙ not-false _ c.before.before.before.before.before.if3.false in
+    let p = sym c.before.before.before.before.before.before.row-passes.ensures ∙ not-false _ c.before.before.before.before.before.if3.false in
     let g = sym c.before.before.before.mark.ensures.0 ∙ not-false _ c.before.if4.false in
     let e = c.place_after.ensures in (
       omega arith,

@@ -7,13 +7,13 @@ use Rattle.schema_rows.proofs.row_passes.Tie as tie
 use borrow.Author.Rules.{rules}
 
 card-passes-requires : tie.Need-card-passes-requires
-card-passes-requires c κs = search rules
+card-passes-requires c κs = search_lem rules
 
 returns : tie.Need-returns
 returns c = row_card _ _ _ (sym (card_is _ _ _ _ _) ∙ sym c.before.card_passes_lem.ensures ∙ not-true _ c.if1.true)
 
 origin-passes-requires : tie.Need-origin-passes-requires
-origin-passes-requires c κs = search rules
+origin-passes-requires c κs = search_lem rules
 
 returns-2 : tie.Need-returns-2
 returns-2 c =
@@ -21,7 +21,7 @@ returns-2 c =
     (sym (origin_is _ _ _ _ _) ∙ sym c.before.origin_passes_lem.ensures ∙ not-true _ c.if2.true)
 
 default-root-passes-requires : tie.Need-default-root-passes-requires
-default-root-passes-requires c κs = search rules
+default-root-passes-requires c κs = search_lem rules
 
 returns-3 : tie.Need-returns-3
 returns-3 c =

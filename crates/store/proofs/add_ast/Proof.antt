@@ -9,16 +9,16 @@ use Rattle.store.proofs.add_ast.Tie as tie
 use borrow.Author.Rules.{rules}
 
 check-store-requires : tie.Need-check-store-requires
-check-store-requires c κs = search rules
+check-store-requires c κs = search_lem rules
 
 enum-known-number : tie.Need-enum-known-number
-enum-known-number c = search rules
+enum-known-number c = search_lem rules
 
 same_length : tie.Need-same-length
-same_length c = search rules
+same_length c = search_lem rules
 
 same-length-2 : tie.Need-same-length-2
-same-length-2 c = search rules
+same-length-2 c = search_lem rules
 
 returns : tie.Need-returns
 returns c =
@@ -29,7 +29,7 @@ returns c =
     (refused_number _ _ _ store.check_store.ensures _ c.before.number.given.1)
 
 enum_told : tie.Need-enum-told
-enum_told c = search rules
+enum_told c = search_lem rules
 
 check-filing-requires : tie.Need-check-filing-requires
 check-filing-requires c κs =
@@ -37,10 +37,10 @@ check-filing-requires c κs =
     (omega (arith, s.words_long), s.counts.text, s.counts.cards)
 
 enum-known-answer : tie.Need-enum-known-answer
-enum-known-answer c = search rules
+enum-known-answer c = search_lem rules
 
 enum-told-2 : tie.Need-enum-told-2
-enum-told-2 c = search rules
+enum-told-2 c = search_lem rules
 
 file-requires : tie.Need-file-requires
 file-requires c κs =
@@ -52,10 +52,10 @@ file-requires c κs =
     (sym filing.check-filing.ensures ∙ ap check_option c.before.before.enum-told2.given.1)
 
 same-length-3 : tie.Need-same-length-3
-same-length-3 c = search rules
+same-length-3 c = search_lem rules
 
 same-length-4 : tie.Need-same-length-4
-same-length-4 c = search rules
+same-length-4 c = search_lem rules
 
 returns-2 : tie.Need-returns-2
 returns-2 c =
@@ -69,10 +69,10 @@ returns-2 c =
     ∙ ap check_option c.before.answer.given.1)
 
 same-length-5 : tie.Need-same-length-5
-same-length-5 c = search rules
+same-length-5 c = search_lem rules
 
 same-length-6 : tie.Need-same-length-6
-same-length-6 c = search rules
+same-length-6 c = search_lem rules
 
 returns-3 : tie.Need-returns-3
 returns-3 c =

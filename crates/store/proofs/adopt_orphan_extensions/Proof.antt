@@ -5,10 +5,10 @@ use Rattle.store.proofs.adopt_orphan_extensions.Tie as tie
 use borrow.Author.Rules.{rules}
 
 turn-on-requires : tie.Need-turn-on-requires
-turn-on-requires c κs = search rules
+turn-on-requires c κs = search_lem rules
 
 same_length : tie.Need-same-length
-same_length c = search rules
+same_length c = search_lem rules
 
 returns : tie.Need-returns
 unfolding adopt_orphan_extensions adopting_words

@@ -5,10 +5,10 @@ use Rattle.store.proofs.ignore_builtin_redefinitions.Tie as tie
 use borrow.Author.Rules.{rules}
 
 turn-on-requires : tie.Need-turn-on-requires
-turn-on-requires c κs = search rules
+turn-on-requires c κs = search_lem rules
 
 same_length : tie.Need-same-length
-same_length c = search rules
+same_length c = search_lem rules
 
 returns : tie.Need-returns
 unfolding ignore_builtin_redefinitions ignoring_words

@@ -18,10 +18,10 @@ returns-2 c =
     open_short_words e.text.now e.words.now e.lent.now e.cards.now c.before.if1.false c.if2.true
 
 check-document-requires : tie.Need-check-document-requires
-check-document-requires c κs = search rules
+check-document-requires c κs = search_lem rules
 
 enum-known-answer : tie.Need-enum-known-answer
-enum-known-answer c = search rules
+enum-known-answer c = search_lem rules
 
 returns-3 : tie.Need-returns-3
 returns-3 c =
@@ -31,13 +31,13 @@ returns-3 c =
     (opening_faulty _ _ _ (sym fault.check-document.ensures ∙ ap check_option c.before.answer.given.1))
 
 enum_told : tie.Need-enum-told
-enum_told c = search rules
+enum_told c = search_lem rules
 
 check-built-in-requires : tie.Need-check-built-in-requires
-check-built-in-requires c κs = search rules
+check-built-in-requires c κs = search_lem rules
 
 enum-known-answer-2 : tie.Need-enum-known-answer-2
-enum-known-answer-2 c = search rules
+enum-known-answer-2 c = search_lem rules
 
 returns-4 : tie.Need-returns-4
 returns-4 c =
@@ -49,13 +49,13 @@ returns-4 c =
     (sym barred.check-built-in.ensures ∙ ap check_option c.before.answer2.given.1))
 
 enum-told-2 : tie.Need-enum-told-2
-enum-told-2 c = search rules
+enum-told-2 c = search_lem rules
 
 check-capacity-requires : tie.Need-check-capacity-requires
-check-capacity-requires c κs = search rules
+check-capacity-requires c κs = search_lem rules
 
 enum-known-number : tie.Need-enum-known-number
-enum-known-number c = search rules
+enum-known-number c = search_lem rules
 
 returns-5 : tie.Need-returns-5
 returns-5 c =
@@ -69,7 +69,7 @@ returns-5 c =
     (sym (ap capacity_option c.before.number.given.1) ∙ room.check-capacity.ensures))
 
 enum-told-3 : tie.Need-enum-told-3
-enum-told-3 c = search rules
+enum-told-3 c = search_lem rules
 
 file-built-in-requires : tie.Need-file-built-in-requires
 file-built-in-requires c κs =
@@ -80,10 +80,10 @@ file-built-in-requires c κs =
     fault.before.if2.false (sym (ap capacity_option c.before.before.enum-told3.given.1) ∙ room.check-capacity.ensures)
 
 same_length : tie.Need-same-length
-same_length c = search rules
+same_length c = search_lem rules
 
 same-length-2 : tie.Need-same-length-2
-same-length-2 c = search rules
+same-length-2 c = search_lem rules
 
 returns-6 : tie.Need-returns-6
 returns-6 c =

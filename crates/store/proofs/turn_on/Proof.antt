@@ -6,13 +6,13 @@ use Rattle.store.proofs.turn_on.Tie as tie
 use borrow.Author.Rules.{rules}
 
 check-store-requires : tie.Need-check-store-requires
-check-store-requires c κs = search rules
+check-store-requires c κs = search_lem rules
 
 enum-known-number : tie.Need-enum-known-number
-enum-known-number c = search rules
+enum-known-number c = search_lem rules
 
 same_length : tie.Need-same-length
-same_length c = search rules
+same_length c = search_lem rules
 
 returns : tie.Need-returns
 returns c =
@@ -22,7 +22,7 @@ returns c =
     (refused_number _ _ _ k _ c.before.number.given.1)
 
 enum_told : tie.Need-enum-told
-enum_told c = search rules
+enum_told c = search_lem rules
 
 mul_words : tie.Need-overflow-mul-words
 mul_words c = omega (arith, c.before.before.before.before.before.before.requires)
@@ -33,7 +33,7 @@ slice-write-words c =
     omega (arith, s.words_long, c.before.before.before.before.before.before.requires)
 
 same-length-2 : tie.Need-same-length-2
-same-length-2 c = search rules
+same-length-2 c = search_lem rules
 
 returns-2 : tie.Need-returns-2
 returns-2 c =

@@ -6,19 +6,19 @@ use Rattle.store_built_in.proofs.check_built_in.Tie as tie
 use borrow.Author.Rules.{rules}
 
 first-barred-requires : tie.Need-first-barred-requires
-first-barred-requires c κs = search rules
+first-barred-requires c κs = search_lem rules
 
 enum-known-i : tie.Need-enum-known-i
-enum-known-i c = search rules
+enum-known-i c = search_lem rules
 
 enum_told : tie.Need-enum-told
-enum_told c = search rules
+enum_told c = search_lem rules
 
 first-error-requires : tie.Need-first-error-requires
-first-error-requires c κs = search rules
+first-error-requires c κs = search_lem rules
 
 refusal-requires : tie.Need-refusal-requires
-refusal-requires c κs = search rules
+refusal-requires c κs = search_lem rules
 
 returns : tie.Need-returns
 returns c =
@@ -26,7 +26,7 @@ returns c =
     ∙ sym (zero_alone _ _ _ c.before.before.before.before.first-barred.ensures (ap found_at c.before.before.enum_told.given.1))
 
 refusal-requires-2 : tie.Need-refusal-requires-2
-refusal-requires-2 c κs = search rules
+refusal-requires-2 c κs = search_lem rules
 
 returns-2 : tie.Need-returns-2
 unfolding six_at

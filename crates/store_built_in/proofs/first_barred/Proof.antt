@@ -14,31 +14,31 @@ abbrev decreases-loop : tie.decreases-loop
 decreases-loop cards count i₀ i = count - i
 
 loop-holds : tie.Need-loop-init invariant-loop decreases-loop
-loop-holds c = (search rules, barred_all _)
+loop-holds c = (search_lem rules, barred_all _)
 
 kind-at-requires : tie.Need-kind-at-requires invariant-loop decreases-loop
-kind-at-requires c κs = search rules
+kind-at-requires c κs = search_lem rules
 
 is-barred-requires : tie.Need-is-barred-requires invariant-loop decreases-loop
-is-barred-requires c κs = search rules
+is-barred-requires c κs = search_lem rules
 
 returns : tie.Need-returns invariant-loop decreases-loop
 returns c =
     let turn = c.before.before.before in
-    let told = c.before.is-barred.ensures ∙ ap is_barred c.before.before.kind_at_lem.ensures in
+    let told = c.before.is-barred.ensures ∙ ap is_barred c.before.before.kind_at.ensures in
     sym (turn.before.loop.invariant.1 ∙ barred_hit _ _ _ _ turn.loop-test.true refl told c.if1.true)
 
 add-i : tie.Need-overflow-add-i invariant-loop decreases-loop
-add-i c = search rules
+add-i c = search_lem rules
 
 loop-less : tie.Need-loop-smaller invariant-loop decreases-loop
-loop-less c = search rules
+loop-less c = search_lem rules
 
 loop-again : tie.Need-loop-preserved invariant-loop decreases-loop
 loop-again c =
     let turn = c.before.before.before in
-    let told = c.before.is-barred.ensures ∙ ap is_barred c.before.before.kind_at_lem.ensures in
-    (search rules, turn.before.loop.invariant.1 ∙ barred_next _ _ _ _ turn.loop-test.true refl told c.if1.false)
+    let told = c.before.is-barred.ensures ∙ ap is_barred c.before.before.kind_at.ensures in
+    (search_lem rules, turn.before.loop.invariant.1 ∙ barred_next _ _ _ _ turn.loop-test.true refl told c.if1.false)
 
 returns-2 : tie.Need-returns-2 invariant-loop decreases-loop
 returns-2 c = sym (c.before.loop.invariant.1 ∙ barred_end _ _ c.loop-test.false)

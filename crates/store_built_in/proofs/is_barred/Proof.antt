@@ -14,7 +14,7 @@ returns-3 : tie.Need-returns-3
 returns-3 c = sym (barred_schema _ c.if3.true)
 
 is-extension-requires : tie.Need-is-extension-requires
-is-extension-requires c κs = search rules
+is-extension-requires c κs = search_lem rules
 
 returns-4 : tie.Need-returns-4
 returns-4 c = barred_extension _ _ c.before.before.before.if1.false c.before.before.if2.false c.before.if3.false c.is-extension.ensures

@@ -26,7 +26,7 @@ abbrev decreases-loop : tie.decreases-loop
 decreases-loop text words documents cards₀ row₀ cards row = documents - row
 
 shared-slice-read-documents : tie.Need-shared-slice-read-documents invariant-loop decreases-loop
-shared-slice-read-documents c = search rules
+shared-slice-read-documents c = search_lem rules
 
 cast-documents : tie.Need-overflow-cast-documents invariant-loop decreases-loop
 cast-documents c = omega (arith, c.shared-slice-known3.given 0)
@@ -39,43 +39,43 @@ loop-holds c =
     (omega arith, k.few, p.long, k.cards, cleared_none _ _ (rows_held _ p.rows).counted)
 
 mul-i : tie.Need-overflow-mul-i invariant-loop decreases-loop
-mul-i c = search rules
+mul-i c = search_lem rules
 
 add-i : tie.Need-overflow-add-i invariant-loop decreases-loop
-add-i c = search rules
+add-i c = search_lem rules
 
 add-text-at : tie.Need-overflow-add-text-at invariant-loop decreases-loop
-add-text-at c = search rules
+add-text-at c = search_lem rules
 
 mul-text-at : tie.Need-overflow-mul-text-at invariant-loop decreases-loop
-mul-text-at c = search rules
+mul-text-at c = search_lem rules
 
 shared-slice-read-text-at : tie.Need-shared-slice-read-text-at invariant-loop decreases-loop
-shared-slice-read-text-at c = search rules
+shared-slice-read-text-at c = search_lem rules
 
 cast-text-at : tie.Need-overflow-cast-text-at invariant-loop decreases-loop
 cast-text-at c = omega (arith, c.shared-slice-known4.given (documents_at + document_words * c.before.before.loop.row + 0))
 
 add-text-len : tie.Need-overflow-add-text-len invariant-loop decreases-loop
-add-text-len c = search rules
+add-text-len c = search_lem rules
 
 mul-text-len : tie.Need-overflow-mul-text-len invariant-loop decreases-loop
-mul-text-len c = search rules
+mul-text-len c = search_lem rules
 
 shared-slice-read-text-len : tie.Need-shared-slice-read-text-len invariant-loop decreases-loop
-shared-slice-read-text-len c = search rules
+shared-slice-read-text-len c = search_lem rules
 
 cast-text-len : tie.Need-overflow-cast-text-len invariant-loop decreases-loop
 cast-text-len c = omega (arith, c.shared-slice-known5.given (documents_at + document_words * c.before.before.before.loop.row + 1))
 
 add-count : tie.Need-overflow-add-count invariant-loop decreases-loop
-add-count c = search rules
+add-count c = search_lem rules
 
 mul-count : tie.Need-overflow-mul-count invariant-loop decreases-loop
-mul-count c = search rules
+mul-count c = search_lem rules
 
 shared-slice-read-count : tie.Need-shared-slice-read-count invariant-loop decreases-loop
-shared-slice-read-count c = search rules
+shared-slice-read-count c = search_lem rules
 
 cast-count : tie.Need-overflow-cast-count invariant-loop decreases-loop
 cast-count c = omega (arith, c.shared-slice-known6.given (documents_at + document_words * c.before.before.before.before.loop.row + 2))
@@ -119,13 +119,13 @@ part-check-cards-end : tie.Need-slice-bounds-check-cards-end invariant-loop decr
 part-check-cards-end c = omega (arith, (turn c).loop.invariant, room c)
 
 check-cards-requires : tie.Need-check-cards-requires invariant-loop decreases-loop
-check-cards-requires c κs = search rules
+check-cards-requires c κs = search_lem rules
 
 enum_told : tie.Need-enum-told invariant-loop decreases-loop
-enum_told c = search rules
+enum_told c = search_lem rules
 
 enum-told-2 : tie.Need-enum-told-2 invariant-loop decreases-loop
-enum-told-2 c = search rules
+enum-told-2 c = search_lem rules
 
 returns : tie.Need-returns invariant-loop decreases-loop
 unfolding document_count

@@ -14,7 +14,7 @@ returns-2 : tie.Need-returns-2
 returns-2 c = short_words _ _ c.before.if1.false c.if2.true
 
 counts-sound-requires : tie.Need-counts-sound-requires
-counts-sound-requires c κs = search rules
+counts-sound-requires c κs = search_lem rules
 
 returns-3 : tie.Need-returns-3
 returns-3 c =

@@ -11,25 +11,25 @@ use Rattle.store_check.proofs.zero_sound.Tie as tie
 use borrow.Author.Rules.{rules}
 
 add-len : tie.Need-overflow-add-len
-add-len c = search rules
+add-len c = search_lem rules
 
 mul-len : tie.Need-overflow-mul-len
-mul-len c = search rules
+mul-len c = search_lem rules
 
 shared-slice-read-len : tie.Need-shared-slice-read-len
-shared-slice-read-len c = search rules
+shared-slice-read-len c = search_lem rules
 
 cast-len : tie.Need-overflow-cast-len
 cast-len c = omega (arith, c.shared-slice-known3.given (documents_at + 1))
 
 add-end : tie.Need-overflow-add-end
-add-end c = search rules
+add-end c = search_lem rules
 
 mul-end : tie.Need-overflow-mul-end
-mul-end c = search rules
+mul-end c = search_lem rules
 
 shared-slice-read-end : tie.Need-shared-slice-read-end
-shared-slice-read-end c = search rules
+shared-slice-read-end c = search_lem rules
 
 cast-end : tie.Need-overflow-cast-end
 cast-end c = omega (arith, c.shared-slice-known4.given (documents_at + 2))
@@ -46,10 +46,10 @@ slice-aggregate-check-built-in c =
     sym (length-take-le _ _ (omega (arith, s.requires.0, zero_text s.args.text.now _ s.requires.1)))
 
 sub-check-built-in : tie.Need-overflow-sub-check-built-in
-sub-check-built-in c = search rules
+sub-check-built-in c = search_lem rules
 
 part-check-built-in-start : tie.Need-slice-bounds-check-built-in-start
-part-check-built-in-start c = search rules
+part-check-built-in-start c = search_lem rules
 
 part-check-built-in-end : tie.Need-slice-bounds-check-built-in-end
 part-check-built-in-end c =
@@ -57,13 +57,13 @@ part-check-built-in-end c =
     omega (arith, s.requires.1.long, zero_cards s.args.text.now _ s.requires.1)
 
 check-built-in-requires : tie.Need-check-built-in-requires
-check-built-in-requires c κs = search rules
+check-built-in-requires c κs = search_lem rules
 
 enum_told : tie.Need-enum-told
-enum_told c = search rules
+enum_told c = search_lem rules
 
 enum-told-2 : tie.Need-enum-told-2
-enum-told-2 c = search rules
+enum-told-2 c = search_lem rules
 
 returns : tie.Need-returns
 returns c =

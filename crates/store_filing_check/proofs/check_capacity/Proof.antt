@@ -8,13 +8,13 @@ use Rattle.store_filing_check.proofs.check_capacity.Tie as tie
 use borrow.Author.Rules.{rules}
 
 sub-if1 : tie.Need-overflow-sub-if1
-sub-if1 c = search rules
+sub-if1 c = search_lem rules
 
 returns : tie.Need-returns
 returns c = let e = c.before.args in text_full e.text-used e.cards-used (length e.lent.now) (length e.cards.now / card_words) (omega arith)
 
 sub-if2 : tie.Need-overflow-sub-if2
-sub-if2 c = search rules
+sub-if2 c = search_lem rules
 
 returns-2 : tie.Need-returns-2
 returns-2 c =

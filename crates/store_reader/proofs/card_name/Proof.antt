@@ -4,7 +4,7 @@ use Rattle.store_reader.proofs.card_name.Tie as tie
 use borrow.Author.Rules.{rules}
 
 read-name-requires : tie.Need-read-name-requires
-read-name-requires c κs = search rules
+read-name-requires c κs = search_lem rules
 
 returns : tie.Need-returns
 unfolding card_name

@@ -4,7 +4,7 @@ use Rattle.api.proofs.refusals.build_refusal.Statement.{statement}
 use Rattle.api.proofs.refusals.build_refusal.Tie as tie
 
 store-refusal-requires : tie.Need-store-refusal-requires
-store-refusal-requires c κs = search rules
+store-refusal-requires c κs = search_lem rules
 
 returns : tie.Need-returns
 returns c = before_capacity _ _ _ _ _ c.before.store-refusal.ensures c.if1.true

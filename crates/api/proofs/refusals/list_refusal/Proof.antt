@@ -4,7 +4,7 @@ use Rattle.api.proofs.refusals.list_refusal.Tie as tie
 use borrow.Author.Rules.{rules}
 
 lookup-refusal-requires : tie.Need-lookup-refusal-requires
-lookup-refusal-requires c κs = search rules
+lookup-refusal-requires c κs = search_lem rules
 
 returns : tie.Need-returns
 returns c = before_capacity _ _ _ _ _ _ c.before.lookup-refusal.ensures c.if1.true

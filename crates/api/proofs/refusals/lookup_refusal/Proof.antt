@@ -7,7 +7,7 @@ use Rattle.api.proofs.refusals.lookup_refusal.Statement.{statement}
 use Rattle.api.proofs.refusals.lookup_refusal.Tie as tie
 
 store-refusal-requires : tie.Need-store-refusal-requires
-store-refusal-requires c κs = search rules
+store-refusal-requires c κs = search_lem rules
 
 returns : tie.Need-returns
 returns c = store_refused _ _ _ _ c.before.store-refusal.ensures c.if1.true

@@ -5,7 +5,7 @@ use Rattle.api.proofs.refusals.refused_drawing.Tie as tie
 
 returns : tie.Need-returns
 unfolding unbuilt
-returns c = search rules
+returns c = search_lem rules
 
 pub refused-drawing-spec : {M : Type 1} → statement M
 refused-drawing-spec = tie.close (tie.spec returns)

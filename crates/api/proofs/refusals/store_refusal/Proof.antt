@@ -5,13 +5,13 @@ use Rattle.api.proofs.refusals.store_refusal.Statement.{statement}
 use Rattle.api.proofs.refusals.store_refusal.Tie as tie
 
 check-store-requires : tie.Need-check-store-requires
-check-store-requires c κs = search rules
+check-store-requires c κs = search_lem rules
 
 enum-known-number : tie.Need-enum-known-number
-enum-known-number c = search rules
+enum-known-number c = search_lem rules
 
 enum_told : tie.Need-enum-told
-enum_told c = search rules
+enum_told c = search_lem rules
 
 returns : tie.Need-returns
 returns c = sym (sound_store _ _ _ c.before.before.check_store.ensures c.enum_told.given.1).unrefused

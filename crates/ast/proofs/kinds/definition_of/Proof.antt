@@ -5,7 +5,7 @@ use Rattle.ast.proofs.kinds.definition_of.Tie as tie
 use borrow.Author.Rules.{rules}
 
 sub-result : tie.Need-overflow-sub-result
-sub-result c = search rules
+sub-result c = search_lem rules
 
 returns : tie.Need-returns
 returns c = sym (definition_of_extension _ c.if1.true)

@@ -8,7 +8,7 @@ returns : tie.Need-returns
 returns c = sym (schema_directive _ c.if1.true)
 
 is-root-requires : tie.Need-is-root-requires
-is-root-requires c κs = search rules
+is-root-requires c κs = search_lem rules
 
 returns-2 : tie.Need-returns-2
 returns-2 c = sym (schema_root _ c.before.before.if1.false (sym c.before.is_root_lem.ensures ∙ c.if2.true))

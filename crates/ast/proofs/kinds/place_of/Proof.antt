@@ -1,40 +1,40 @@
 use mathlib.Core.Path.{sym, ◌∙◌}
 use Rattle.definition.specs.Cards.{part_order}
-use Rattle.ast.proofs.Places.{place_by, no_place_lem, no_places}
+use Rattle.ast.proofs.Places.{place_by, no_place, no_places}
 use Rattle.ast.proofs.kinds.place_of.Statement.{statement}
 use Rattle.ast.proofs.kinds.place_of.Tie as tie
 use borrow.Author.Rules.{rules}
 
 definition-of-requires : tie.Need-definition-of-requires
-definition-of-requires c κs = search rules
+definition-of-requires c κs = search_lem rules
 
 place-in-schema-requires : tie.Need-place-in-schema-requires
-place-in-schema-requires c κs = search rules
+place-in-schema-requires c κs = search_lem rules
 
 returns : tie.Need-returns
 returns c = place_by _ _ _ _ (sym c.before.before.definition-of.ensures ∙ c.before.if1.true) c.place-in-schema.ensures
 
 place-in-scalar-requires : tie.Need-place-in-scalar-requires
-place-in-scalar-requires c κs = search rules
+place-in-scalar-requires c κs = search_lem rules
 
 returns-2 : tie.Need-returns-2
 returns-2 c = place_by _ _ _ _ (sym c.before.before.before.definition-of.ensures ∙ c.before.if2.true) c.place-in-scalar.ensures
 
 place-in-object-requires : tie.Need-place-in-object-requires
-place-in-object-requires c κs = search rules
+place-in-object-requires c κs = search_lem rules
 
 returns-3 : tie.Need-returns-3
 returns-3 c = place_by _ _ _ _ (sym c.before.before.before.before.definition-of.ensures ∙ c.before.if3.true) c.place-in-object.ensures
 
 place-in-object-requires-2 : tie.Need-place-in-object-requires-2
-place-in-object-requires-2 c κs = search rules
+place-in-object-requires-2 c κs = search_lem rules
 
 returns-4 : tie.Need-returns-4
 unfolding part_order
 returns-4 c = place_by _ 7 _ _ (sym c.before.before.before.before.before.definition-of.ensures ∙ c.before.if4.true) c.place-in-object2.ensures
 
 place-after-directives-requires : tie.Need-place-after-directives-requires
-place-after-directives-requires c κs = search rules
+place-after-directives-requires c κs = search_lem rules
 
 returns-5 : tie.Need-returns-5
 unfolding part_order
@@ -43,7 +43,7 @@ returns-5 c =
     c.place-after-directives.ensures
 
 place-after-directives-requires-2 : tie.Need-place-after-directives-requires-2
-place-after-directives-requires-2 c κs = search rules
+place-after-directives-requires-2 c κs = search_lem rules
 
 returns-6 : tie.Need-returns-6
 unfolding part_order
@@ -52,7 +52,7 @@ returns-6 c =
     c.place-after-directives2.ensures
 
 place-after-directives-requires-3 : tie.Need-place-after-directives-requires-3
-place-after-directives-requires-3 c κs = search rules
+place-after-directives-requires-3 c κs = search_lem rules
 
 returns-7 : tie.Need-returns-7
 unfolding part_order
@@ -64,7 +64,7 @@ returns-8 : tie.Need-returns-8
 returns-8 c =
     place_by _ _ _ _ (sym c.before.before.before.before.before.before.before.definition-of.ensures)
     (sym
-    (no_place_lem _ _
+    (no_place _ _
     (no_places _ c.before.before.before.before.before.before.if1.false c.before.before.before.before.before.if2.false
     c.before.before.before.before.if3.false c.before.before.before.if4.false c.before.before.if5.false c.before.if6.false
     c.if7.false)))

@@ -6,7 +6,7 @@ use Rattle.ast.proofs.kinds.places_under.Tie as tie
 use borrow.Author.Rules.{rules}
 
 definition-of-requires : tie.Need-definition-of-requires
-definition-of-requires c κs = search rules
+definition-of-requires c κs = search_lem rules
 
 returns : tie.Need-returns
 returns c = places_by _ _ _ (sym c.before.definition-of.ensures) (none_of _ (no_places_below _ c.if1.true))

@@ -8,19 +8,19 @@ use Rattle.ast_check.proofs.faults.item_before_sibling_end.Tie as tie
 use borrow.Author.Rules.{rules}
 
 enum-known-sibling : tie.Need-enum-known-sibling
-enum-known-sibling c = search rules
+enum-known-sibling c = search_lem rules
 
 enum_told : tie.Need-enum-told
-enum_told c = search rules
+enum_told c = search_lem rules
 
 returns : tie.Need-returns
 returns c = λ p e. sym (no_sibling p (card_of c.before.before.args.card) (e ∙ ap neighbour_of c.enum_told.given.1))
 
 cast-at : tie.Need-overflow-cast-at
-cast-at c = search rules
+cast-at c = search_lem rules
 
 item-end-requires : tie.Need-item-end-requires
-item-end-requires c κs = search rules
+item-end-requires c κs = search_lem rules
 
 returns-2 : tie.Need-returns-2
 returns-2 c =

@@ -8,10 +8,10 @@ use Rattle.ast_check.proofs.faults.item_outside_heading.Tie as tie
 use borrow.Author.Rules.{rules}
 
 enum-known-heading : tie.Need-enum-known-heading
-enum-known-heading c = search rules
+enum-known-heading c = search_lem rules
 
 enum_told : tie.Need-enum-told
-enum_told c = search rules
+enum_told c = search_lem rules
 
 returns : tie.Need-returns
 returns c = λ p e. sym (no_heading_item p (card_of c.before.before.args.card) (e ∙ ap neighbour_of c.enum_told.given.1))
@@ -24,10 +24,10 @@ returns-2 c =
     c.if1.true)
 
 item-end-requires : tie.Need-item-end-requires
-item-end-requires c κs = search rules
+item-end-requires c κs = search_lem rules
 
 item-end-requires-2 : tie.Need-item-end-requires-2
-item-end-requires-2 c κs = search rules
+item-end-requires-2 c κs = search_lem rules
 
 returns-3 : tie.Need-returns-3
 returns-3 c =

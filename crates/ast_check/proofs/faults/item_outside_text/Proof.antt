@@ -8,13 +8,13 @@ use Rattle.ast_check.proofs.faults.item_outside_text.Tie as tie
 use borrow.Author.Rules.{rules}
 
 cast-at : tie.Need-overflow-cast-at
-cast-at c = search rules
+cast-at c = search_lem rules
 
 returns : tie.Need-returns
 returns c = λ p eb es. sym (item_before_text p (card_of c.before.before.args.card) _ _ eb es c.if1.true)
 
 item-end-requires : tie.Need-item-end-requires
-item-end-requires c κs = search rules
+item-end-requires c κs = search_lem rules
 
 sub-result : tie.Need-overflow-sub-result
 unfolding item_end

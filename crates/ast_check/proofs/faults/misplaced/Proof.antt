@@ -9,16 +9,16 @@ use Rattle.ast_check.proofs.faults.misplaced.Tie as tie
 use borrow.Author.Rules.{rules}
 
 is-part-requires : tie.Need-is-part-requires
-is-part-requires c κs = search rules
+is-part-requires c κs = search_lem rules
 
 returns : tie.Need-returns
 returns c = λ p e f. sym (no_part p (card_of c.before.before.args.card) (sym c.before.is-part.ensures ∙ not-true _ c.if1.true))
 
 enum-known-heading : tie.Need-enum-known-heading
-enum-known-heading c = search rules
+enum-known-heading c = search_lem rules
 
 enum_told : tie.Need-enum-told
-enum_told c = search rules
+enum_told c = search_lem rules
 
 returns-2 : tie.Need-returns-2
 returns-2 c =
@@ -27,7 +27,7 @@ returns-2 c =
     (sym c.before.before.before.is-part.ensures ∙ not-false _ c.before.before.if1.false) (e ∙ ap neighbour_of c.enum_told.given.1))
 
 misplaced-under-requires : tie.Need-misplaced-under-requires
-misplaced-under-requires c κs = search rules
+misplaced-under-requires c κs = search_lem rules
 
 returns-3 : tie.Need-returns-3
 returns-3 c =

@@ -8,10 +8,10 @@ use Rattle.ast_check.proofs.faults.misplaced_under.Tie as tie
 use borrow.Author.Rules.{rules}
 
 place-of-requires : tie.Need-place-of-requires
-place-of-requires c κs = search rules
+place-of-requires c κs = search_lem rules
 
 places-under-requires : tie.Need-places-under-requires
-places-under-requires c κs = search rules
+places-under-requires c κs = search_lem rules
 
 returns : tie.Need-returns
 returns c =
@@ -20,10 +20,10 @@ returns c =
     c.before.before.place_of.ensures c.before.places-under.ensures c.if1.true)
 
 enum-known-sibling : tie.Need-enum-known-sibling
-enum-known-sibling c = search rules
+enum-known-sibling c = search_lem rules
 
 enum_told : tie.Need-enum-told
-enum_told c = search rules
+enum_told c = search_lem rules
 
 returns-2 : tie.Need-returns-2
 returns-2 c =
@@ -33,7 +33,7 @@ returns-2 c =
     c.before.before.before.places-under.ensures c.before.before.if1.false (e ∙ ap neighbour_of c.enum_told.given.1))
 
 place-of-requires-2 : tie.Need-place-of-requires-2
-place-of-requires-2 c κs = search rules
+place-of-requires-2 c κs = search_lem rules
 
 returns-3 : tie.Need-returns-3
 returns-3 c =

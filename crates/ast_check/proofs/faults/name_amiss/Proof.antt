@@ -6,13 +6,13 @@ use Rattle.ast_check.proofs.faults.name_amiss.Tie as tie
 use borrow.Author.Rules.{rules}
 
 is-unnamed-requires : tie.Need-is-unnamed-requires
-is-unnamed-requires c κs = search rules
+is-unnamed-requires c κs = search_lem rules
 
 returns : tie.Need-returns
 returns c = λ p. amiss_schema p (card_of c.before.before.args.card) _ c.is-unnamed.ensures c.before.if1.true
 
 is-unnamed-requires-2 : tie.Need-is-unnamed-requires-2
-is-unnamed-requires-2 c κs = search rules
+is-unnamed-requires-2 c κs = search_lem rules
 
 returns-2 : tie.Need-returns-2
 returns-2 c =
@@ -23,7 +23,7 @@ returns-3 : tie.Need-returns-3
 returns-3 c = λ p. sym (amiss_operation p (card_of c.before.before.before.args.card) c.if3.true)
 
 is-unnamed-requires-3 : tie.Need-is-unnamed-requires-3
-is-unnamed-requires-3 c κs = search rules
+is-unnamed-requires-3 c κs = search_lem rules
 
 returns-4 : tie.Need-returns-4
 returns-4 c =

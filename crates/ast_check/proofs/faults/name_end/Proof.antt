@@ -5,13 +5,13 @@ use Rattle.ast_check.proofs.faults.name_end.Tie as tie
 use borrow.Author.Rules.{rules}
 
 cast-result : tie.Need-overflow-cast-result
-cast-result c = search rules
+cast-result c = search_lem rules
 
 cast-result-2 : tie.Need-overflow-cast-result-2
-cast-result-2 c = search rules
+cast-result-2 c = search_lem rules
 
 add-result : tie.Need-overflow-add-result
-add-result c = search rules
+add-result c = search_lem rules
 
 returns : tie.Need-returns
 unfolding name_end

@@ -6,22 +6,22 @@ use Rattle.ast_check.proofs.faults.name_no_name.Tie as tie
 use borrow.Author.Rules.{rules}
 
 is-unnamed-requires : tie.Need-is-unnamed-requires
-is-unnamed-requires c κs = search rules
+is-unnamed-requires c κs = search_lem rules
 
 returns : tie.Need-returns
 returns c = λ p e. sym (bytes_absent p (card_of c.before.before.before.args.card) (sym c.before.is-unnamed.ensures ∙ c.if1.true))
 
 cast-at : tie.Need-overflow-cast-at
-cast-at c = search rules
+cast-at c = search_lem rules
 
 cast-len : tie.Need-overflow-cast-len
-cast-len c = search rules
+cast-len c = search_lem rules
 
 bytes-at-requires : tie.Need-bytes-at-requires
-bytes-at-requires c κs = search rules
+bytes-at-requires c κs = search_lem rules
 
 is-valid-syntax-requires : tie.Need-is-valid-syntax-requires
-is-valid-syntax-requires c κs = search rules
+is-valid-syntax-requires c κs = search_lem rules
 
 returns-2 : tie.Need-returns-2
 returns-2 c =

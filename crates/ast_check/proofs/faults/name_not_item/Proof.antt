@@ -7,7 +7,7 @@ use Rattle.ast_check.proofs.faults.name_not_item.Tie as tie
 use borrow.Author.Rules.{rules}
 
 is-unnamed-requires : tie.Need-is-unnamed-requires
-is-unnamed-requires c κs = search rules
+is-unnamed-requires c κs = search_lem rules
 
 returns : tie.Need-returns
 returns c = λ p. sym (item_unnamed p (card_of c.before.before.args.card) (sym c.before.is-unnamed.ensures ∙ c.if1.true))

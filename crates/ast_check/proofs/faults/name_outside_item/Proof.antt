@@ -6,7 +6,7 @@ use Rattle.ast_check.proofs.faults.name_outside_item.Tie as tie
 use borrow.Author.Rules.{rules}
 
 is-unnamed-requires : tie.Need-is-unnamed-requires
-is-unnamed-requires c κs = search rules
+is-unnamed-requires c κs = search_lem rules
 
 returns : tie.Need-returns
 returns c = λ p. sym (name_absent p (card_of c.before.before.args.card) (sym c.before.is-unnamed.ensures ∙ c.if1.true))
@@ -18,10 +18,10 @@ returns-2 c =
     (sym c.before.before.before.is-unnamed.ensures ∙ c.before.before.if1.false) c.if2.true)
 
 item-end-requires : tie.Need-item-end-requires
-item-end-requires c κs = search rules
+item-end-requires c κs = search_lem rules
 
 name-end-requires : tie.Need-name-end-requires
-name-end-requires c κs = search rules
+name-end-requires c κs = search_lem rules
 
 returns-3 : tie.Need-returns-3
 returns-3 c =

@@ -6,13 +6,13 @@ use Rattle.ast_check.proofs.faults.unknown_kind.Tie as tie
 use borrow.Author.Rules.{rules}
 
 is-heading-requires : tie.Need-is-heading-requires
-is-heading-requires c κs = search rules
+is-heading-requires c κs = search_lem rules
 
 returns : tie.Need-returns
 returns c = λ p. sym (known_heading p (card_of c.before.before.args.card) (sym c.before.is-heading.ensures ∙ c.if1.true))
 
 is-part-requires : tie.Need-is-part-requires
-is-part-requires c κs = search rules
+is-part-requires c κs = search_lem rules
 
 returns-2 : tie.Need-returns-2
 returns-2 c =

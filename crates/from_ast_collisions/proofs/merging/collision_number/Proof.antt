@@ -6,16 +6,16 @@ use Rattle.from_ast_collisions.proofs.merging.collision_number.Tie as tie
 use borrow.Author.Rules.{rules}
 
 sub_number : tie.Need-overflow-sub-number
-sub_number c = search rules
+sub_number c = search_lem rules
 
 cast-number : tie.Need-overflow-cast-number
-cast-number c = search rules
+cast-number c = search_lem rules
 
 mul-number : tie.Need-overflow-mul-number
-mul-number c = search rules
+mul-number c = search_lem rules
 
 array-read-number : tie.Need-array-read-number
-array-read-number c = search rules
+array-read-number c = search_lem rules
 
 add-result : tie.Need-overflow-add-result
 add-result c = omega (arith, collision_small (c.before.args.part - 21))

@@ -11,12 +11,12 @@ use Rattle.from_ast_collisions.proofs.merging.find_earlier.Tie as tie
 use borrow.Author.Rules.{rules}
 
 abbrev invariant-loop : tie.invariant-loop
-invariant-loop text words numbers rows from kind owner part i₀ i =
+invariant-loop text words hashes rows from kind owner part i₀ i =
     (i ≤ length rows + 3) × (earlier_under kind owner (stands_for (card_view text words) (card_at text words part)) rows ≡
     earlier_in (stands_for (card_view text words) (card_at text words part)) (drop i rows))
 
 abbrev decreases-loop : tie.decreases-loop
-decreases-loop text words numbers rows from kind owner part i₀ i = length rows - i
+decreases-loop text words hashes rows from kind owner part i₀ i = length rows - i
 
 add-i : tie.Need-overflow-add-i invariant-loop decreases-loop
 add-i c =
@@ -37,22 +37,22 @@ loop-holds c =
     )
 
 add-loop : tie.Need-overflow-add-loop invariant-loop decreases-loop
-add-loop c = search rules
+add-loop c = search_lem rules
 
 mul-what : tie.Need-overflow-mul-what invariant-loop decreases-loop
-mul-what c = search rules
+mul-what c = search_lem rules
 
 shared-slice-read-what : tie.Need-shared-slice-read-what invariant-loop decreases-loop
-shared-slice-read-what c = search rules
+shared-slice-read-what c = search_lem rules
 
 add-card : tie.Need-overflow-add-card invariant-loop decreases-loop
-add-card c = search rules
+add-card c = search_lem rules
 
 mul-card : tie.Need-overflow-mul-card invariant-loop decreases-loop
-mul-card c = search rules
+mul-card c = search_lem rules
 
 shared-slice-read-card : tie.Need-shared-slice-read-card invariant-loop decreases-loop
-shared-slice-read-card c = search rules
+shared-slice-read-card c = search_lem rules
 
 returns : tie.Need-returns invariant-loop decreases-loop
 returns c =
@@ -62,7 +62,7 @@ returns c =
 stands-for-requires : tie.Need-stands-for-requires invariant-loop decreases-loop
 stands-for-requires c κs =
     let p = c.before.before.before.before.before.before.before.before.before.requires in
-    (p.0.numbered, p.1)
+    (p.0.hashed, p.1)
 
 returns-2 : tie.Need-returns-2 invariant-loop decreases-loop
 returns-2 c =
@@ -71,10 +71,10 @@ returns-2 c =
     (sym c.before.stands-for.ensures ∙ c.if2.true))
 
 add-i-2 : tie.Need-overflow-add-i-2 invariant-loop decreases-loop
-add-i-2 c = search rules
+add-i-2 c = search_lem rules
 
 loop-less : tie.Need-loop-smaller invariant-loop decreases-loop
-loop-less c = search rules
+loop-less c = search_lem rules
 
 loop-again : tie.Need-loop-preserved invariant-loop decreases-loop
 loop-again c =

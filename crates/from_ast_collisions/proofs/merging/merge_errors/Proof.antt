@@ -18,18 +18,18 @@ use Rattle.from_ast_collisions.proofs.merging.merge_errors.Tie as tie
 use borrow.Author.Rules.{rules}
 
 abbrev invariant-loop : tie.invariant-loop
-invariant-loop text words numbers rows from kind owner heading errors₀ used t₀ part₀ errors t part =
+invariant-loop text words hashes rows from kind owner heading errors₀ used t₀ part₀ errors t part =
     (length errors ≡ length errors₀) × Going (ledger errors₀ t₀) (ledger errors t) (merge_errors (card_view text words) rows kind owner heading)
     (merge_rest text words rows kind owner part)
 
 abbrev decreases-loop : tie.decreases-loop
-decreases-loop text words numbers rows from kind owner heading errors₀ used t₀ part₀ errors t part = used - part
+decreases-loop text words hashes rows from kind owner heading errors₀ used t₀ part₀ errors t part = used - part
 
 cards-used-requires : tie.Need-cards-used-requires invariant-loop decreases-loop
-cards-used-requires c κs = search rules
+cards-used-requires c κs = search_lem rules
 
 add-part : tie.Need-overflow-add-part invariant-loop decreases-loop
-add-part c = search rules
+add-part c = search_lem rules
 
 loop-holds : tie.Need-loop-init invariant-loop decreases-loop
 loop-holds c =
@@ -41,13 +41,13 @@ loop-holds c =
     )
 
 card-kind-requires : tie.Need-card-kind-requires invariant-loop decreases-loop
-card-kind-requires c κs = search rules
+card-kind-requires c κs = search_lem rules
 
 is-part-requires : tie.Need-is-part-requires invariant-loop decreases-loop
-is-part-requires c κs = search rules
+is-part-requires c κs = search_lem rules
 
 same_length : tie.Need-same-length invariant-loop decreases-loop
-same_length c = search rules
+same_length c = search_lem rules
 
 returns : tie.Need-returns invariant-loop decreases-loop
 returns c =
@@ -61,7 +61,7 @@ cast-push-collision : tie.Need-overflow-cast-push-collision invariant-loop decre
 cast-push-collision c =
     omega (
       arith,
-      c.before.before.before.before.before.before.before.before.before.before.before.requires.0.numbered.cards_most,
+      c.before.before.before.before.before.before.before.before.before.before.before.requires.0.hashed.cards_most,
       c.before.before.before.loop-test.true,
       c.before.before.before.before.before.cards-used.ensures,
     )
@@ -84,10 +84,10 @@ push-collision-requires c κs =
     )
 
 add-part-2 : tie.Need-overflow-add-part-2 invariant-loop decreases-loop
-add-part-2 c = search rules
+add-part-2 c = search_lem rules
 
 loop-less : tie.Need-loop-smaller invariant-loop decreases-loop
-loop-less c = search rules
+loop-less c = search_lem rules
 
 loop-again : tie.Need-loop-preserved invariant-loop decreases-loop
 loop-again c =
@@ -108,7 +108,7 @@ loop-again c =
     )
 
 same-length-2 : tie.Need-same-length-2 invariant-loop decreases-loop
-same-length-2 c = search rules
+same-length-2 c = search_lem rules
 
 returns-2 : tie.Need-returns-2 invariant-loop decreases-loop
 returns-2 c =

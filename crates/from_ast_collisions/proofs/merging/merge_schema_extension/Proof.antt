@@ -7,7 +7,7 @@ use Rattle.from_ast_collisions.proofs.merging.merge_schema_extension.Tie as tie
 use borrow.Author.Rules.{rules}
 
 card-kind-requires : tie.Need-card-kind-requires
-card-kind-requires c κs = search rules
+card-kind-requires c κs = search_lem rules
 
 returns : tie.Need-returns
 returns c =
@@ -26,7 +26,7 @@ merge-errors-requires c κs =
     )
 
 same_length : tie.Need-same-length
-same_length c = search rules
+same_length c = search_lem rules
 
 returns-2 : tie.Need-returns-2
 returns-2 c =

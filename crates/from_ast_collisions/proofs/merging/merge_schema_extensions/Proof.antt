@@ -8,40 +8,40 @@ use Rattle.from_ast_collisions.proofs.merging.merge_schema_extensions.Tie as tie
 use borrow.Author.Rules.{rules}
 
 abbrev invariant-loop : tie.invariant-loop
-invariant-loop text words headings numbers rows schema errors₀ from t₀ i₀ errors t i =
+invariant-loop text words headings hashes rows schema errors₀ from t₀ i₀ errors t i =
     Turn (schema_merge_errors (card_view text words) rows schema) headings errors₀ t₀ errors t i
 
 abbrev decreases-loop : tie.decreases-loop
-decreases-loop text words headings numbers rows schema errors₀ from t₀ i₀ errors t i = length headings - i
+decreases-loop text words headings hashes rows schema errors₀ from t₀ i₀ errors t i = length headings - i
 
 seek-row-requires : tie.Need-seek-row-requires invariant-loop decreases-loop
-seek-row-requires c κs = search rules
+seek-row-requires c κs = search_lem rules
 
 loop-holds : tie.Need-loop-init invariant-loop decreases-loop
 loop-holds c = turn_first _ _ _ _ c.before.before.before.before.before.before.before.requires.1
 
 mul-merge-schema-extension : tie.Need-overflow-mul-merge-schema-extension invariant-loop decreases-loop
-mul-merge-schema-extension c = search rules
+mul-merge-schema-extension c = search_lem rules
 
 shared-slice-read-merge-schema-extension : tie.Need-shared-slice-read-merge-schema-extension invariant-loop decreases-loop
-shared-slice-read-merge-schema-extension c = search rules
+shared-slice-read-merge-schema-extension c = search_lem rules
 
 merge-schema-extension-requires : tie.Need-merge-schema-extension-requires invariant-loop decreases-loop
 merge-schema-extension-requires c κs =
     let s = c.before.before.before.before.before.before.before.before.before.before.before in
     let a = c.before.before.before.loop in (
       record {
-        numbered = s.requires.0;
+        hashed = s.requires.0;
         row = c.before.before.before.before.seek-row.ensures;
       },
       turn_fits _ _ _ _ _ _ _ a.invariant c.before.before.loop-test.true,
     )
 
 add-i : tie.Need-overflow-add-i invariant-loop decreases-loop
-add-i c = search rules
+add-i c = search_lem rules
 
 loop-less : tie.Need-loop-smaller invariant-loop decreases-loop
-loop-less c = search rules
+loop-less c = search_lem rules
 
 loop-again : tie.Need-loop-preserved invariant-loop decreases-loop
 loop-again c =
@@ -50,7 +50,7 @@ loop-again c =
     c.before.before.merge-schema-extension.ensures
 
 same_length : tie.Need-same-length invariant-loop decreases-loop
-same_length c = search rules
+same_length c = search_lem rules
 
 returns : tie.Need-returns invariant-loop decreases-loop
 returns c = turn_last _ _ _ _ _ _ _ c.before.loop.invariant c.loop-test.false

@@ -28,7 +28,7 @@ pushed-is c =
     ∙ sym c.collision-number.ensures)
 
 card-kind-requires : tie.Need-card-kind-requires
-card-kind-requires c κs = search rules
+card-kind-requires c κs = search_lem rules
 
 returns : tie.Need-returns
 returns c =
@@ -40,10 +40,10 @@ find-earlier-requires : tie.Need-find-earlier-requires
 find-earlier-requires c κs = let p = c.before.before.before.before.before.before.before.requires in (p.0, p.1)
 
 enum-known-card : tie.Need-enum-known-card
-enum-known-card c = search rules
+enum-known-card c = search_lem rules
 
 enum_told : tie.Need-enum-told
-enum_told c = search rules
+enum_told c = search_lem rules
 
 returns-2 : tie.Need-returns-2
 returns-2 c =
@@ -74,7 +74,7 @@ push-error-requires c κs =
     c.before.before.before.before.before.before.before.before.before.before.before.before.before.before.requires.3
 
 same_length : tie.Need-same-length
-same_length c = search rules
+same_length c = search_lem rules
 
 returns-4 : tie.Need-returns-4
 returns-4 c = same_pushed _ _ _ _ (pushed-is c.before.before.before) c.before.before.push-error.ensures

@@ -10,7 +10,7 @@ use Rattle.from_ast_collisions.proofs.merging.stands_for.Tie as tie
 use borrow.Author.Rules.{rules}
 
 card-kind-requires : tie.Need-card-kind-requires
-card-kind-requires c κs = search rules
+card-kind-requires c κs = search_lem rules
 
 returns : tie.Need-returns
 returns c =
@@ -19,7 +19,7 @@ returns c =
     (λ e. c.if1.true (e ∙ sym c.before.card_kind_lem.ensures)))
 
 is-root-requires : tie.Need-is-root-requires
-is-root-requires c κs = search rules
+is-root-requires c κs = search_lem rules
 
 returns-2 : tie.Need-returns-2
 returns-2 c =
@@ -29,7 +29,7 @@ returns-2 c =
     ∙ (sym c.before.is_root_lem.ensures ∙ c.if2.true)))
 
 cards-used-requires : tie.Need-cards-used-requires
-cards-used-requires c κs = search rules
+cards-used-requires c κs = search_lem rules
 
 returns-3 : tie.Need-returns-3
 returns-3 c =

@@ -17,13 +17,13 @@ loop-holds : tie.Need-loop-init invariant-loop decreases-loop
 loop-holds c = (refl, omega arith, λ k l. absurd (omega arith))
 
 mul-places : tie.Need-overflow-mul-places invariant-loop decreases-loop
-mul-places c = search rules
+mul-places c = search_lem rules
 
 slice-write-places : tie.Need-slice-write-places invariant-loop decreases-loop
-slice-write-places c = search rules
+slice-write-places c = search_lem rules
 
 add-i : tie.Need-overflow-add-i invariant-loop decreases-loop
-add-i c = search rules
+add-i c = search_lem rules
 
 loop-less : tie.Need-loop-smaller invariant-loop decreases-loop
 loop-less c = simp length-set (omega arith)
@@ -34,7 +34,7 @@ loop-again c =
     (simp length-set a.invariant.0, simp length-set (omega arith), cleared_more a.places a.i c.loop-test.true a.invariant.2)
 
 same_length : tie.Need-same-length invariant-loop decreases-loop
-same_length c = search rules
+same_length c = search_lem rules
 
 returns : tie.Need-returns invariant-loop decreases-loop
 returns c = let a = c.before.loop in cleared_all a.places a.i c.loop-test.false a.invariant.2

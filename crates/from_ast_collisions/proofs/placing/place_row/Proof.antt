@@ -6,10 +6,10 @@ use Rattle.from_ast_collisions.proofs.placing.place_row.Statement.{statement}
 use Rattle.from_ast_collisions.proofs.placing.place_row.Tie as tie
 
 mul-if1 : tie.Need-overflow-mul-if1
-mul-if1 c = search rules
+mul-if1 c = search_lem rules
 
 shared-slice-read-if1 : tie.Need-shared-slice-read-if1
-shared-slice-read-if1 c = search rules
+shared-slice-read-if1 c = search_lem rules
 
 returns : tie.Need-returns
 returns c =
@@ -18,13 +18,13 @@ returns c =
     placed_part e.rows.now e.places.now e.i p.0 p.2 c.if1.true
 
 add-card : tie.Need-overflow-add-card
-add-card c = search rules
+add-card c = search_lem rules
 
 mul-card : tie.Need-overflow-mul-card
-mul-card c = search rules
+mul-card c = search_lem rules
 
 shared-slice-read-card : tie.Need-shared-slice-read-card
-shared-slice-read-card c = search rules
+shared-slice-read-card c = search_lem rules
 
 cast-card : tie.Need-overflow-cast-card
 cast-card c = omega (arith, c.shared-slice-known2.given (c.before.before.before.args.i + 1))
@@ -37,16 +37,16 @@ returns-2 c =
     placed_past e.rows.now e.places.now e.i p.0 p.2 c.if2.true
 
 cast-places : tie.Need-overflow-cast-places
-cast-places c = search rules
+cast-places c = search_lem rules
 
 mul-places : tie.Need-overflow-mul-places
-mul-places c = search rules
+mul-places c = search_lem rules
 
 slice-write-places : tie.Need-slice-write-places
-slice-write-places c = search rules
+slice-write-places c = search_lem rules
 
 same_length : tie.Need-same-length
-same_length c = search rules
+same_length c = search_lem rules
 
 returns-3 : tie.Need-returns-3
 returns-3 c =

@@ -16,16 +16,16 @@ abbrev decreases-loop : tie.decreases-loop
 decreases-loop rows places₀ n₀ places n = n
 
 clear-requires : tie.Need-clear-requires invariant-loop decreases-loop
-clear-requires c κs = search rules
+clear-requires c κs = search_lem rules
 
 loop-holds : tie.Need-loop-init invariant-loop decreases-loop
 loop-holds c = (refl, omega arith, λ card. inl (c.before.before.clear.ensures card))
 
 sub-n : tie.Need-overflow-sub-n invariant-loop decreases-loop
-sub-n c = search rules
+sub-n c = search_lem rules
 
 mul-place-row : tie.Need-overflow-mul-place-row invariant-loop decreases-loop
-mul-place-row c = search rules
+mul-place-row c = search_lem rules
 
 place-row-requires : tie.Need-place-row-requires invariant-loop decreases-loop
 place-row-requires c κs =
@@ -38,7 +38,7 @@ place-row-requires c κs =
     )
 
 loop-less : tie.Need-loop-smaller invariant-loop decreases-loop
-loop-less c = search rules
+loop-less c = search_lem rules
 
 loop-again : tie.Need-loop-preserved invariant-loop decreases-loop
 loop-again c =
@@ -46,7 +46,7 @@ loop-again c =
     (c.before.before.place-row.auto.1.1.0 ∙ a.invariant.0, omega arith, c.before.before.place-row.ensures)
 
 same_length : tie.Need-same-length invariant-loop decreases-loop
-same_length c = search rules
+same_length c = search_lem rules
 
 returns : tie.Need-returns invariant-loop decreases-loop
 returns c =

@@ -4,32 +4,32 @@ use Rattle.from_ast_collisions.proofs.pushing.counted.Tie as tie
 use borrow.Author.Rules.{rules}
 
 sub_at : tie.Need-overflow-sub-at
-sub_at c = search rules
+sub_at c = search_lem rules
 
 cast-at : tie.Need-overflow-cast-at
-cast-at c = search rules
+cast-at c = search_lem rules
 
 mul-counts : tie.Need-overflow-mul-counts
-mul-counts c = search rules
+mul-counts c = search_lem rules
 
 array-read-counts : tie.Need-array-read-counts
-array-read-counts c = search rules
+array-read-counts c = search_lem rules
 
 add-counts : tie.Need-overflow-add-counts
-add-counts c = search rules
+add-counts c = search_lem rules
 
 mul-counts-2 : tie.Need-overflow-mul-counts-2
-mul-counts-2 c = search rules
+mul-counts-2 c = search_lem rules
 
 array-write-counts : tie.Need-array-write-counts
-array-write-counts c = search rules
+array-write-counts c = search_lem rules
 
 add-t5 : tie.Need-overflow-add-t5
-add-t5 c = search rules
+add-t5 c = search_lem rules
 
 returns : tie.Need-returns
 unfolding counted_in
-returns c = search rules
+returns c = search_lem rules
 
 pub counted_spec : {M : Type 1} → statement M
 counted_spec =

@@ -9,35 +9,35 @@ use Rattle.from_ast_collisions.proofs.pushing.push_error.Tie as tie
 use borrow.Author.Rules.{rules}
 
 cast-used : tie.Need-overflow-cast-used
-cast-used c = search rules
+cast-used c = search_lem rules
 
 mul-used : tie.Need-overflow-mul-used
-mul-used c = search rules
+mul-used c = search_lem rules
 
 mul-put-error : tie.Need-overflow-mul-put-error
-mul-put-error c = search rules
+mul-put-error c = search_lem rules
 
 sub-put-error : tie.Need-overflow-sub-put-error
 unfolding Capacity
-sub-put-error c = search rules
+sub-put-error c = search_lem rules
 
 part-put-error-start : tie.Need-slice-bounds-put-error-start
 unfolding Capacity
-part-put-error-start c = search rules
+part-put-error-start c = search_lem rules
 
 part-put-error-end : tie.Need-slice-bounds-put-error-end
-part-put-error-end c = search rules
+part-put-error-end c = search_lem rules
 
 put-error-requires : tie.Need-put-error-requires
 unfolding Capacity
-put-error-requires c κs = search rules
+put-error-requires c κs = search_lem rules
 
 counted-requires : tie.Need-counted-requires
 unfolding Capacity error
 counted-requires c κs = let f = c.before.before.before.before.before.before.requires.0 in (f.least, f.most, f.total, f.count)
 
 same_length : tie.Need-same-length
-same_length c = search rules
+same_length c = search_lem rules
 
 returns : tie.Need-returns
 unfolding Capacity

@@ -6,7 +6,7 @@ use Rattle.from_ast_collisions.proofs.pushing.put_error.Tie as tie
 use borrow.Author.Rules.{rules}
 
 slice-write-unused : tie.Need-slice-write-unused
-slice-write-unused c = search rules
+slice-write-unused c = search_lem rules
 
 slice-write-unused-2 : tie.Need-slice-write-unused-2
 slice-write-unused-2 c = simp length-set (omega arith)
@@ -15,7 +15,7 @@ slice-write-unused-3 : tie.Need-slice-write-unused-3
 slice-write-unused-3 c = simp length-set (omega arith)
 
 same_length : tie.Need-same-length
-same_length c = search rules
+same_length c = search_lem rules
 
 returns : tie.Need-returns
 returns c = three_written _ _ _ _ c.requires

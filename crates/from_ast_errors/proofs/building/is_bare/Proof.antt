@@ -8,7 +8,7 @@ returns : tie.Need-returns
 returns c = sym (bare_short _ c.if1.true)
 
 shared-slice-read-result : tie.Need-shared-slice-read-result
-shared-slice-read-result c = search rules
+shared-slice-read-result c = search_lem rules
 
 returns-2 : tie.Need-returns-2
 returns-2 c = sym (bare_long _ c.before.if1.false)

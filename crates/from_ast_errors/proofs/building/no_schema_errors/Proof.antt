@@ -15,7 +15,7 @@ merge-schema-extensions-requires c κs =
     )
 
 same_length : tie.Need-same-length
-same_length c = search rules
+same_length c = search_lem rules
 
 returns : tie.Need-returns
 returns c =
@@ -24,7 +24,7 @@ returns c =
     c.before.before.before.before.if1.true) c.before.before.merge-schema-extensions.ensures
 
 is-bare-requires : tie.Need-is-bare-requires
-is-bare-requires c κs = search rules
+is-bare-requires c κs = search_lem rules
 
 unmet-errors-requires : tie.Need-unmet-errors-requires
 unmet-errors-requires c κs =
@@ -34,7 +34,7 @@ unmet-errors-requires c κs =
     c.before.before.before.if1.false _ c.before.before.is-bare.ensures c.before.if2.true) s.requires.1
 
 same-length-2 : tie.Need-same-length-2
-same-length-2 c = search rules
+same-length-2 c = search_lem rules
 
 returns-2 : tie.Need-returns-2
 returns-2 c =
@@ -54,7 +54,7 @@ merge-schema-extensions-requires-2 c κs =
     )
 
 same-length-3 : tie.Need-same-length-3
-same-length-3 c = search rules
+same-length-3 c = search_lem rules
 
 returns-3 : tie.Need-returns-3
 returns-3 c =

@@ -18,10 +18,10 @@ loop-holds : tie.Need-loop-init invariant-loop decreases-loop
 loop-holds c = turn_first _ _ _ _ c.before.before.before.requires
 
 mul-unmet-extension : tie.Need-overflow-mul-unmet-extension invariant-loop decreases-loop
-mul-unmet-extension c = search rules
+mul-unmet-extension c = search_lem rules
 
 shared-slice-read-unmet-extension : tie.Need-shared-slice-read-unmet-extension invariant-loop decreases-loop
-shared-slice-read-unmet-extension c = search rules
+shared-slice-read-unmet-extension c = search_lem rules
 
 unmet-extension-requires : tie.Need-unmet-extension-requires invariant-loop decreases-loop
 unmet-extension-requires c κs =
@@ -30,10 +30,10 @@ unmet-extension-requires c κs =
     turn_fits _ _ _ _ _ _ _ a.invariant c.before.before.loop-test.true
 
 add-i : tie.Need-overflow-add-i invariant-loop decreases-loop
-add-i c = search rules
+add-i c = search_lem rules
 
 loop-less : tie.Need-loop-smaller invariant-loop decreases-loop
-loop-less c = search rules
+loop-less c = search_lem rules
 
 loop-again : tie.Need-loop-preserved invariant-loop decreases-loop
 loop-again c =
@@ -42,7 +42,7 @@ loop-again c =
     c.before.before.unmet-extension.ensures
 
 same_length : tie.Need-same-length invariant-loop decreases-loop
-same_length c = search rules
+same_length c = search_lem rules
 
 returns : tie.Need-returns invariant-loop decreases-loop
 returns c = turn_last _ _ _ _ _ _ _ c.before.loop.invariant c.loop-test.false

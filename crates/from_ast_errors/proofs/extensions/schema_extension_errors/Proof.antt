@@ -11,18 +11,18 @@ returns c =
     none_pushed _ _ (extension_waits _ e.rows.now e.schema e.h c.if1.true)
 
 seek-row-requires : tie.Need-seek-row-requires
-seek-row-requires c κs = search rules
+seek-row-requires c κs = search_lem rules
 
 merge-errors-requires : tie.Need-merge-errors-requires
 merge-errors-requires c κs =
     let s = c.before.before.before.before.before.before.before.before in
     let e = s.args in (
-      record { numbered = s.requires.0; row = c.before.seek-row.ensures },
+      record { hashed = s.requires.0; row = c.before.seek-row.ensures },
       same_capacity _ _ _ (extension_merged _ e.rows.now e.schema e.h c.before.before.if1.false) s.requires.1,
     )
 
 same_length : tie.Need-same-length
-same_length c = search rules
+same_length c = search_lem rules
 
 returns-2 : tie.Need-returns-2
 returns-2 c =

@@ -6,7 +6,7 @@ use Rattle.from_ast_errors.proofs.orphans.adopt_extension.Tie as tie
 use borrow.Author.Rules.{rules}
 
 is-orphan-of-requires : tie.Need-is-orphan-of-requires
-is-orphan-of-requires c κs = let p = c.before.before.before.before.before.before.requires in (p.0.numbered, p.2, p.3)
+is-orphan-of-requires c κs = let p = c.before.before.before.before.before.before.requires in (p.0.hashed, p.2, p.3)
 
 returns : tie.Need-returns
 returns c =
@@ -14,10 +14,10 @@ returns c =
     none_pushed _ _ (adopt_other _ _ e.owners.now e.rows.now _ _ _ c.before.is-orphan-of.ensures (not-true _ c.if1.true))
 
 card-kind-requires : tie.Need-card-kind-requires
-card-kind-requires c κs = search rules
+card-kind-requires c κs = search_lem rules
 
 card-kind-requires-2 : tie.Need-card-kind-requires-2
-card-kind-requires-2 c κs = search rules
+card-kind-requires-2 c κs = search_lem rules
 
 push-error-requires : tie.Need-push-error-requires
 push-error-requires c κs =
@@ -28,7 +28,7 @@ push-error-requires c κs =
     c.before.before.before.card_kind_lem.ensures c.before.before.card-kind2.ensures c.before.if2.true) s.requires.4
 
 same_length : tie.Need-same-length
-same_length c = search rules
+same_length c = search_lem rules
 
 returns-2 : tie.Need-returns-2
 returns-2 c =
@@ -51,7 +51,7 @@ merge-errors-requires c κs =
     )
 
 same-length-2 : tie.Need-same-length-2
-same-length-2 c = search rules
+same-length-2 c = search_lem rules
 
 returns-3 : tie.Need-returns-3
 returns-3 c =

@@ -6,7 +6,7 @@ use Rattle.from_ast_errors.proofs.orphans.is_orphan_of.Tie as tie
 use borrow.Author.Rules.{rules}
 
 word-requires : tie.Need-word-requires
-word-requires c κs = search rules
+word-requires c κs = search_lem rules
 
 returns : tie.Need-returns
 returns c =
@@ -14,7 +14,7 @@ returns c =
     sym (orphan_owned _ _ e.owners.now e.g e.card _ c.before.word.ensures c.if1.true)
 
 same-cards-requires : tie.Need-same-cards-requires
-same-cards-requires c κs = search rules
+same-cards-requires c κs = search_lem rules
 
 returns-2 : tie.Need-returns-2
 unfolding same_cards

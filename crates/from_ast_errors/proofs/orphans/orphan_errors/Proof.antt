@@ -7,7 +7,7 @@ use borrow.Author.Rules.{rules}
 
 adoption-errors-requires : tie.Need-adoption-errors-requires
 adoption-errors-requires c κs =
-    let s = c.before.before.before.before.before.before.before.before.before.before.before.before in
+    let s = c.before.before.before.before.before.before.before.before.before.before in
     let e = s.args in
     let p = s.requires in (
       p.0,
@@ -18,20 +18,20 @@ adoption-errors-requires c κs =
     )
 
 same_length : tie.Need-same-length
-same_length c = search rules
+same_length c = search_lem rules
 
 returns : tie.Need-returns
 returns c =
-    let e = c.before.before.before.before.before.before.before.before.before.before.before.before.before.before.before.args in
+    let e = c.before.before.before.before.before.before.before.before.before.before.before.before.before.args in
     same_pushed _ _ _ _ (orphans_adopted (view_of _ _ e.owners.now) e.rows.now e.extensions.now e.g
     e.adopt c.before.before.before.before.if1.true) c.before.before.adoption-errors.ensures
 
 unadopted-errors-requires : tie.Need-unadopted-errors-requires
 unadopted-errors-requires c κs =
-    let s = c.before.before.before.before.before.before.before.before.before.before.before.before in
+    let s = c.before.before.before.before.before.before.before.before.before.before in
     let e = s.args in
     let p = s.requires in (
-      p.0.numbered,
+      p.0.hashed,
       p.1.stored,
       p.2,
       same_capacity _ _ _ (orphans_unadopted (view_of _ _ e.owners.now) e.rows.now
@@ -39,11 +39,11 @@ unadopted-errors-requires c κs =
     )
 
 same-length-2 : tie.Need-same-length-2
-same-length-2 c = search rules
+same-length-2 c = search_lem rules
 
 returns-2 : tie.Need-returns-2
 returns-2 c =
-    let e = c.before.before.before.before.before.before.before.before.before.before.before.before.before.before.before.args in
+    let e = c.before.before.before.before.before.before.before.before.before.before.before.before.before.args in
     same_pushed _ _ _ _ (orphans_unadopted (view_of _ _ e.owners.now) e.rows.now e.extensions.now e.g
     e.adopt c.before.before.before.before.if1.false) c.before.before.unadopted-errors.ensures
 

@@ -23,7 +23,7 @@ push-error-requires c κs =
     c.before.before.is-orphan-of.ensures (not-false _ c.before.if1.false)) s.requires.3
 
 same_length : tie.Need-same-length
-same_length c = search rules
+same_length c = search_lem rules
 
 returns-2 : tie.Need-returns-2
 returns-2 c =

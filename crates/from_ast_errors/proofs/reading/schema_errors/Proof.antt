@@ -13,7 +13,7 @@ push-error-requires c κs =
     same_capacity _ _ _ (schema_second _ e.rows.now e.schema e.before.now e.h c.before.if1.true) s.requires.1
 
 same_length : tie.Need-same-length
-same_length c = search rules
+same_length c = search_lem rules
 
 returns : tie.Need-returns
 returns c =
@@ -22,13 +22,13 @@ returns c =
     c.before.before.before.before.if1.true) c.before.before.push-error.ensures
 
 seek-row-requires : tie.Need-seek-row-requires
-seek-row-requires c κs = search rules
+seek-row-requires c κs = search_lem rules
 
 merge-errors-requires : tie.Need-merge-errors-requires
 merge-errors-requires c κs =
     let s = c.before.before.before.before.before.before.before.before.before in
     let e = s.args in (
-      record { numbered = s.requires.0; row = c.before.seek-row.ensures },
+      record { hashed = s.requires.0; row = c.before.seek-row.ensures },
       first_capacity _ (ledger e.errors.now e.t) _ _ _ (schema_first _ e.rows.now e.schema
           e.before.now e.h c.before.before.if1.false) s.requires.1,
     )
@@ -43,7 +43,7 @@ merge-schema-extensions-requires c κs =
     )
 
 same-length-2 : tie.Need-same-length-2
-same-length-2 c = search rules
+same-length-2 c = search_lem rules
 
 returns-2 : tie.Need-returns-2
 returns-2 c =

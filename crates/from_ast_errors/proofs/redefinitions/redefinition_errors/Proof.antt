@@ -6,13 +6,13 @@ use Rattle.from_ast_errors.proofs.redefinitions.redefinition_errors.Tie as tie
 use borrow.Author.Rules.{rules}
 
 word-requires : tie.Need-word-requires
-word-requires c κs = search rules
+word-requires c κs = search_lem rules
 
 cast-built-in-at : tie.Need-overflow-cast-built-in-at
-cast-built-in-at c = search rules
+cast-built-in-at c = search_lem rules
 
 built-in-at-requires : tie.Need-built-in-at-requires
-built-in-at-requires c κs = search rules
+built-in-at-requires c κs = search_lem rules
 
 push-error-requires : tie.Need-push-error-requires
 push-error-requires c κs =
@@ -22,7 +22,7 @@ push-error-requires c κs =
     c.before.before.built-in-at.ensures (not-true _ c.before.if1.true)) s.requires
 
 same_length : tie.Need-same-length
-same_length c = search rules
+same_length c = search_lem rules
 
 returns : tie.Need-returns
 returns c =
@@ -32,7 +32,7 @@ returns c =
     c.before.before.push-error.ensures
 
 ignored-at-requires : tie.Need-ignored-at-requires
-ignored-at-requires c κs = search rules
+ignored-at-requires c κs = search_lem rules
 
 returns-2 : tie.Need-returns-2
 returns-2 c =
@@ -41,7 +41,7 @@ returns-2 c =
     c.before.before.before.built-in-at.ensures (not-false _ c.before.before.if1.false) _ c.before.ignored-at.ensures c.if2.true)
 
 card-kind-requires : tie.Need-card-kind-requires
-card-kind-requires c κs = search rules
+card-kind-requires c κs = search_lem rules
 
 push-error-requires-2 : tie.Need-push-error-requires-2
 push-error-requires-2 c κs =
@@ -54,7 +54,7 @@ push-error-requires-2 c κs =
     c.before.if3.true) s.requires
 
 same-length-2 : tie.Need-same-length-2
-same-length-2 c = search rules
+same-length-2 c = search_lem rules
 
 returns-3 : tie.Need-returns-3
 returns-3 c =
@@ -78,7 +78,7 @@ push-error-requires-3 c κs =
     c.before.if3.false) s.requires
 
 same-length-3 : tie.Need-same-length-3
-same-length-3 c = search rules
+same-length-3 c = search_lem rules
 
 returns-4 : tie.Need-returns-4
 returns-4 c =

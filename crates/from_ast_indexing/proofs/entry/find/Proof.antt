@@ -1,80 +1,94 @@
--- The word that is read is believed where a card of the number stands there.
+-- The loop's invariant: what is sought among all cards is what is sought from `i` on.
+use Prim.Native.Nat.{◌≤◌, ◌<◌, ◌-◌}
 use native.Mathlib.Omega.{arith}
-use mathlib.Core.Path.{sym}
-use lib.ListN.{get_or}
-use Rattle.from_ast_indexing.proofs.EntrySearch.{search_past, search_other, search_hit}
+use mathlib.Core.Path.{◌≡◌, sym, ◌∙◌, refl}
+use mathlib.Core.Logic.{⊎_elim}
+use lib.ListN.{length, drop}
+use Rattle.definition.specs.Lists.{find}
+use Rattle.from_ast_index.specs.Index.{same_cards}
+use Rattle.from_ast_indexing.specs.Entering.{entry_of}
+use Rattle.from_ast_indexing.proofs.EntrySearch.{search_length, search_hit, search_miss, search_end, search_differ}
 use Rattle.from_ast_indexing.proofs.entry.find.Statement.{statement}
 use Rattle.from_ast_indexing.proofs.entry.find.Tie as tie
 use borrow.Author.Rules.{rules}
-use Rattle.from_ast_indexing.proofs.entry.find.Reads as reads
-use Rattle.from_ast_indexing.proofs.entry.find.Lts as lts
 
-mul-number : tie.Need-overflow-mul-number
-mul-number c = search rules
+abbrev invariant-loop : tie.invariant-loop
+invariant-loop text words cards hashes card hash i₀ i = (i ≤ length cards) × (length hashes ≡ length cards)
+    × (entry_of (find (same_cards text words card) cards) ≡ entry_of (find (same_cards text words card) (drop i cards)))
 
-shared-slice-read-number : tie.Need-shared-slice-read-number
-shared-slice-read-number c = c.before.requires.numbered
+abbrev decreases-loop : tie.decreases-loop
+decreases-loop text words cards hashes card hash i₀ i = length cards - i
 
-cast-place : tie.Need-overflow-cast-place
-cast-place c = omega (arith, c.shared-slice-known.given c.before.args.card)
-
-mul-place : tie.Need-overflow-mul-place
-mul-place c = omega (arith, c.shared-slice-known.given c.before.args.card)
-
-shared-slice-read-place : tie.Need-shared-slice-read-place
-shared-slice-read-place c = c.before.before.requires.number_inside
-
-cast-place-2 : tie.Need-overflow-cast-place-2
-cast-place-2 c = omega (arith, c.shared-slice-known2.given (get_or c.before.before.args.numbers.now c.before.before.args.card 0))
-
-returns : tie.Need-returns
-returns c = sym (search_past _ _ _ _ c.before.before.before.requires c.if1.true)
-
-mul-first : tie.Need-overflow-mul-first
-mul-first c = omega (
-  arith,
-  c.before.shared-slice-known2.given (get_or c.before.before.before.args.numbers.now c.before.before.before.args.card 0),
+loop-holds : tie.Need-loop-init invariant-loop decreases-loop
+loop-holds c = let s = c.before.before.before.before in (
+  omega arith,
+  search_length s.args.text.now s.args.words.now s.args.cards.now s.args.hashes.now s.args.card s.args.hash s.requires,
+  refl,
 )
 
-shared-slice-read-first : tie.Need-shared-slice-read-first
-shared-slice-read-first c = c.before.if1.false
+mul-if1 : tie.Need-overflow-mul-if1 invariant-loop decreases-loop
+mul-if1 c = search_lem rules
 
-cast-if2 : tie.Need-overflow-cast-if2
-cast-if2 c = omega (
-  arith,
-  c.shared-slice-known3.given (get_or c.before.before.before.before.args.places.now (get_or c.before.before.before.before.args.numbers.now c.before.before.before.before.args.card 0) 0),
-)
+shared-slice-read-if1 : tie.Need-shared-slice-read-if1 invariant-loop decreases-loop
+shared-slice-read-if1 c = search_lem rules
 
-mul-if2 : tie.Need-overflow-mul-if2
-mul-if2 c = omega (
-  arith,
-  c.shared-slice-known3.given (get_or c.before.before.before.before.args.places.now (get_or c.before.before.before.before.args.numbers.now c.before.before.before.before.args.card 0) 0),
-)
+mul-other : tie.Need-overflow-mul-other invariant-loop decreases-loop
+mul-other c = search_lem rules
 
-shared-slice-read-if2 : tie.Need-shared-slice-read-if2
-shared-slice-read-if2 c = c.before.before.before.before.before.requires.cards_numbered (get_or c.before.before.before.before.before.args.places.now (get_or c.before.before.before.before.before.args.numbers.now c.before.before.before.before.before.args.card 0) 0) c.before.before.if1.false
+shared-slice-read-other : tie.Need-shared-slice-read-other invariant-loop decreases-loop
+shared-slice-read-other c = search_lem rules
 
-returns-2 : tie.Need-returns-2
-returns-2 c = sym (search_other _ _ _ _ c.before.before.before.before.before.before.requires c.if2.true)
+same-names-requires : tie.Need-same-names-requires invariant-loop decreases-loop
+same-names-requires c κs = search_lem rules
 
-returns-3 : tie.Need-returns-3
-returns-3 c = sym (search_hit _ _ _ _ c.before.before.before.before.before.before.requires c.before.before.before.if1.false c.if2.false)
+returns : tie.Need-returns invariant-loop decreases-loop
+returns c =
+    let s = c.before.before.before.before.before.before.before.before.before.before.before in
+    let l = c.before.before.before.before.before.before.loop in
+    sym (l.invariant.2 ∙ search_hit s.args.text.now s.args.words.now s.args.cards.now s.args.card l.i (omega arith)
+    (sym c.before.same_names.ensures ∙ c.if2.true))
+
+add-i : tie.Need-overflow-add-i invariant-loop decreases-loop
+add-i c = search_lem rules
+
+loop-less : tie.Need-loop-smaller invariant-loop decreases-loop
+loop-less c = search_lem rules
+
+loop-again : tie.Need-loop-preserved invariant-loop decreases-loop
+loop-again c =
+    let s = c.before.before.before.before.before.before.before.before in
+    let l = c.before.before.before.loop in
+    let h : l.i < length s.args.cards.now = omega arith in (
+      omega arith,
+      l.invariant.1,
+      l.invariant.2 ∙ ⊎_elim
+          (λ w. search_miss s.args.text.now s.args.words.now s.args.cards.now s.args.card l.i h (sym w.2.ensures ∙ w.3.left))
+          (λ w. search_miss s.args.text.now s.args.words.now s.args.cards.now s.args.card l.i h
+          (search_differ s.args.text.now s.args.words.now s.args.cards.now s.args.hashes.now s.args.card s.args.hash s.requires
+          l.i h w.left))
+          c.if1.branch,
+    )
+
+returns-2 : tie.Need-returns-2 invariant-loop decreases-loop
+returns-2 c =
+    let s = c.before.before.before.before.before.before in
+    let l = c.before.loop in
+    sym (l.invariant.2 ∙ search_end s.args.text.now s.args.words.now s.args.cards.now s.args.card l.i (omega arith))
 
 pub find_spec : {M : Type 1} → statement M
 find_spec =
     tie.close
     (tie.spec
-    mul-number
-    shared-slice-read-number
-    cast-place
-    mul-place
-    shared-slice-read-place
-    cast-place-2
+    invariant-loop
+    decreases-loop
+    loop-holds
+    mul-if1
+    shared-slice-read-if1
+    mul-other
+    shared-slice-read-other
+    same-names-requires
     returns
-    mul-first
-    shared-slice-read-first
-    cast-if2
-    mul-if2
-    shared-slice-read-if2
-    returns-2
-    returns-3)
+    add-i
+    loop-less
+    loop-again
+    returns-2)

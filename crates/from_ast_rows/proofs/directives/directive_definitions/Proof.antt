@@ -4,12 +4,9 @@ use Prim.Native.Nat.{◌-◌}
 use lib.ListN.{length, drop}
 use Rattle.from_ast_index.proofs.Lists.{drop_next, drop_end}
 use Rattle.component.specs.Pushed.{filled, pushed}
-use Rattle.component.specs.Places.{Placed}
 use Rattle.component.specs.RowsByCards.{same_stored, directive_rows_of, directive_rows_at}
 use Rattle.component.proofs.Sticky.{Extending, extending_capacity, extending_next, extending_end}
-use Rattle.component.proofs.Places.{places_begin}
 use Rattle.component.proofs.Turns.{directives_begin}
-use Rattle.from_ast_rows.proofs.Standing.{stands_stored}
 use Rattle.from_ast_rows.proofs.directives.directive_definitions.Statement.{statement}
 use Rattle.from_ast_rows.proofs.directives.directive_definitions.Tie as tie
 use borrow.Author.Rules.{rules}
@@ -18,69 +15,52 @@ use Rattle.from_ast_rows.proofs.directives.directive_definitions.Lts as lts
 use Rattle.from_ast_rows.proofs.directives.directive_definition.Reads as directive-definition-reads
 
 abbrev invariant-loop : tie.invariant-loop
-invariant-loop text words headings numbers standing places₀ rows₀ used next₀ i₀ places rows next i =
-    (length places ≡ length places₀)
-    × (length rows ≡ length rows₀)
-    × Placed words numbers places 3 used (filled rows next)
+invariant-loop text words headings hashes rows₀ used next₀ i₀ rows next i =
+    (length rows ≡ length rows₀)
     × Extending (same_stored text words) used (directive_rows_of text words headings) (drop i headings) (filled rows next)
     (pushed (directive_rows_at text words headings) (filled rows₀ next₀))
 
 abbrev decreases-loop : tie.decreases-loop
-decreases-loop text words headings numbers standing places₀ rows₀ used next₀ i₀ places rows next i = length headings - i
+decreases-loop text words headings hashes rows₀ used next₀ i₀ rows next i = length headings - i
 
 loop-holds : tie.Need-loop-init invariant-loop decreases-loop
-loop-holds c =
-    let s = c.before.before.before.before.before.before.before in
-    (refl, refl, places_begin _ _ _ 3 (filled s.args.rows.now s.args.used) s.requires.1, directives_begin _ _ _ _ s.requires.4)
+loop-holds c = (refl, directives_begin _ _ _ _ c.before.before.before.before.before.requires.2)
 
 mul-card : tie.Need-overflow-mul-card invariant-loop decreases-loop
-mul-card c = search rules
+mul-card c = search_lem rules
 
 shared-slice-read-card : tie.Need-shared-slice-read-card invariant-loop decreases-loop
-shared-slice-read-card c = search rules
+shared-slice-read-card c = search_lem rules
 
 directive-definition-requires : tie.Need-directive-definition-requires invariant-loop decreases-loop
 directive-definition-requires c κs =
-    let s = c.before.before.before.before.before.before.before.before.before.before.before.before in
-    let l = c.before.before.before.before.loop in
-    let h = c.before.before.before.loop-test.true in (
-      s.requires.0,
-      l.invariant.2,
-      s.requires.2,
-      s.requires.3,
-      s.requires.3.stored l.i h,
-      stands_stored _ _ _ s.requires.3 l.i h,
-      l.invariant.3.begun,
-      extending_capacity _ _ _ _ _ _ l.invariant.3 _ _ (drop_next _ l.i h),
-    )
+    let s = c.before.before.before.before.before.before.before.before.before in
+    let l = c.before.before.before.loop in
+    let h = c.before.before.loop-test.true in
+    (s.requires.0, s.requires.1, s.requires.1.stored l.i h, extending_capacity _ _ _ _ _ _ l.invariant.1 _ _ (drop_next _ l.i h))
 
 add-i : tie.Need-overflow-add-i invariant-loop decreases-loop
-add-i c = search rules
+add-i c = search_lem rules
 
 loop-less : tie.Need-loop-smaller invariant-loop decreases-loop
-loop-less c = search rules
+loop-less c = search_lem rules
 
 loop-again : tie.Need-loop-preserved invariant-loop decreases-loop
 loop-again c =
-    let l = c.before.before.before.before.before.before.before.before.before.loop in
-    let r = c.before.before.before.before.directive-definition in (
-      r.auto.1.1.1.1.1.1.0 ∙ l.invariant.0,
-      r.auto.1.1.1.1.1.1.1.0 ∙ l.invariant.1,
-      r.ensures.1,
-      extending_next _ _ _ _ _ _ l.invariant.3 _ _ (drop_next _ l.i c.before.before.before.before.before.before.before.before.loop-test.true) _
-          r.ensures.0,
+    let l = c.before.before.before.before.before.before.loop in
+    let r = c.before.before.directive-definition in (
+      r.auto.1.1.1.1.1.0 ∙ l.invariant.0,
+      extending_next _ _ _ _ _ _ l.invariant.1 _ _
+          (drop_next _ l.i c.before.before.before.before.before.loop-test.true) _ r.ensures,
     )
 
 same_length : tie.Need-same-length invariant-loop decreases-loop
-same_length c = c.before.loop.invariant.0
-
-same-length-2 : tie.Need-same-length-2 invariant-loop decreases-loop
-same-length-2 c = c.before.loop.invariant.1
+same_length c = search_lem rules
 
 returns : tie.Need-returns invariant-loop decreases-loop
 returns c =
     let l = c.before.loop in
-    extending_end _ _ _ _ _ _ l.invariant.3 (drop_end _ l.i c.loop-test.false)
+    extending_end _ _ _ _ _ _ l.invariant.1 (drop_end _ l.i c.loop-test.false)
 
 pub directive-definitions-spec : {M : Type 1} → statement M
 directive-definitions-spec =
@@ -96,5 +76,4 @@ directive-definitions-spec =
     loop-less
     loop-again
     same_length
-    same-length-2
     returns)

@@ -4,9 +4,9 @@ use Prim.Native.Nat.{◌-◌}
 use lib.ListN.{length, drop}
 use Rattle.from_ast_index.proofs.Lists.{drop_next, drop_end}
 use Rattle.component.specs.Pushed.{filled}
-use Rattle.component.specs.Places.{Placed}
 use Rattle.component.specs.RowsByCards.{same_stored, extension_rows_at, extension_rows, extend_by_extensions}
-use Rattle.component.proofs.Sticky.{Extending, extending, extending_capacity, extending_next, extending_end}
+use Rattle.component.proofs.Sticky.{Extending, extending_capacity, extending_next, extending_end}
+use Rattle.component.proofs.Sticky.{extending}
 use Rattle.from_ast_rows.proofs.extensions.type_extensions.Statement.{statement}
 use Rattle.from_ast_rows.proofs.extensions.type_extensions.Tie as tie
 use borrow.Author.Rules.{rules}
@@ -15,64 +15,55 @@ use Rattle.from_ast_rows.proofs.extensions.type_extensions.Lts as lts
 use Rattle.component.proofs.extend_ast.Reads as extend-ast-reads
 
 abbrev invariant-loop : tie.invariant-loop
-invariant-loop text words numbers mine kind places₀ rows₀ start used next₀ i₀ places rows next i =
-    (length places ≡ length places₀)
-    × (length rows ≡ length rows₀)
-    × Placed words numbers places kind start (filled rows next)
+invariant-loop text words hashes mine kind rows₀ start used next₀ i₀ rows next i =
+    (length rows ≡ length rows₀)
     × Extending (same_stored text words) start (extension_rows_at text words kind) (drop i mine) (filled rows next)
     (extend_by_extensions text words kind mine start (filled rows₀ next₀))
 
 abbrev decreases-loop : tie.decreases-loop
-decreases-loop text words numbers mine kind places₀ rows₀ start used next₀ i₀ places rows next i = length mine - i
+decreases-loop text words hashes mine kind rows₀ start used next₀ i₀ rows next i = length mine - i
 
 loop-holds : tie.Need-loop-init invariant-loop decreases-loop
 unfolding extension_rows
-loop-holds c =
-    let p = c.before.before.before.before.before.before.requires in
-    (refl, refl, p.1, extending _ _ _ _ _ _ refl p.4 p.3)
+loop-holds c = (refl, extending _ _ _ _ _ _ refl c.before.before.before.before.before.requires.3 c.before.before.before.before.before.requires.2)
 
 mul-card : tie.Need-overflow-mul-card invariant-loop decreases-loop
-mul-card c = search rules
+mul-card c = search_lem rules
 
 shared-slice-read-card : tie.Need-shared-slice-read-card invariant-loop decreases-loop
-shared-slice-read-card c = search rules
+shared-slice-read-card c = search_lem rules
 
 extend-ast-requires : tie.Need-extend-ast-requires invariant-loop decreases-loop
 unfolding extension_rows_at
 extend-ast-requires c κs =
-    let s = c.before.before.before.before.before.before.before.before.before.before.before in
-    let l = c.before.before.before.before.loop in
-    let h = c.before.before.before.loop-test.true in
-    (s.requires.0, l.invariant.2, s.requires.2.stored l.i h, l.invariant.3.begun, extending_capacity _ _ _ _ _ _ l.invariant.3 _ _ (drop_next _ l.i h))
+    let s = c.before.before.before.before.before.before.before.before.before in
+    let l = c.before.before.before.loop in
+    let h = c.before.before.loop-test.true in
+    (s.requires.0, s.requires.1.stored l.i h, l.invariant.1.begun, extending_capacity _ _ _ _ _ _ l.invariant.1 _ _ (drop_next _ l.i h))
 
 add-i : tie.Need-overflow-add-i invariant-loop decreases-loop
-add-i c = search rules
+add-i c = search_lem rules
 
 loop-less : tie.Need-loop-smaller invariant-loop decreases-loop
-loop-less c = search rules
+loop-less c = search_lem rules
 
 loop-again : tie.Need-loop-preserved invariant-loop decreases-loop
 unfolding extension_rows_at
 loop-again c =
-    let l = c.before.before.before.before.before.before.before.before.before.loop in
-    let r = c.before.before.before.before.extend-ast in (
+    let l = c.before.before.before.before.before.before.loop in
+    let r = c.before.before.extend-ast in (
       r.auto.1.1.1.1.1.1.0 ∙ l.invariant.0,
-      r.auto.1.1.1.1.1.1.1.0 ∙ l.invariant.1,
-      r.ensures.1,
-      extending_next _ _ _ _ _ _ l.invariant.3 _ _ (drop_next _ l.i c.before.before.before.before.before.before.before.before.loop-test.true) _
-          r.ensures.0,
+      extending_next _ _ _ _ _ _ l.invariant.1 _ _
+          (drop_next _ l.i c.before.before.before.before.before.loop-test.true) _ r.ensures,
     )
 
 same_length : tie.Need-same-length invariant-loop decreases-loop
-same_length c = c.before.loop.invariant.0
-
-same-length-2 : tie.Need-same-length-2 invariant-loop decreases-loop
-same-length-2 c = c.before.loop.invariant.1
+same_length c = search_lem rules
 
 returns : tie.Need-returns invariant-loop decreases-loop
 returns c =
     let l = c.before.loop in
-    (extending_end _ _ _ _ _ _ l.invariant.3 (drop_end _ l.i c.loop-test.false), l.invariant.2)
+    extending_end _ _ _ _ _ _ l.invariant.1 (drop_end _ l.i c.loop-test.false)
 
 pub type-extensions-spec : {M : Type 1} → statement M
 type-extensions-spec =
@@ -88,5 +79,4 @@ type-extensions-spec =
     loop-less
     loop-again
     same_length
-    same-length-2
     returns)

@@ -23,10 +23,10 @@ loop-holds : tie.Need-loop-init invariant-loop decreases-loop
 loop-holds c = refl
 
 mul-sets-root : tie.Need-overflow-mul-sets-root invariant-loop decreases-loop
-mul-sets-root c = search rules
+mul-sets-root c = search_lem rules
 
 shared-slice-read-sets-root : tie.Need-shared-slice-read-sets-root invariant-loop decreases-loop
-shared-slice-read-sets-root c = search rules
+shared-slice-read-sets-root c = search_lem rules
 
 sets-root-requires : tie.Need-sets-root-requires invariant-loop decreases-loop
 sets-root-requires c κs =
@@ -38,10 +38,10 @@ returns c = sym (c.before.before.before.before.loop.invariant ∙ any_hit _ _ c.
     c.before.before.before.loop-test.true (sym c.before.sets-root.ensures ∙ c.if1.true))
 
 add-i : tie.Need-overflow-add-i invariant-loop decreases-loop
-add-i c = search rules
+add-i c = search_lem rules
 
 loop-less : tie.Need-loop-smaller invariant-loop decreases-loop
-loop-less c = search rules
+loop-less c = search_lem rules
 
 loop-again : tie.Need-loop-preserved invariant-loop decreases-loop
 loop-again c = c.before.before.before.before.loop.invariant ∙ any_miss _ _ c.before.before.before.before.loop.i

@@ -31,25 +31,25 @@ loop-holds : tie.Need-loop-init invariant-loop decreases-loop
 loop-holds c = refl
 
 mul-card : tie.Need-overflow-mul-card invariant-loop decreases-loop
-mul-card c = search rules
+mul-card c = search_lem rules
 
 shared-slice-read-card : tie.Need-shared-slice-read-card invariant-loop decreases-loop
-shared-slice-read-card c = search rules
+shared-slice-read-card c = search_lem rules
 
 add-i : tie.Need-overflow-add-i invariant-loop decreases-loop
-add-i c = search rules
+add-i c = search_lem rules
 
 cast-card-kind : tie.Need-overflow-cast-card-kind invariant-loop decreases-loop
 cast-card-kind c = omega (arith, c.shared-slice-known5.given c.before.before.loop.i)
 
 card-kind-requires : tie.Need-card-kind-requires invariant-loop decreases-loop
-card-kind-requires c κs = search rules
+card-kind-requires c κs = search_lem rules
 
 is-type-kind-requires : tie.Need-is-type-kind-requires invariant-loop decreases-loop
-is-type-kind-requires c κs = search rules
+is-type-kind-requires c κs = search_lem rules
 
 loop-less : tie.Need-loop-smaller invariant-loop decreases-loop
-loop-less c = search rules
+loop-less c = search_lem rules
 
 loop-again : tie.Need-loop-preserved invariant-loop decreases-loop
 loop-again c =
@@ -61,13 +61,13 @@ cast-card-name : tie.Need-overflow-cast-card-name invariant-loop decreases-loop
 cast-card-name c = omega (arith, c.before.before.before.shared-slice-known5.given c.before.before.before.before.before.loop.i)
 
 card-name-requires : tie.Need-card-name-requires invariant-loop decreases-loop
-card-name-requires c κs = search rules
+card-name-requires c κs = search_lem rules
 
 compare-requires : tie.Need-compare-requires invariant-loop decreases-loop
-compare-requires c κs = search rules
+compare-requires c κs = search_lem rules
 
 enum_told : tie.Need-enum-told invariant-loop decreases-loop
-enum_told c = search rules
+enum_told c = search_lem rules
 
 returns : tie.Need-returns invariant-loop decreases-loop
 unfolding first_kind
@@ -80,10 +80,10 @@ returns c =
     (c.before.before.before.before.before.before.before.before.before.loop.invariant ∙ first_hit _ _ c.before.before.before.before.before.before.before.before.before.loop.i c.before.before.before.before.before.before.before.before.loop-test.true (named_is _ _ _ _ _ is ∙ same)))
 
 enum-told-2 : tie.Need-enum-told-2 invariant-loop decreases-loop
-enum-told-2 c = search rules
+enum-told-2 c = search_lem rules
 
 loop-less-2 : tie.Need-loop-smaller-2 invariant-loop decreases-loop
-loop-less-2 c = search rules
+loop-less-2 c = search_lem rules
 
 loop-again-2 : tie.Need-loop-preserved-2 invariant-loop decreases-loop
 loop-again-2 c =
@@ -93,10 +93,10 @@ loop-again-2 c =
     c.before.before.before.before.before.before.before.before.before.loop.invariant ∙ first_miss _ _ c.before.before.before.before.before.before.before.before.before.loop.i c.before.before.before.before.before.before.before.before.loop-test.true (named_is _ _ _ _ _ is ∙ other)
 
 enum-told-3 : tie.Need-enum-told-3 invariant-loop decreases-loop
-enum-told-3 c = search rules
+enum-told-3 c = search_lem rules
 
 loop-less-3 : tie.Need-loop-smaller-3 invariant-loop decreases-loop
-loop-less-3 c = search rules
+loop-less-3 c = search_lem rules
 
 loop-again-3 : tie.Need-loop-preserved-3 invariant-loop decreases-loop
 loop-again-3 c =

@@ -11,10 +11,10 @@ use Rattle.from_ast_rows.proofs.root_operations.is_default_object.Lts as lts
 use Rattle.from_ast_rows.proofs.root_operations.kind_named.Reads as kind-named-reads
 
 slice-aggregate-kind-named : tie.Need-slice-aggregate-kind-named
-slice-aggregate-kind-named c = search rules
+slice-aggregate-kind-named c = search_lem rules
 
 kind-named-requires : tie.Need-kind-named-requires
-kind-named-requires c κs = search rules
+kind-named-requires c κs = search_lem rules
 
 returns : tie.Need-returns
 unfolding default_name bytes
@@ -22,10 +22,10 @@ returns c = default_is _ _ _ _ c.before.before.before.before.before.before.args.
     c.kind-named.ensures
 
 slice-aggregate-kind-named-2 : tie.Need-slice-aggregate-kind-named-2
-slice-aggregate-kind-named-2 c = search rules
+slice-aggregate-kind-named-2 c = search_lem rules
 
 kind-named-requires-2 : tie.Need-kind-named-requires-2
-kind-named-requires-2 c κs = search rules
+kind-named-requires-2 c κs = search_lem rules
 
 returns-2 : tie.Need-returns-2
 unfolding default_name bytes
@@ -33,10 +33,10 @@ returns-2 c = default_is _ _ _ _ c.before.before.before.before.before.before.bef
     (ap default_name (sym c.before.before.if2.true)) c.kind-named2.ensures
 
 slice-aggregate-kind-named-3 : tie.Need-slice-aggregate-kind-named-3
-slice-aggregate-kind-named-3 c = search rules
+slice-aggregate-kind-named-3 c = search_lem rules
 
 kind-named-requires-3 : tie.Need-kind-named-requires-3
-kind-named-requires-3 c κs = search rules
+kind-named-requires-3 c κs = search_lem rules
 
 returns-3 : tie.Need-returns-3
 unfolding default_name bytes

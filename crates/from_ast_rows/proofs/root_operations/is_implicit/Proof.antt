@@ -12,7 +12,7 @@ use Rattle.from_ast_rows.proofs.root_operations.any_root.Reads as any-root-reads
 use Rattle.from_ast_rows.proofs.root_operations.has_implicit_root_operation.Reads as has-implicit-root-operation-reads
 
 any-root-requires : tie.Need-any-root-requires
-any-root-requires c κs = search rules
+any-root-requires c κs = search_lem rules
 
 returns : tie.Need-returns
 returns c =
@@ -21,7 +21,7 @@ returns c =
     ap not c.any-root.ensures ∙ sym (adopted ∙ implicit_adopting _ _ _)
 
 has-implicit-root-operation-requires : tie.Need-has-implicit-root-operation-requires
-has-implicit-root-operation-requires c κs = search rules
+has-implicit-root-operation-requires c κs = search_lem rules
 
 returns-2 : tie.Need-returns-2
 returns-2 c =

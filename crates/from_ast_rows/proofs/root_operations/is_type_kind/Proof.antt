@@ -12,7 +12,7 @@ use Rattle.ast.proofs.kinds.is_type.Reads as is-type-reads
 use Rattle.ast.proofs.kinds.is_type_extension.Reads as is-type-extension-reads
 
 is-type-extension-requires : tie.Need-is-type-extension-requires
-is-type-extension-requires c κs = search rules
+is-type-extension-requires c κs = search_lem rules
 
 returns : tie.Need-returns
 returns c =
@@ -20,7 +20,7 @@ returns c =
     c.is-type-extension.ensures ∙ extension_kind_lem e.kind ∙ ap (λ (b : Bool). is_type_kind b e.kind) (sym c.before.if1.true)
 
 is-type-requires : tie.Need-is-type-requires
-is-type-requires c κs = search rules
+is-type-requires c κs = search_lem rules
 
 returns-2 : tie.Need-returns-2
 returns-2 c =

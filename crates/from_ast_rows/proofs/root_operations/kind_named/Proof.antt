@@ -14,7 +14,7 @@ use Rattle.from_ast_rows.proofs.root_operations.first_kind.Reads as first-kind-r
 use Rattle.ast.proofs.kinds.definition_of.Reads as definition-of-reads
 
 first-kind-requires : tie.Need-first-kind-requires
-first-kind-requires c κs = search rules
+first-kind-requires c κs = search_lem rules
 
 returns : tie.Need-returns
 returns c =
@@ -28,10 +28,10 @@ returns-2 c =
     sym (ap (λ (b : Bool). kind_named_at e.text.now e.words.now b e.headings.now e.name.now) (not-true _ c.if2.true) ∙ none)
 
 first-kind-requires-2 : tie.Need-first-kind-requires-2
-first-kind-requires-2 c κs = search rules
+first-kind-requires-2 c κs = search_lem rules
 
 definition-of-requires : tie.Need-definition-of-requires
-definition-of-requires c κs = search rules
+definition-of-requires c κs = search_lem rules
 
 returns-3 : tie.Need-returns-3
 returns-3 c =

@@ -14,38 +14,37 @@ use Rattle.from_ast_rows.proofs.root_operations.schema_definition.Reads as schem
 use Rattle.from_ast_rows.proofs.root_operations.schema_lists.Reads as schema-lists-reads
 
 schema-definition-requires : tie.Need-schema-definition-requires
-schema-definition-requires c κs = c.before.before.before.before.before.before.requires.2
+schema-definition-requires c κs = search_lem rules
 
 is-implicit-requires : tie.Need-is-implicit-requires
 is-implicit-requires c κs =
-    let s = c.before.before.before.before.before.before.before in
-    (s.requires.2, s.requires.0.cards_most)
+    let s = c.before.before.before.before.before.before in
+    (s.requires.1, s.requires.0.cards_most)
 
 push-row-requires : tie.Need-push-row-requires
 push-row-requires c κs =
-    let rest = rest_begin _ _ _ refl c.before.before.before.before.before.before.before.before.before.requires.3 in
+    let rest = rest_begin _ _ _ refl c.before.before.before.before.before.before.before.before.requires.2 in
     let cut = schema_cut _ _ _ _ _ _ c.before.before.schema-definition.ensures.0 c.before.is-implicit.ensures in
     one_capacity _ _ _ (rest_capacity _ _ _ rest _ _ cut)
 
 schema-lists-requires : tie.Need-schema-lists-requires
 schema-lists-requires c κs =
-    let s = c.before.before.before.before.before.before.before.before.before.before.before.before.before.before in
-    let rest = rest_begin _ _ _ refl s.requires.3 in
-    let cut = schema_cut _ _ _ _ _ _ c.before.before.before.before.before.before.before.schema-definition.ensures.0 c.before.before.before.before.before.before.is-implicit.ensures in
-    let n = rest_next _ _ _ rest _ _ cut _ c.before.before.before.before.push_row.ensures in
-    (s.requires.0, s.requires.1, s.requires.2, c.before.before.before.before.before.before.before.schema-definition.ensures.1, rest_fits _ _ _ n)
+    let s = c.before.before.before.before.before.before.before.before.before.before.before.before in
+    let rest = rest_begin _ _ _ refl s.requires.2 in
+    let cut = schema_cut _ _ _ _ _ _ c.before.before.before.before.before.before.schema-definition.ensures.0
+    c.before.before.before.before.before.is-implicit.ensures in
+    let n = rest_next _ _ _ rest _ _ cut _ c.before.before.before.push_row.ensures in
+    (s.requires.0, s.requires.1, c.before.before.before.before.before.before.schema-definition.ensures.1, rest_fits _ _ _ n)
 
 same_length : tie.Need-same-length
-same_length c = search rules
-
-same-length-2 : tie.Need-same-length-2
-same-length-2 c = search rules
+same_length c = search_lem rules
 
 returns : tie.Need-returns
 returns c =
-    let rest = rest_begin _ _ _ refl c.before.before.before.before.before.before.before.before.before.before.before.before.before.before.before.before.before.before.before.requires.3 in
-    let cut = schema_cut _ _ _ _ _ _ c.before.before.before.before.before.before.before.before.before.before.before.before.schema-definition.ensures.0 c.before.before.before.before.before.before.before.before.before.before.before.is-implicit.ensures in
-    c.before.before.before.before.schema_lists.ensures ∙ (rest_next _ _ _ rest _ _ cut _ c.before.before.before.before.before.before.before.before.before.push_row.ensures).whole
+    let rest = rest_begin _ _ _ refl c.before.before.before.before.before.before.before.before.before.before.before.before.before.before.before.requires.2 in
+    let cut = schema_cut _ _ _ _ _ _ c.before.before.before.before.before.before.before.before.before.schema-definition.ensures.0
+    c.before.before.before.before.before.before.before.before.is-implicit.ensures in
+    c.before.before.schema_lists.ensures ∙ (rest_next _ _ _ rest _ _ cut _ c.before.before.before.before.before.before.push_row.ensures).whole
 
 pub push-schema-spec : {M : Type 1} → statement M
 push-schema-spec =
@@ -56,5 +55,4 @@ push-schema-spec =
     push-row-requires
     schema-lists-requires
     same_length
-    same-length-2
     returns)

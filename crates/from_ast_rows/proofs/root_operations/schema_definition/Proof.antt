@@ -26,16 +26,16 @@ loop-holds : tie.Need-loop-init invariant-loop decreases-loop
 loop-holds c = refl
 
 mul-card : tie.Need-overflow-mul-card invariant-loop decreases-loop
-mul-card c = search rules
+mul-card c = search_lem rules
 
 shared-slice-read-card : tie.Need-shared-slice-read-card invariant-loop decreases-loop
-shared-slice-read-card c = search rules
+shared-slice-read-card c = search_lem rules
 
 cast-card-kind : tie.Need-overflow-cast-card-kind invariant-loop decreases-loop
 cast-card-kind c = omega (arith, c.shared-slice-known3.given c.before.before.loop.i)
 
 card-kind-requires : tie.Need-card-kind-requires invariant-loop decreases-loop
-card-kind-requires c κs = search rules
+card-kind-requires c κs = search_lem rules
 
 returns : tie.Need-returns invariant-loop decreases-loop
 unfolding schema_card
@@ -48,10 +48,10 @@ returns c =
     )
 
 add-i : tie.Need-overflow-add-i invariant-loop decreases-loop
-add-i c = search rules
+add-i c = search_lem rules
 
 loop-less : tie.Need-loop-smaller invariant-loop decreases-loop
-loop-less c = search rules
+loop-less c = search_lem rules
 
 loop-again : tie.Need-loop-preserved invariant-loop decreases-loop
 loop-again c = c.before.before.before.before.loop.invariant ∙ first_miss _ _ c.before.before.before.before.loop.i

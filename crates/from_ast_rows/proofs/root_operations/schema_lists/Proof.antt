@@ -1,6 +1,5 @@
 -- One list after the other.
 use mathlib.Core.Path.{refl, ◌∙◌}
-use native.Mathlib.Omega.{arith}
 use Rattle.component.proofs.Pushing.{left_capacity, left_next, left_end}
 use Rattle.from_ast_rows.proofs.SchemaTurns.{schema_lists_begin}
 use Rattle.from_ast_rows.proofs.root_operations.schema_lists.Statement.{statement}
@@ -11,67 +10,49 @@ use Rattle.from_ast_rows.proofs.root_operations.schema_list.Reads as schema-list
 
 schema-list-requires : tie.Need-schema-list-requires
 schema-list-requires c κs =
-    let s = c.before.before.before.before.before.before.before.before in
-    let l0 = schema_lists_begin _ _ _ _ _ _ _ s.requires.4 in
-    (s.requires.0, s.requires.1, s.requires.2, s.requires.3, left_capacity _ _ _ _ l0 _ _ refl)
+    let s = c.before.before.before.before.before.before in
+    let l0 = schema_lists_begin _ _ _ _ _ _ _ s.requires.3 in
+    (s.requires.0, s.requires.1, s.requires.2, left_capacity _ _ _ _ l0 _ _ refl)
 
 schema-list-requires-2 : tie.Need-schema-list-requires-2
 schema-list-requires-2 c κs =
-    let s = c.before.before.before.before.before.before.before.before.before.before.before.before.before.before.before in
-    let r = c.before.before.before.before.before.before.schema_list in
-    let l0 = schema_lists_begin _ _ _ _ _ _ _ s.requires.4 in
-    let l1 = left_next _ _ _ _ l0 _ _ refl _ r.ensures in
-    (s.requires.0, omega (arith, s.requires.1, r.auto.1.1.1.1.1.1.0), s.requires.2, s.requires.3, left_capacity _ _ _ _ l1 _ _ refl)
+    let s = c.before.before.before.before.before.before.before.before.before.before in
+    let l0 = schema_lists_begin _ _ _ _ _ _ _ s.requires.3 in
+    let l1 = left_next _ _ _ _ l0 _ _ refl _ c.before.before.before.schema_list.ensures in
+    (s.requires.0, s.requires.1, s.requires.2, left_capacity _ _ _ _ l1 _ _ refl)
 
 schema-list-requires-3 : tie.Need-schema-list-requires-3
 schema-list-requires-3 c κs =
-    let s = c.before.before.before.before.before.before.before.before.before.before.before.before.before.before.before.before.before.before.before.before.before.before in
-    let r = c.before.before.before.before.before.before.before.before.before.before.before.before.before.schema_list in
-    let q = c.before.before.before.before.before.before.schema-list2 in
-    let l0 = schema_lists_begin _ _ _ _ _ _ _ s.pre.4 in
-    let l1 = left_next _ _ _ _ l0 _ _ refl _ r.ensures in
-    let l2 = left_next _ _ _ _ l1 _ _ refl _ q.ensures in
-    (s.pre.0, omega (arith, s.pre.1, r.auto.1.1.1.1.1.1.0, q.auto.1.1.1.1.1.1.0), s.pre.2, s.pre.3, left_capacity _ _ _ _ l2 _ _ refl)
+    let s = c.before.before.before.before.before.before.before.before.before.before.before.before.before.before in
+    let l0 = schema_lists_begin _ _ _ _ _ _ _ s.requires.3 in
+    let l1 = left_next _ _ _ _ l0 _ _ refl _ c.before.before.before.before.before.before.before.schema_list.ensures in
+    let l2 = left_next _ _ _ _ l1 _ _ refl _ c.before.before.before.schema-list2.ensures in
+    (s.requires.0, s.requires.1, s.requires.2, left_capacity _ _ _ _ l2 _ _ refl)
 
 schema-list-requires-4 : tie.Need-schema-list-requires-4
 schema-list-requires-4 c κs =
-    let s = c.before.before.before.before.before.before.before.before.before.before.before.before.before.before.before.before.before.before.before.before.before.before.before.before.before.before.before.before.before in
-    let r = c.before.before.before.before.before.before.before.before.before.before.before.before.before.before.before.before.before.before.before.before.schema_list in
-    let q = c.before.before.before.before.before.before.before.before.before.before.before.before.before.schema-list2 in
-    let p = c.before.before.before.before.before.before.schema-list3 in
-    let l0 = schema_lists_begin _ _ _ _ _ _ _ s.pre.4 in
-    let l1 = left_next _ _ _ _ l0 _ _ refl _ r.ensures in
-    let l2 = left_next _ _ _ _ l1 _ _ refl _ q.ensures in
-    let l3 = left_next _ _ _ _ l2 _ _ refl _ p.ensures in (
-      s.pre.0,
-      omega (arith, s.pre.1, r.kept.1.1.1.1.1.1.0, q.auto.1.1.1.1.1.1.0, p.auto.1.1.1.1.1.1.0),
-      s.pre.2,
-      s.pre.3,
-      left_capacity _ _ _ _ l3 _ _ refl,
-    )
+    let s = c.before.before.before.before.before.before.before.before.before.before.before.before.before.before.before.before.before.before in
+    let l0 = schema_lists_begin _ _ _ _ _ _ _ s.requires.3 in
+    let l1 = left_next _ _ _ _ l0 _ _ refl _ c.before.before.before.before.before.before.before.before.before.before.before.schema_list.ensures in
+    let l2 = left_next _ _ _ _ l1 _ _ refl _ c.before.before.before.before.before.before.before.schema-list2.ensures in
+    let l3 = left_next _ _ _ _ l2 _ _ refl _ c.before.before.before.schema-list3.ensures in
+    (s.requires.0, s.requires.1, s.requires.2, left_capacity _ _ _ _ l3 _ _ refl)
 
 same_length : tie.Need-same-length
 same_length c =
-    c.before.before.before.before.schema-list4.auto.1.1.1.1.1.1.0
-    ∙ c.before.before.before.before.before.before.before.before.before.before.before.schema-list3.auto.1.1.1.1.1.1.0
-    ∙ c.before.before.before.before.before.before.before.before.before.before.before.before.before.before.before.before.before.before.schema-list2.auto.1.1.1.1.1.1.0
-    ∙ c.before.before.before.before.before.before.before.before.before.before.before.before.before.before.before.before.before.before.before.before.before.before.before.before.before.schema_list.auto.1.1.1.1.1.1.0
-
-same-length-2 : tie.Need-same-length-2
-same-length-2 c =
-    c.before.before.before.before.schema-list4.auto.1.1.1.1.1.1.1.0
-    ∙ c.before.before.before.before.before.before.before.before.before.before.before.schema-list3.auto.1.1.1.1.1.1.1.0
-    ∙ c.before.before.before.before.before.before.before.before.before.before.before.before.before.before.before.before.before.before.schema-list2.auto.1.1.1.1.1.1.1.0
-    ∙ c.before.before.before.before.before.before.before.before.before.before.before.before.before.before.before.before.before.before.before.before.before.before.before.before.before.schema_list.auto.1.1.1.1.1.1.1.0
+    c.before.before.schema-list4.auto.1.1.1.1.1.1.0
+    ∙ c.before.before.before.before.before.before.schema-list3.auto.1.1.1.1.1.1.0
+    ∙ c.before.before.before.before.before.before.before.before.before.before.schema-list2.auto.1.1.1.1.1.1.0
+    ∙ c.before.before.before.before.before.before.before.before.before.before.before.before.before.before.schema_list.auto.1.1.1.1.1.1.0
 
 returns : tie.Need-returns
 returns c =
-    let s = c.before.before.before.before.before.before.before.before.before.before.before.before.before.before.before.before.before.before.before.before.before.before.before.before.before.before.before.before.before.before.before.before.before.before in
-    let l0 = schema_lists_begin _ _ _ _ _ _ _ s.pre.4 in
-    let l1 = left_next _ _ _ _ l0 _ _ refl _ c.before.before.before.before.before.before.before.before.before.before.before.before.before.before.before.before.before.before.before.before.before.before.before.before.before.schema_list.ensures in
-    let l2 = left_next _ _ _ _ l1 _ _ refl _ c.before.before.before.before.before.before.before.before.before.before.before.before.before.before.before.before.before.before.schema-list2.ensures in
-    let l3 = left_next _ _ _ _ l2 _ _ refl _ c.before.before.before.before.before.before.before.before.before.before.before.schema-list3.ensures in
-    let l4 = left_next _ _ _ _ l3 _ _ refl _ c.before.before.before.before.schema-list4.ensures in
+    let s = c.before.before.before.before.before.before.before.before.before.before.before.before.before.before.before.before.before.before.before.before.before in
+    let l0 = schema_lists_begin _ _ _ _ _ _ _ s.pre.3 in
+    let l1 = left_next _ _ _ _ l0 _ _ refl _ c.before.before.before.before.before.before.before.before.before.before.before.before.before.before.schema_list.ensures in
+    let l2 = left_next _ _ _ _ l1 _ _ refl _ c.before.before.before.before.before.before.before.before.before.before.schema-list2.ensures in
+    let l3 = left_next _ _ _ _ l2 _ _ refl _ c.before.before.before.before.before.before.schema-list3.ensures in
+    let l4 = left_next _ _ _ _ l3 _ _ refl _ c.before.before.schema-list4.ensures in
     left_end _ _ _ _ l4 refl
 
 pub schema-lists-spec : {M : Type 1} → statement M
@@ -83,5 +64,4 @@ schema-lists-spec =
     schema-list-requires-3
     schema-list-requires-4
     same_length
-    same-length-2
     returns)

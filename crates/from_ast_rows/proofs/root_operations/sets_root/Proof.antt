@@ -29,13 +29,13 @@ abbrev decreases-loop : tie.decreases-loop
 decreases-loop words card count i₀ i = count - i
 
 card-kind-requires : tie.Need-card-kind-requires invariant-loop decreases-loop
-card-kind-requires c κs = search rules
+card-kind-requires c κs = search_lem rules
 
 returns : tie.Need-returns invariant-loop decreases-loop
 returns c = sym (sets_not _ _ (λ q. c.if1.true (c.before.card_kind_lem.ensures ∙ q)))
 
 cards-used-requires : tie.Need-cards-used-requires invariant-loop decreases-loop
-cards-used-requires c κs = search rules
+cards-used-requires c κs = search_lem rules
 
 add-i : tie.Need-overflow-add-i invariant-loop decreases-loop
 add-i c = let p = c.before.before.before.before.requires in omega arith
@@ -47,10 +47,10 @@ loop-holds c =
     (omega arith, sets_is _ _ (sym c.before.before.card_kind_lem.ensures ∙ c.before.if1.false))
 
 card-kind-requires-2 : tie.Need-card-kind-requires-2 invariant-loop decreases-loop
-card-kind-requires-2 c κs = search rules
+card-kind-requires-2 c κs = search_lem rules
 
 is-part-requires : tie.Need-is-part-requires invariant-loop decreases-loop
-is-part-requires c κs = search rules
+is-part-requires c κs = search_lem rules
 
 returns-2 : tie.Need-returns-2 invariant-loop decreases-loop
 returns-2 c =
@@ -60,7 +60,7 @@ returns-2 c =
     sym (l.invariant.1 ∙ root_stop _ l.i (omega arith) part)
 
 is-root-requires : tie.Need-is-root-requires invariant-loop decreases-loop
-is-root-requires c κs = search rules
+is-root-requires c κs = search_lem rules
 
 returns-3 : tie.Need-returns-3 invariant-loop decreases-loop
 returns-3 c =
@@ -78,7 +78,7 @@ add-i-2 c =
     omega arith
 
 loop-less : tie.Need-loop-smaller invariant-loop decreases-loop
-loop-less c = search rules
+loop-less c = search_lem rules
 
 loop-again : tie.Need-loop-preserved invariant-loop decreases-loop
 loop-again c =

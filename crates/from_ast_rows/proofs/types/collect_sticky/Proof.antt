@@ -1,7 +1,5 @@
 -- An adopted type has its extensions' parts; a defined one first its own.
 use mathlib.Core.Path.{◌∙◌}
-use Rattle.component.specs.Pushed.{filled}
-use Rattle.component.proofs.Places.{places_begin}
 use Rattle.component.proofs.Sticky.{grow_as, grow_fits, grow_capacity, grow_next}
 use Rattle.component.proofs.Turns.{type_extension_kind, list_adopted, list_defined, list_begin}
 use Rattle.from_ast_rows.proofs.types.collect_sticky.Statement.{statement}
@@ -9,71 +7,67 @@ use Rattle.from_ast_rows.proofs.types.collect_sticky.Tie as tie
 use borrow.Author.Rules.{rules}
 use Rattle.from_ast_rows.proofs.types.collect_sticky.Reads as reads
 use Rattle.from_ast_rows.proofs.types.collect_sticky.Lts as lts
-use Rattle.ast.proofs.kinds.is_type_extension.Reads as is-type-extension-reads
 use Rattle.component.proofs.extend_ast.Reads as extend-ast-reads
 use Rattle.from_ast_rows.proofs.extensions.type_extensions.Reads as type-extensions-reads
 use Rattle.store_reader.proofs.card_kind.Reads as card-kind-reads
+use Rattle.ast.proofs.kinds.is_type_extension.Reads as is-type-extension-reads
 
 card-kind-requires : tie.Need-card-kind-requires
-card-kind-requires c κs = search rules
+card-kind-requires c κs = search_lem rules
 
 is-type-extension-requires : tie.Need-is-type-extension-requires
-is-type-extension-requires c κs = search rules
+is-type-extension-requires c κs = search_lem rules
 
 type-extensions-requires : tie.Need-type-extensions-requires
 type-extensions-requires c κs =
-    let s = c.before.before.before.before.before.before.before.before.before.before.before in
-    let w = list_begin _ _ _ _ s.args.kind _ s.requires.4 in
-    let is = type_extension_kind _ _ _ c.before.before.before.before.card_kind_lem.ensures c.before.before.before.is-type-extension.ensures in
-    let l = grow_as _ _ _ _ _ _ (list_adopted _ _ _ _ s.args.kind (is ∙ c.before.before.if1.true)) w in
-    let fresh = places_begin _ _ _ s.args.kind (filled s.args.rows.now s.args.used) s.requires.1 in
-    (s.requires.0, fresh, s.requires.2, l.begun, grow_fits _ _ _ _ _ l)
+    let s = c.before.before.before.before.before.before.before.before.before in
+    let w = list_begin _ _ _ _ s.args.kind _ s.requires.3 in
+    let is = type_extension_kind _ _ _ c.before.before.before.card_kind_lem.ensures c.before.before.is-type-extension.ensures in
+    let l = grow_as _ _ _ _ _ _ (list_adopted _ _ _ _ s.args.kind (is ∙ c.before.if1.true)) w in
+    (s.requires.0, s.requires.1, l.begun, grow_fits _ _ _ _ _ l)
 
 same_length : tie.Need-same-length
-same_length c = c.before.before.before.before.type-extensions.auto.1.1.1.1.1.0
-
-same-length-2 : tie.Need-same-length-2
-same-length-2 c = c.before.before.before.before.type-extensions.auto.1.1.1.1.1.1.0
+same_length c = search_lem rules
 
 returns : tie.Need-returns
 returns c =
-    let s = c.before.before.before.before.before.before.before.before.before.before.before.before.before.before.before.before in
-    let w = list_begin _ _ _ _ s.args.kind _ s.requires.4 in
-    let is = type_extension_kind _ _ _ c.before.before.before.before.before.before.before.before.before.card_kind_lem.ensures c.before.before.before.before.before.before.before.before.is-type-extension.ensures in
-    c.before.before.before.before.type-extensions.ensures.0 ∙ (grow_as _ _ _ _ _ _ (list_adopted _ _ _ _ s.args.kind (is ∙ c.before.before.before.before.before.before.before.if1.true)) w).whole
+    let s = c.before.before.before.before.before.before.before.before.before.before.before.before in
+    let w = list_begin _ _ _ _ s.args.kind _ s.requires.3 in
+    let is = type_extension_kind _ _ _ c.before.before.before.before.before.before.card_kind_lem.ensures
+    c.before.before.before.before.before.is-type-extension.ensures in
+    c.before.before.type-extensions.ensures ∙ (grow_as _ _ _ _ _ _
+    (list_adopted _ _ _ _ s.args.kind (is ∙ c.before.before.before.before.if1.true)) w).whole
 
 extend-ast-requires : tie.Need-extend-ast-requires
 extend-ast-requires c κs =
-    let s = c.before.before.before.before.before.before.before.before.before.before.before in
-    let w = list_begin _ _ _ _ s.args.kind _ s.requires.4 in
-    let is = type_extension_kind _ _ _ c.before.before.before.before.card_kind_lem.ensures c.before.before.before.is-type-extension.ensures in
-    let cut = list_defined _ _ _ _ s.args.kind (is ∙ c.before.before.if1.false) in
-    let fresh = places_begin _ _ _ s.args.kind (filled s.args.rows.now s.args.used) s.requires.1 in
-    (s.requires.0, fresh, s.requires.3, w.begun, grow_capacity _ _ _ _ _ w _ _ cut)
+    let s = c.before.before.before.before.before.before.before.before.before in
+    let w = list_begin _ _ _ _ s.args.kind _ s.requires.3 in
+    let is = type_extension_kind _ _ _ c.before.before.before.card_kind_lem.ensures c.before.before.is-type-extension.ensures in
+    let cut = list_defined _ _ _ _ s.args.kind (is ∙ c.before.if1.false) in
+    (s.requires.0, s.requires.2, w.begun, grow_capacity _ _ _ _ _ w _ _ cut)
 
 type-extensions-requires-2 : tie.Need-type-extensions-requires-2
 type-extensions-requires-2 c κs =
-    let s = c.before.before.before.before.before.before.before.before.before.before.before.before.before.before.before.before.before.before in
-    let w = list_begin _ _ _ _ s.args.kind _ s.requires.4 in
-    let is = type_extension_kind _ _ _ c.before.before.before.before.before.before.before.before.before.before.before.card_kind_lem.ensures c.before.before.before.before.before.before.before.before.before.before.is-type-extension.ensures in
-    let cut = list_defined _ _ _ _ s.args.kind (is ∙ c.before.before.before.before.before.before.before.before.before.if1.false) in
-    let r = c.before.before.before.before.before.before.extend-ast.ensures in
-    let n = grow_next _ _ _ _ _ w _ _ cut _ r.0 in
-    (s.requires.0, r.1, s.requires.2, n.begun, grow_fits _ _ _ _ _ n)
+    let s = c.before.before.before.before.before.before.before.before.before.before.before.before.before in
+    let w = list_begin _ _ _ _ s.args.kind _ s.requires.3 in
+    let is = type_extension_kind _ _ _ c.before.before.before.before.before.before.before.card_kind_lem.ensures
+    c.before.before.before.before.before.before.is-type-extension.ensures in
+    let cut = list_defined _ _ _ _ s.args.kind (is ∙ c.before.before.before.before.before.if1.false) in
+    let n = grow_next _ _ _ _ _ w _ _ cut _ c.before.before.before.extend-ast.ensures in
+    (s.requires.0, s.requires.1, n.begun, grow_fits _ _ _ _ _ n)
 
-same-length-3 : tie.Need-same-length-3
-same-length-3 c = c.before.before.before.before.type-extensions2.auto.1.1.1.1.1.0 ∙ c.before.before.before.before.before.before.before.before.before.before.before.extend-ast.auto.1.1.1.1.1.1.0
-
-same-length-4 : tie.Need-same-length-4
-same-length-4 c = c.before.before.before.before.type-extensions2.auto.1.1.1.1.1.1.0 ∙ c.before.before.before.before.before.before.before.before.before.before.before.extend-ast.auto.1.1.1.1.1.1.1.0
+same-length-2 : tie.Need-same-length-2
+same-length-2 c = search_lem rules
 
 returns-2 : tie.Need-returns-2
 returns-2 c =
-    let s = c.before.before.before.before.before.before.before.before.before.before.before.before.before.before.before.before.before.before.before.before.before.before.before in
-    let w = list_begin _ _ _ _ s.args.kind _ s.pre.4 in
-    let is = type_extension_kind _ _ _ c.before.before.before.before.before.before.before.before.before.before.before.before.before.before.before.before.card_kind_lem.ensures c.before.before.before.before.before.before.before.before.before.before.before.before.before.before.before.is-type-extension.ensures in
-    let cut = list_defined _ _ _ _ s.args.kind (is ∙ c.before.before.before.before.before.before.before.before.before.before.before.before.before.before.if1.false) in
-    c.before.before.before.before.type-extensions2.ensures.0 ∙ (grow_next _ _ _ _ _ w _ _ cut _ c.before.before.before.before.before.before.before.before.before.before.before.extend-ast.ensures.0).whole
+    let s = c.before.before.before.before.before.before.before.before.before.before.before.before.before.before.before.before in
+    let w = list_begin _ _ _ _ s.args.kind _ s.requires.3 in
+    let is = type_extension_kind _ _ _ c.before.before.before.before.before.before.before.before.before.before.card_kind_lem.ensures
+    c.before.before.before.before.before.before.before.before.before.is-type-extension.ensures in
+    let cut = list_defined _ _ _ _ s.args.kind (is ∙ c.before.before.before.before.before.before.before.before.if1.false) in
+    c.before.before.type-extensions2.ensures ∙ (grow_next _ _ _ _ _ w _ _ cut _
+    c.before.before.before.before.before.before.extend-ast.ensures).whole
 
 pub collect-sticky-spec : {M : Type 1} → statement M
 collect-sticky-spec =
@@ -83,10 +77,8 @@ collect-sticky-spec =
     is-type-extension-requires
     type-extensions-requires
     same_length
-    same-length-2
     returns
     extend-ast-requires
     type-extensions-requires-2
-    same-length-3
-    same-length-4
+    same-length-2
     returns-2)

@@ -13,19 +13,19 @@ use Rattle.ast.proofs.kinds.definition_of.Reads as definition-of-reads
 use Rattle.ast.proofs.kinds.is_type_extension.Reads as is-type-extension-reads
 
 card-kind-requires : tie.Need-card-kind-requires
-card-kind-requires c κs = search rules
+card-kind-requires c κs = search_lem rules
 
 definition-of-requires : tie.Need-definition-of-requires
-definition-of-requires c κs = search rules
+definition-of-requires c κs = search_lem rules
 
 is-type-extension-requires : tie.Need-is-type-extension-requires
-is-type-extension-requires c κs = search rules
+is-type-extension-requires c κs = search_lem rules
 
 push-row-requires : tie.Need-push-row-requires
-push-row-requires c κs = search rules
+push-row-requires c κs = search_lem rules
 
 same_length : tie.Need-same-length
-same_length c = search rules
+same_length c = search_lem rules
 
 returns : tie.Need-returns
 returns c =
@@ -36,10 +36,10 @@ returns c =
     c.before.before.push_row.ensures ∙ row_adopted _ _ _ what _ (is ∙ c.before.before.before.before.if1.true)
 
 push-row-requires-2 : tie.Need-push-row-requires-2
-push-row-requires-2 c κs = search rules
+push-row-requires-2 c κs = search_lem rules
 
 same-length-2 : tie.Need-same-length-2
-same-length-2 c = search rules
+same-length-2 c = search_lem rules
 
 returns-2 : tie.Need-returns-2
 returns-2 c =

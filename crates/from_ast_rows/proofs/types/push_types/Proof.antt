@@ -15,52 +15,44 @@ use Rattle.from_ast_rows.proofs.types.push_types.Lts as lts
 use Rattle.from_ast_rows.proofs.types.push_type.Reads as push-type-reads
 
 abbrev invariant-loop : tie.invariant-loop
-invariant-loop text words numbers types extensions heads nexts mine₀ places₀ rows₀ used next₀ i₀ mine places rows next i =
+invariant-loop text words hashes types extensions mine₀ rows₀ used next₀ i₀ mine rows next i =
     (length mine ≡ length mine₀)
-    × (length places ≡ length places₀)
     × (length rows ≡ length rows₀)
     × Left (type_rows_at text words extensions) (drop i types) (filled rows next) (pushed (types_rows_at text words types extensions) (filled rows₀ next₀))
 
 abbrev decreases-loop : tie.decreases-loop
-decreases-loop text words numbers types extensions heads nexts mine₀ places₀ rows₀ used next₀ i₀ mine places rows next i = length types - i
+decreases-loop text words hashes types extensions mine₀ rows₀ used next₀ i₀ mine rows next i = length types - i
 
 loop-holds : tie.Need-loop-init invariant-loop decreases-loop
-loop-holds c = (refl, refl, refl, left_begin _ _ _ _ refl c.before.before.before.before.before.before.before.before.before.before.requires.6)
+loop-holds c = (refl, refl, left_begin _ _ _ _ refl c.before.before.before.before.before.before.before.requires.4)
 
 mul-card : tie.Need-overflow-mul-card invariant-loop decreases-loop
-mul-card c = search rules
+mul-card c = search_lem rules
 
 shared-slice-read-card : tie.Need-shared-slice-read-card invariant-loop decreases-loop
-shared-slice-read-card c = search rules
+shared-slice-read-card c = search_lem rules
 
 push-type-requires : tie.Need-push-type-requires invariant-loop decreases-loop
 push-type-requires c κs =
-    let s = c.before.before.before.before.before.before.before.before.before.before.before.before.before.before.before.before in
-    let l = c.before.before.before.before.before.loop in
-    let h = c.before.before.before.before.loop-test.true in (
-      s.requires.0,
-      omega (arith, s.requires.1, l.invariant.1),
-      s.requires.3,
-      s.requires.4,
-      s.requires.2.stored l.i h,
-      omega (arith, s.requires.5, l.invariant.0),
-      left_capacity _ _ _ _ l.invariant.3 _ _ (drop_next _ l.i h),
-    )
+    let s = c.before.before.before.before.before.before.before.before.before.before.before.before in
+    let l = c.before.before.before.before.loop in
+    let h = c.before.before.before.loop-test.true in
+    (s.requires.0, s.requires.2, s.requires.1.stored l.i h, omega (arith, s.requires.3, l.invariant.0), left_capacity _ _ _ _ l.invariant.2 _ _ (drop_next _ l.i h))
 
 add-i : tie.Need-overflow-add-i invariant-loop decreases-loop
-add-i c = search rules
+add-i c = search_lem rules
 
 loop-less : tie.Need-loop-smaller invariant-loop decreases-loop
-loop-less c = search rules
+loop-less c = search_lem rules
 
 loop-again : tie.Need-loop-preserved invariant-loop decreases-loop
 loop-again c =
-    let l = c.before.before.before.before.before.before.before.before.before.before.before.before.loop in
-    let r = c.before.before.before.before.before.before.push-type in (
-      r.auto.1.1.1.1.1.1.1.0 ∙ l.invariant.0,
-      r.auto.1.1.1.1.1.1.1.1.0 ∙ l.invariant.1,
-      r.auto.1.1.1.1.1.1.1.1.1.0 ∙ l.invariant.2,
-      left_next _ _ _ _ l.invariant.3 _ _ (drop_next _ l.i c.before.before.before.before.before.before.before.before.before.before.before.loop-test.true) _ r.ensures,
+    let l = c.before.before.before.before.before.before.before.before.before.loop in
+    let r = c.before.before.before.before.push-type in (
+      r.auto.1.1.1.1.1.0 ∙ l.invariant.0,
+      r.auto.1.1.1.1.1.1.0 ∙ l.invariant.1,
+      left_next _ _ _ _ l.invariant.2 _ _ (drop_next _ l.i c.before.before.before.before.before.before.before.before.loop-test.true) _
+          r.ensures,
     )
 
 same_length : tie.Need-same-length invariant-loop decreases-loop
@@ -69,13 +61,10 @@ same_length c = c.before.loop.invariant.0
 same-length-2 : tie.Need-same-length-2 invariant-loop decreases-loop
 same-length-2 c = c.before.loop.invariant.1
 
-same-length-3 : tie.Need-same-length-3 invariant-loop decreases-loop
-same-length-3 c = c.before.loop.invariant.2
-
 returns : tie.Need-returns invariant-loop decreases-loop
 returns c =
     let l = c.before.loop in
-    left_end _ _ _ _ l.invariant.3 (drop_end _ l.i c.loop-test.false)
+    left_end _ _ _ _ l.invariant.2 (drop_end _ l.i c.loop-test.false)
 
 pub push-types-spec : {M : Type 1} → statement M
 push-types-spec =
@@ -92,5 +81,4 @@ push-types-spec =
     loop-again
     same_length
     same-length-2
-    same-length-3
     returns)

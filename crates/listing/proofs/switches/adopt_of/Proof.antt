@@ -4,13 +4,13 @@ use Rattle.listing.proofs.switches.adopt_of.Tie as tie
 use borrow.Author.Rules.{rules}
 
 ignore-of-requires : tie.Need-ignore-of-requires
-ignore-of-requires c κs = search rules
+ignore-of-requires c κs = search_lem rules
 
 returns : tie.Need-returns
 returns c = rw (eq-eqb c.before.before.args.adopt 48 c.before.if1.true) c.ignore-of.ensures
 
 ignore-of-requires-2 : tie.Need-ignore-of-requires-2
-ignore-of-requires-2 c κs = search rules
+ignore-of-requires-2 c κs = search_lem rules
 
 returns-2 : tie.Need-returns-2
 returns-2 c =

@@ -7,25 +7,25 @@ use Rattle.listing.proofs.switches.read_switches.Tie as tie
 use borrow.Author.Rules.{rules}
 
 is-missing-requires : tie.Need-is-missing-requires
-is-missing-requires c κs = search rules
+is-missing-requires c κs = search_lem rules
 
 returns : tie.Need-returns
-returns c = search rules
+returns c = search_lem rules
 
 slice-aggregate-read-file : tie.Need-slice-aggregate-read-file
-slice-aggregate-read-file c = search rules
+slice-aggregate-read-file c = search_lem rules
 
 read-file-requires : tie.Need-read-file-requires
-read-file-requires c κs = search rules
+read-file-requires c κs = search_lem rules
 
 enum-known-n : tie.Need-enum-known-n
-enum-known-n c = search rules
+enum-known-n c = search_lem rules
 
 enum_told : tie.Need-enum-told
-enum_told c = search rules
+enum_told c = search_lem rules
 
 returns-2 : tie.Need-returns-2
-returns-2 c = search rules
+returns-2 c = search_lem rules
 
 array-share-prefix-buffer : tie.Need-array-share-prefix-buffer
 array-share-prefix-buffer c = let w = within c.before.n.given.1 c.before.before.before.before.read-file.ensures in omega arith
@@ -36,22 +36,22 @@ slice-aggregate-switches-of c =
     sym (length-take-le c.before.before.n.given.0.0 c.before.before.before.before.before.read-file.new.1.1.0 (omega arith))
 
 switches-of-requires : tie.Need-switches-of-requires
-switches-of-requires c κs = search rules
+switches-of-requires c κs = search_lem rules
 
 enum-told-2 : tie.Need-enum-told-2
-enum-told-2 c = search rules
+enum-told-2 c = search_lem rules
 
 tell-requires : tie.Need-tell-requires
-tell-requires c κs = search rules
+tell-requires c κs = search_lem rules
 
 enum-told-3 : tie.Need-enum-told-3
-enum-told-3 c = search rules
+enum-told-3 c = search_lem rules
 
 returns-3 : tie.Need-returns-3
-returns-3 c = search rules
+returns-3 c = search_lem rules
 
 returns-4 : tie.Need-returns-4
-returns-4 c = search rules
+returns-4 c = search_lem rules
 
 pub read-switches-spec : {M : Type 1} → statement M
 read-switches-spec =

@@ -10,10 +10,10 @@ use Rattle.parser.proofs.bodies.body.Tie as tie
 use borrow.Author.Rules.{rules}
 
 uses-and-last-requires : tie.Need-uses-and-last-requires
-uses-and-last-requires c κs = search rules
+uses-and-last-requires c κs = search_lem rules
 
 same_length : tie.Need-same-length
-same_length c = search rules
+same_length c = search_lem rules
 
 returns : tie.Need-returns
 unfolding body_of
@@ -21,10 +21,10 @@ returns c = rw (below 6 7 c.before.before.before.before.before.before.before.arg
     c.before.before.uses-and-last.ensures
 
 uses-and-last-requires-2 : tie.Need-uses-and-last-requires-2
-uses-and-last-requires-2 c κs = search rules
+uses-and-last-requires-2 c κs = search_lem rules
 
 same-length-2 : tie.Need-same-length-2
-same-length-2 c = search rules
+same-length-2 c = search_lem rules
 
 returns-2 : tie.Need-returns-2
 unfolding body_of
@@ -32,13 +32,13 @@ returns-2 c = rw (above 6 7 c.before.before.before.before.before.before.before.b
     c.before.before.uses-and-last2.ensures
 
 interfaces-requires : tie.Need-interfaces-requires
-interfaces-requires c κs = search rules
+interfaces-requires c κs = search_lem rules
 
 enum-known-implemented : tie.Need-enum-known-implemented
-enum-known-implemented c = search rules
+enum-known-implemented c = search_lem rules
 
 same-length-3 : tie.Need-same-length-3
-same-length-3 c = search rules
+same-length-3 c = search_lem rules
 
 returns-3 : tie.Need-returns-3
 unfolding body_of
@@ -54,10 +54,10 @@ returns-3 c =
 uses-and-last-requires-3 : tie.Need-uses-and-last-requires-3
 uses-and-last-requires-3 c κs =
     let m = rw c.before.before.implemented.given.1 at c.before.before.before.before.before.before.interfaces.ensures.1 in
-    (m.0, search rules, search rules)
+    (m.0, search_lem rules, search_lem rules)
 
 same-length-4 : tie.Need-same-length-4
-same-length-4 c = search rules
+same-length-4 c = search_lem rules
 
 returns-4 : tie.Need-returns-4
 unfolding body_of

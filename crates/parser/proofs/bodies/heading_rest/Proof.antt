@@ -6,7 +6,7 @@ use Rattle.parser.proofs.bodies.heading_rest.Tie as tie
 use borrow.Author.Rules.{rules}
 
 directive-rest-requires : tie.Need-directive-rest-requires
-directive-rest-requires c κs = search rules
+directive-rest-requires c κs = search_lem rules
 
 returns : tie.Need-returns
 unfolding rest_of
@@ -16,10 +16,10 @@ returns c =
     rw (le-leb a.kind 3 c.before.if1.true) (no_cards a.text.now directive_rest a.cards.now e.ensures)
 
 body-requires : tie.Need-body-requires
-body-requires c κs = search rules
+body-requires c κs = search_lem rules
 
 same_length : tie.Need-same-length
-same_length c = search rules
+same_length c = search_lem rules
 
 returns-2 : tie.Need-returns-2
 unfolding rest_of
@@ -29,10 +29,10 @@ returns-2 c =
     c.before.before.body.ensures
 
 more-requires : tie.Need-more-requires
-more-requires c κs = search rules
+more-requires c κs = search_lem rules
 
 same-length-2 : tie.Need-same-length-2
-same-length-2 c = search rules
+same-length-2 c = search_lem rules
 
 returns-3 : tie.Need-returns-3
 unfolding rest_of
@@ -45,16 +45,16 @@ returns-3 c =
     ) c.before.before.more.ensures
 
 sub_more : tie.Need-overflow-sub-more
-sub_more c = search rules
+sub_more c = search_lem rules
 
 sub-more-2 : tie.Need-overflow-sub-more-2
-sub-more-2 c = search rules
+sub-more-2 c = search_lem rules
 
 more-requires-2 : tie.Need-more-requires-2
-more-requires-2 c κs = search rules
+more-requires-2 c κs = search_lem rules
 
 same-length-3 : tie.Need-same-length-3
-same-length-3 c = search rules
+same-length-3 c = search_lem rules
 
 returns-4 : tie.Need-returns-4
 unfolding rest_of

@@ -10,10 +10,10 @@ use Rattle.parser.proofs.bodies.last_part.Tie as tie
 use borrow.Author.Rules.{rules}
 
 roots-requires : tie.Need-roots-requires
-roots-requires c κs = search rules
+roots-requires c κs = search_lem rules
 
 same_length : tie.Need-same-length
-same_length c = search rules
+same_length c = search_lem rules
 
 returns : tie.Need-returns
 unfolding last_of
@@ -30,10 +30,10 @@ returns-2 c =
     (no_cards a.text.now [] a.cards.now (reads_none a.text.now 0 a.c, (c.before.before.before.before.requires.0, omega arith)))
 
 fields-requires : tie.Need-fields-requires
-fields-requires c κs = search rules
+fields-requires c κs = search_lem rules
 
 same-length-2 : tie.Need-same-length-2
-same-length-2 c = search rules
+same-length-2 c = search_lem rules
 
 returns-3 : tie.Need-returns-3
 unfolding last_of
@@ -46,10 +46,10 @@ returns-3 c =
     ) c.before.before.fields.ensures
 
 members-requires : tie.Need-members-requires
-members-requires c κs = search rules
+members-requires c κs = search_lem rules
 
 same-length-3 : tie.Need-same-length-3
-same-length-3 c = search rules
+same-length-3 c = search_lem rules
 
 returns-4 : tie.Need-returns-4
 unfolding last_of
@@ -63,10 +63,10 @@ returns-4 c =
     ) c.before.before.members.ensures
 
 enum-values-requires : tie.Need-enum-values-requires
-enum-values-requires c κs = search rules
+enum-values-requires c κs = search_lem rules
 
 same-length-4 : tie.Need-same-length-4
-same-length-4 c = search rules
+same-length-4 c = search_lem rules
 
 returns-5 : tie.Need-returns-5
 unfolding last_of
@@ -81,10 +81,10 @@ returns-5 c =
     ) c.before.before.enum-values.ensures
 
 input-fields-requires : tie.Need-input-fields-requires
-input-fields-requires c κs = search rules
+input-fields-requires c κs = search_lem rules
 
 same-length-5 : tie.Need-same-length-5
-same-length-5 c = search rules
+same-length-5 c = search_lem rules
 
 returns-6 : tie.Need-returns-6
 unfolding last_of
@@ -100,10 +100,10 @@ returns-6 c =
     ) c.before.before.input-fields.ensures
 
 optional-roots-requires : tie.Need-optional-roots-requires
-optional-roots-requires c κs = search rules
+optional-roots-requires c κs = search_lem rules
 
 same-length-6 : tie.Need-same-length-6
-same-length-6 c = search rules
+same-length-6 c = search_lem rules
 
 returns-7 : tie.Need-returns-7
 unfolding last_of

@@ -6,13 +6,13 @@ use Rattle.parser.proofs.bodies.more.Tie as tie
 use borrow.Author.Rules.{rules}
 
 begins-more-requires : tie.Need-begins-more-requires
-begins-more-requires c κs = search rules
+begins-more-requires c κs = search_lem rules
 
 body-requires : tie.Need-body-requires
-body-requires c κs = search rules
+body-requires c κs = search_lem rules
 
 same_length : tie.Need-same-length
-same_length c = search rules
+same_length c = search_lem rules
 
 returns : tie.Need-returns
 returns c =

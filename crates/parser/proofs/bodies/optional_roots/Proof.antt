@@ -12,10 +12,10 @@ use Rattle.parser.proofs.bodies.optional_roots.Tie as tie
 use borrow.Author.Rules.{rules}
 
 roots-requires : tie.Need-roots-requires
-roots-requires c κs = search rules
+roots-requires c κs = search_lem rules
 
 same_length : tie.Need-same-length
-same_length c = search rules
+same_length c = search_lem rules
 
 returns : tie.Need-returns
 unfolding rule has first_of_lem first nullable within

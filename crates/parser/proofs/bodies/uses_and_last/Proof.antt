@@ -8,13 +8,13 @@ use Rattle.parser.proofs.bodies.uses_and_last.Tie as tie
 use borrow.Author.Rules.{rules}
 
 directive-uses-requires : tie.Need-directive-uses-requires
-directive-uses-requires c κs = search rules
+directive-uses-requires c κs = search_lem rules
 
 enum-known-used : tie.Need-enum-known-used
-enum-known-used c = search rules
+enum-known-used c = search_lem rules
 
 same_length : tie.Need-same-length
-same_length c = search rules
+same_length c = search_lem rules
 
 returns : tie.Need-returns
 returns c =
@@ -27,10 +27,10 @@ returns c =
 last-part-requires : tie.Need-last-part-requires
 last-part-requires c κs =
     let m = rw c.before.before.used.given.1 at c.before.before.before.before.before.before.directive_uses.ensures.1 in
-    (m.0, search rules, search rules)
+    (m.0, search_lem rules, search_lem rules)
 
 same-length-2 : tie.Need-same-length-2
-same-length-2 c = search rules
+same-length-2 c = search_lem rules
 
 returns-2 : tie.Need-returns-2
 returns-2 c =

@@ -8,18 +8,18 @@ use Rattle.parser.proofs.definitions.definition.Tie as tie
 use borrow.Author.Rules.{rules}
 
 add-next-token : tie.Need-overflow-add-next-token
-add-next-token c = search rules
+add-next-token c = search_lem rules
 
 next-token-requires : tie.Need-next-token-requires
-next-token-requires c κs = (search rules, omega (arith, c.before.before.before.before.requires.0.4 (omega arith)))
+next-token-requires c κs = (search_lem rules, omega (arith, c.before.before.before.before.requires.0.4 (omega arith)))
 
 extended-requires : tie.Need-extended-requires
 extended-requires c κs =
     let n = c.before.next-token.ensures in
-    (n.1, search rules, search rules, omega (arith, n.2), omega (arith, n.2))
+    (n.1, search_lem rules, search_lem rules, omega (arith, n.2), omega (arith, n.2))
 
 same_length : tie.Need-same-length
-same_length c = search rules
+same_length c = search_lem rules
 
 returns : tie.Need-returns
 returns c =
@@ -35,18 +35,18 @@ returns c =
     )
 
 add-next-token-2 : tie.Need-overflow-add-next-token-2
-add-next-token-2 c = search rules
+add-next-token-2 c = search_lem rules
 
 next-token-requires-2 : tie.Need-next-token-requires-2
-next-token-requires-2 c κs = (search rules, omega (arith, c.before.before.before.before.before.requires.0.4 (omega arith)))
+next-token-requires-2 c κs = (search_lem rules, omega (arith, c.before.before.before.before.before.requires.0.4 (omega arith)))
 
 described-requires : tie.Need-described-requires
 described-requires c κs =
     let n = c.before.next-token2.ensures in
-    (n.1, search rules, search rules, omega (arith, n.2), omega (arith, n.2))
+    (n.1, search_lem rules, search_lem rules, omega (arith, n.2), omega (arith, n.2))
 
 same-length-2 : tie.Need-same-length-2
-same-length-2 c = search rules
+same-length-2 c = search_lem rules
 
 returns-2 : tie.Need-returns-2
 returns-2 c =
@@ -75,10 +75,10 @@ returns-4 c =
     )
 
 described-requires-2 : tie.Need-described-requires-2
-described-requires-2 c κs = (search rules, search rules, search rules, omega arith, omega arith)
+described-requires-2 c κs = (search_lem rules, search_lem rules, search_lem rules, omega arith, omega arith)
 
 same-length-3 : tie.Need-same-length-3
-same-length-3 c = search rules
+same-length-3 c = search_lem rules
 
 returns-5 : tie.Need-returns-5
 returns-5 c =

@@ -34,18 +34,18 @@ returns-2 c =
     )
 
 add-next-token : tie.Need-overflow-add-next-token
-add-next-token c = search rules
+add-next-token c = search_lem rules
 
 next-token-requires : tie.Need-next-token-requires
-next-token-requires c κs = (search rules, omega (arith, c.before.before.before.before.before.requires.0.4 (omega arith)))
+next-token-requires c κs = (search_lem rules, omega (arith, c.before.before.before.before.before.requires.0.4 (omega arith)))
 
 unnamed-requires : tie.Need-unnamed-requires
 unnamed-requires c κs =
     let n = c.before.before.next-token.ensures in
-    (n.1, search rules, search rules, omega (arith, n.2), n.3, omega arith)
+    (n.1, search_lem rules, search_lem rules, omega (arith, n.2), n.3, omega arith)
 
 same_length : tie.Need-same-length
-same_length c = search rules
+same_length c = search_lem rules
 
 returns-3 : tie.Need-returns-3
 returns-3 c =
@@ -62,10 +62,10 @@ returns-3 c =
 directive-definition-requires : tie.Need-directive-definition-requires
 directive-definition-requires c κs =
     let n = c.before.before.before.next-token.ensures in
-    (n.1, search rules, search rules, omega (arith, n.2), n.3)
+    (n.1, search_lem rules, search_lem rules, omega (arith, n.2), n.3)
 
 same-length-2 : tie.Need-same-length-2
-same-length-2 c = search rules
+same-length-2 c = search_lem rules
 
 returns-4 : tie.Need-returns-4
 returns-4 c =
@@ -80,18 +80,18 @@ returns-4 c =
     )
 
 sub-named : tie.Need-overflow-sub-named
-sub-named c = search rules
+sub-named c = search_lem rules
 
 sub-named-2 : tie.Need-overflow-sub-named-2
-sub-named-2 c = search rules
+sub-named-2 c = search_lem rules
 
 named-requires : tie.Need-named-requires
 named-requires c κs =
     let n = c.before.before.before.next-token.ensures in
-    (n.1, search rules, search rules, omega (arith, n.2), n.3, omega arith)
+    (n.1, search_lem rules, search_lem rules, omega (arith, n.2), n.3, omega arith)
 
 same-length-3 : tie.Need-same-length-3
-same-length-3 c = search rules
+same-length-3 c = search_lem rules
 
 returns-5 : tie.Need-returns-5
 returns-5 c =

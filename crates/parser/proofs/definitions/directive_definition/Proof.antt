@@ -21,15 +21,15 @@ returns c =
     )
 
 next-token-requires : tie.Need-next-token-requires
-next-token-requires c κs = search rules
+next-token-requires c κs = search_lem rules
 
 named-requires : tie.Need-named-requires
 named-requires c κs =
     let n = c.before.next-token.ensures in
-    (n.1, search rules, search rules, omega (arith, n.2), n.3 ∙ c.before.before.before.before.before.before.requires.4, search rules)
+    (n.1, search_lem rules, search_lem rules, omega (arith, n.2), n.3 ∙ c.before.before.before.before.before.before.requires.4, search_lem rules)
 
 same_length : tie.Need-same-length
-same_length c = search rules
+same_length c = search_lem rules
 
 returns-2 : tie.Need-returns-2
 returns-2 c =

@@ -8,7 +8,7 @@ use Rattle.parser.proofs.definitions.end_heading.Tie as tie
 use borrow.Author.Rules.{rules}
 
 enum-known-e : tie.Need-enum-known-e
-enum-known-e c = search rules
+enum-known-e c = search_lem rules
 
 returns : tie.Need-returns
 returns c =
@@ -23,10 +23,10 @@ sub-size c =
 put-card-requires : tie.Need-put-card-requires
 put-card-requires c κs =
     let m = rw c.before.before.before.before.e.given.1 at c.before.before.before.before.before.before.before.requires.1 in
-    (search rules, omega (arith, m.0, m.1), omega (arith, m.0, m.1), search rules, search rules)
+    (search_lem rules, omega (arith, m.0, m.1), omega (arith, m.0, m.1), search_lem rules, search_lem rules)
 
 same_length : tie.Need-same-length
-same_length c = search rules
+same_length c = search_lem rules
 
 returns-2 : tie.Need-returns-2
 unfolding ended

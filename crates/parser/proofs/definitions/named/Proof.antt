@@ -29,13 +29,13 @@ returns-2 c =
     )
 
 next-token-requires : tie.Need-next-token-requires
-next-token-requires c κs = search rules
+next-token-requires c κs = search_lem rules
 
 heading-rest-requires : tie.Need-heading-rest-requires
-heading-rest-requires c κs = (c.before.next-token.ensures.1, search rules, search rules, search rules)
+heading-rest-requires c κs = (c.before.next-token.ensures.1, search_lem rules, search_lem rules, search_lem rules)
 
 sub-end-heading : tie.Need-overflow-sub-end-heading
-sub-end-heading c = search rules
+sub-end-heading c = search_lem rules
 
 end-heading-requires : tie.Need-end-heading-requires
 end-heading-requires c κs =
@@ -43,14 +43,14 @@ end-heading-requires c κs =
     let e = c.before.before.before.before.heading-rest in
     let k = c.before.before.before.before.before.before.next-token in
     let n = k.ensures in (
-      search rules,
+      search_lem rules,
       behind (length s.args.text.now) s.args.first.begins k.result e.result (omega (arith, n.2)) s.requires.1 e.ensures.1,
       omega arith,
       omega arith,
     )
 
 same_length : tie.Need-same-length
-same_length c = search rules
+same_length c = search_lem rules
 
 returns-3 : tie.Need-returns-3
 returns-3 c =

@@ -6,20 +6,20 @@ use Rattle.parser.proofs.definitions.unnamed.Tie as tie
 use borrow.Author.Rules.{rules}
 
 heading-rest-requires : tie.Need-heading-rest-requires
-heading-rest-requires c κs = search rules
+heading-rest-requires c κs = search_lem rules
 
 end-heading-requires : tie.Need-end-heading-requires
 end-heading-requires c κs =
     let s = c.before.before.before.before.before.before.before in
     let e = c.before.before.before.heading-rest in (
-      search rules,
+      search_lem rules,
       behind (length s.args.text.now) s.args.first.begins s.args.c e.result s.requires.3 s.requires.1 e.ensures.1,
-      search rules,
-      search rules,
+      search_lem rules,
+      search_lem rules,
     )
 
 same_length : tie.Need-same-length
-same_length c = search rules
+same_length c = search_lem rules
 
 returns : tie.Need-returns
 returns c =

@@ -19,7 +19,7 @@ abbrev decreases-loop : tie.decreases-loop
 decreases-loop text k₀ k = length text - k.last
 
 take-optional-requires : tie.Need-take-optional-requires invariant-loop decreases-loop
-take-optional-requires c κs = search rules
+take-optional-requires c κs = search_lem rules
 
 loop-holds : tie.Need-loop-init invariant-loop decreases-loop
 loop-holds c = at_start rest c.take-optional.ensures.1
@@ -28,7 +28,7 @@ take-requires : tie.Need-take-requires invariant-loop decreases-loop
 take-requires c κs = (c.loop.invariant.1, omega arith)
 
 enum-known-one : tie.Need-enum-known-one invariant-loop decreases-loop
-enum-known-one c = search rules
+enum-known-one c = search_lem rules
 
 returns : tie.Need-returns invariant-loop decreases-loop
 unfolding rule first

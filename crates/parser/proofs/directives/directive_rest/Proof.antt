@@ -12,10 +12,10 @@ use Rattle.parser.proofs.directives.directive_rest.Tie as tie
 use borrow.Author.Rules.{rules}
 
 argument-definitions-requires : tie.Need-argument-definitions-requires
-argument-definitions-requires c κs = search rules
+argument-definitions-requires c κs = search_lem rules
 
 enum-known-arguments : tie.Need-enum-known-arguments
-enum-known-arguments c = search rules
+enum-known-arguments c = search_lem rules
 
 returns : tie.Need-returns
 returns c =
@@ -31,7 +31,7 @@ take-requires : tie.Need-take-requires
 take-requires c κs = (c.take-optional.ensures.1, omega arith)
 
 enum-known-on : tie.Need-enum-known-on
-enum-known-on c = search rules
+enum-known-on c = search_lem rules
 
 returns-2 : tie.Need-returns-2
 unfolding rule first

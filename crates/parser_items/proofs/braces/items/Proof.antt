@@ -91,10 +91,10 @@ module _ (text : List ℕ) (l : Braced) where
     left = list_on text (items_of l) (part (item_of l) ∷ []) (part (more_of l) ∷ brace_closes ∷ []) i q (may_list text (part (item_of l) ∷ []) e f)
 
 take-requires : tie.Need-take-requires invariant-loop decreases-loop
-take-requires c κs = search rules
+take-requires c κs = search_lem rules
 
 enum-known-begun : tie.Need-enum-known-begun invariant-loop decreases-loop
-enum-known-begun c = search rules
+enum-known-begun c = search_lem rules
 
 returns : tie.Need-returns invariant-loop decreases-loop
 returns c =
@@ -113,10 +113,10 @@ item-requires : tie.Need-item-requires invariant-loop decreases-loop
 item-requires c κs = (c.before.loop.invariant.1.1, c.before.before.before.before.before.before.before.before.requires.1, c.before.loop.invariant.0)
 
 enum-known-read : tie.Need-enum-known-read invariant-loop decreases-loop
-enum-known-read c = search rules
+enum-known-read c = search_lem rules
 
 same_length : tie.Need-same-length invariant-loop decreases-loop
-same_length c = search rules
+same_length c = search_lem rules
 
 returns-2 : tie.Need-returns-2 invariant-loop decreases-loop
 returns-2 c =

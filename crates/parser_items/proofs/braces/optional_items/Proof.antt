@@ -39,10 +39,10 @@ returns c =
     no_cards text (part (optional_of a.list) ∷ []) a.cards.now (not_there (optional_of a.list) 11 t.absent t.opener c.if1.true s.requires.0)
 
 items-requires : tie.Need-items-requires
-items-requires c κs = search rules
+items-requires c κs = search_lem rules
 
 same_length : tie.Need-same-length
-same_length c = search rules
+same_length c = search_lem rules
 
 returns-2 : tie.Need-returns-2
 returns-2 c =

@@ -12,67 +12,67 @@ unfolding put_card
 returns c = rw (le-leb _ _ c.if1.true)
 
 mul-card : tie.Need-overflow-mul-card
-mul-card c = search rules
+mul-card c = search_lem rules
 
 add-cards : tie.Need-overflow-add-cards
-add-cards c = search rules
+add-cards c = search_lem rules
 
 mul-cards : tie.Need-overflow-mul-cards
-mul-cards c = search rules
+mul-cards c = search_lem rules
 
 slice-write-cards : tie.Need-slice-write-cards
-slice-write-cards c = search rules
+slice-write-cards c = search_lem rules
 
 cast-cards : tie.Need-overflow-cast-cards
-cast-cards c = search rules
+cast-cards c = search_lem rules
 
 add-cards-2 : tie.Need-overflow-add-cards-2
-add-cards-2 c = search rules
+add-cards-2 c = search_lem rules
 
 mul-cards-2 : tie.Need-overflow-mul-cards-2
-mul-cards-2 c = search rules
+mul-cards-2 c = search_lem rules
 
 slice-write-cards-2 : tie.Need-slice-write-cards-2
 slice-write-cards-2 c = simp length-set (omega arith)
 
 cast-cards-2 : tie.Need-overflow-cast-cards-2
-cast-cards-2 c = search rules
+cast-cards-2 c = search_lem rules
 
 add-cards-3 : tie.Need-overflow-add-cards-3
-add-cards-3 c = search rules
+add-cards-3 c = search_lem rules
 
 mul-cards-3 : tie.Need-overflow-mul-cards-3
-mul-cards-3 c = search rules
+mul-cards-3 c = search_lem rules
 
 slice-write-cards-3 : tie.Need-slice-write-cards-3
 slice-write-cards-3 c = simp length-set (omega arith)
 
 cast-cards-3 : tie.Need-overflow-cast-cards-3
-cast-cards-3 c = search rules
+cast-cards-3 c = search_lem rules
 
 add-cards-4 : tie.Need-overflow-add-cards-4
-add-cards-4 c = search rules
+add-cards-4 c = search_lem rules
 
 mul-cards-4 : tie.Need-overflow-mul-cards-4
-mul-cards-4 c = search rules
+mul-cards-4 c = search_lem rules
 
 slice-write-cards-4 : tie.Need-slice-write-cards-4
 slice-write-cards-4 c = simp length-set (omega arith)
 
 cast-cards-4 : tie.Need-overflow-cast-cards-4
-cast-cards-4 c = search rules
+cast-cards-4 c = search_lem rules
 
 add-cards-5 : tie.Need-overflow-add-cards-5
-add-cards-5 c = search rules
+add-cards-5 c = search_lem rules
 
 mul-cards-5 : tie.Need-overflow-mul-cards-5
-mul-cards-5 c = search rules
+mul-cards-5 c = search_lem rules
 
 slice-write-cards-5 : tie.Need-slice-write-cards-5
 slice-write-cards-5 c = simp length-set (omega arith)
 
 same_length : tie.Need-same-length
-same_length c = search rules
+same_length c = search_lem rules
 
 returns-2 : tie.Need-returns-2
 unfolding put_card

@@ -58,16 +58,16 @@ module _ (text : List ℕ) (d : ItemDefinition) {b n : Cursor} (l : Lies (length
   at_rest r g = past text (symbols_of d) (one (first_name d) 54 ∷ []) (rest_of d ++ (mark item_ends ∷ [])) at_name r (must text (one (first_name d) 54 ∷ []) g)
 
 description-requires : tie.Need-description-requires
-description-requires c κs = search rules
+description-requires c κs = search_lem rules
 
 first-name-requires : tie.Need-first-name-requires
-first-name-requires c κs = search rules
+first-name-requires c κs = search_lem rules
 
 take-requires : tie.Need-take-requires
-take-requires c κs = search rules
+take-requires c κs = search_lem rules
 
 enum-known-named : tie.Need-enum-known-named
-enum-known-named c = search rules
+enum-known-named c = search_lem rules
 
 returns : tie.Need-returns
 returns c =
@@ -87,7 +87,7 @@ rest-requires c κs =
     m.0
 
 enum-known-whole : tie.Need-enum-known-whole
-enum-known-whole c = search rules
+enum-known-whole c = search_lem rules
 
 returns-2 : tie.Need-returns-2
 returns-2 c =
@@ -104,7 +104,7 @@ returns-2 c =
     c.before.before.before.named.given.1 f) e.ensures)
 
 kind-of-requires : tie.Need-kind-of-requires
-kind-of-requires c κs = search rules
+kind-of-requires c κs = search_lem rules
 
 end-item-requires : tie.Need-end-item-requires
 end-item-requires c κs =
@@ -117,7 +117,7 @@ end-item-requires c κs =
     )
 
 same_length : tie.Need-same-length
-same_length c = search rules
+same_length c = search_lem rules
 
 returns-3 : tie.Need-returns-3
 returns-3 c =

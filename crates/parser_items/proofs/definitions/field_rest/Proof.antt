@@ -31,10 +31,10 @@ module _ (text : List ℕ) {b : Cursor} (l : Lies (length text) b) where
       at-directives o s h = on _ s at_type (may h)
 
 argument-definitions-requires : tie.Need-argument-definitions-requires
-argument-definitions-requires c κs = search rules
+argument-definitions-requires c κs = search_lem rules
 
 enum-known-given : tie.Need-enum-known-given
-enum-known-given c = search rules
+enum-known-given c = search_lem rules
 
 returns : tie.Need-returns
 returns c =
@@ -48,7 +48,7 @@ take-requires c κs =
     (m.0, omega arith)
 
 enum-known-begun : tie.Need-enum-known-begun
-enum-known-begun c = search rules
+enum-known-begun c = search_lem rules
 
 returns-2 : tie.Need-returns-2
 returns-2 c =
@@ -64,7 +64,7 @@ type-reference-requires c κs =
     (m.0, omega arith)
 
 enum-known-typed : tie.Need-enum-known-typed
-enum-known-typed c = search rules
+enum-known-typed c = search_lem rules
 
 returns-3 : tie.Need-returns-3
 returns-3 c =

@@ -4,22 +4,22 @@ use Rattle.parser_items.proofs.definitions.rest.Statement.{statement}
 use Rattle.parser_items.proofs.definitions.rest.Tie as tie
 
 enum_told : tie.Need-enum-told
-enum_told c = search rules
+enum_told c = search_lem rules
 
 field-rest-requires : tie.Need-field-rest-requires
-field-rest-requires c κs = search rules
+field-rest-requires c κs = search_lem rules
 
 enum-told-2 : tie.Need-enum-told-2
-enum-told-2 c = search rules
+enum-told-2 c = search_lem rules
 
 directives-requires : tie.Need-directives-requires
-directives-requires c κs = search rules
+directives-requires c κs = search_lem rules
 
 enum-told-3 : tie.Need-enum-told-3
-enum-told-3 c = search rules
+enum-told-3 c = search_lem rules
 
 input-value-type-requires : tie.Need-input-value-type-requires
-input-value-type-requires c κs = search rules
+input-value-type-requires c κs = search_lem rules
 
 returns : tie.Need-returns
 returns c = rw c.before.enum_told.given.1 c.field-rest.ensures

@@ -43,10 +43,10 @@ module _ (text : List ℕ) {b : Cursor} (l : Lies (length text) b) where
     at-arguments q g = past text symbols (name ∷ []) _ at_name q (must text (name ∷ []) g)
 
 take-requires : tie.Need-take-requires
-take-requires c κs = search rules
+take-requires c κs = search_lem rules
 
 enum-known-begun : tie.Need-enum-known-begun
-enum-known-begun c = search rules
+enum-known-begun c = search_lem rules
 
 returns : tie.Need-returns
 returns c =
@@ -62,7 +62,7 @@ take-requires-2 c κs =
     (m.0, omega arith)
 
 enum-known-named : tie.Need-enum-known-named
-enum-known-named c = search rules
+enum-known-named c = search_lem rules
 
 returns-2 : tie.Need-returns-2
 returns-2 c =
@@ -80,7 +80,7 @@ arguments-requires c κs =
     m.0
 
 enum-known-given : tie.Need-enum-known-given
-enum-known-given c = search rules
+enum-known-given c = search_lem rules
 
 returns-3 : tie.Need-returns-3
 returns-3 c =
@@ -102,7 +102,7 @@ end-item-requires c κs =
     omega (arith, c.before.before.before.before.before.before.before.before.before.before.before.before.before.before.before.requires, m.0, n.0)
 
 same_length : tie.Need-same-length
-same_length c = search rules
+same_length c = search_lem rules
 
 returns-4 : tie.Need-returns-4
 returns-4 c =

@@ -45,10 +45,10 @@ directive-use-requires c κs = (
 )
 
 enum-known-read : tie.Need-enum-known-read invariant-loop decreases-loop
-enum-known-read c = search rules
+enum-known-read c = search_lem rules
 
 same_length : tie.Need-same-length invariant-loop decreases-loop
-same_length c = search rules
+same_length c = search_lem rules
 
 returns : tie.Need-returns invariant-loop decreases-loop
 returns c =
@@ -75,7 +75,7 @@ loop-again c =
     )
 
 same-length-2 : tie.Need-same-length-2 invariant-loop decreases-loop
-same-length-2 c = search rules
+same-length-2 c = search_lem rules
 
 returns-2 : tie.Need-returns-2 invariant-loop decreases-loop
 unfolding rule first

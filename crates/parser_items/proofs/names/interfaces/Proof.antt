@@ -29,10 +29,10 @@ joined = record {
 }
 
 names-requires : tie.Need-names-requires
-names-requires c κs = search rules
+names-requires c κs = search_lem rules
 
 same_length : tie.Need-same-length
-same_length c = search rules
+same_length c = search_lem rules
 
 returns : tie.Need-returns
 unfolding parts

@@ -23,10 +23,10 @@ unfolding wanting
 at_name text kind b l = called text (name_item kind) (name ∷ mark item_ends ∷ []) refl (starts text kind (mark named ∷ name ∷ mark item_ends ∷ []) refl l)
 
 take-requires : tie.Need-take-requires
-take-requires c κs = search rules
+take-requires c κs = search_lem rules
 
 enum-known-named : tie.Need-enum-known-named
-enum-known-named c = search rules
+enum-known-named c = search_lem rules
 
 returns : tie.Need-returns
 returns c =
@@ -42,7 +42,7 @@ end-item-requires c κs =
     omega (arith, m.0)
 
 same_length : tie.Need-same-length
-same_length c = search rules
+same_length c = search_lem rules
 
 returns-2 : tie.Need-returns-2
 returns-2 c =

@@ -32,10 +32,10 @@ returns c =
     (λ h l t. (absent a.text.now a.opener a.joiner a.kind l t a.cards.now c.if1.true s.requires.0).0 h, (s.requires.0, omega arith))
 
 next-token-requires : tie.Need-next-token-requires invariant-loop decreases-loop
-next-token-requires c κs = search rules
+next-token-requires c κs = search_lem rules
 
 take-optional-requires : tie.Need-take-optional-requires invariant-loop decreases-loop
-take-optional-requires c κs = search rules
+take-optional-requires c κs = search_lem rules
 
 loop-holds : tie.Need-loop-init invariant-loop decreases-loop
 loop-holds c =
@@ -51,10 +51,10 @@ name-item-requires : tie.Need-name-item-requires invariant-loop decreases-loop
 name-item-requires c κs = (c.before.loop.invariant.1, c.before.before.before.before.before.before.before.before.requires.1, c.before.loop.invariant.0)
 
 enum-known-read : tie.Need-enum-known-read invariant-loop decreases-loop
-enum-known-read c = search rules
+enum-known-read c = search_lem rules
 
 same_length : tie.Need-same-length invariant-loop decreases-loop
-same_length c = search rules
+same_length c = search_lem rules
 
 returns-2 : tie.Need-returns-2 invariant-loop decreases-loop
 returns-2 c =
@@ -78,7 +78,7 @@ returns-2 c =
     )
 
 same-length-2 : tie.Need-same-length-2 invariant-loop decreases-loop
-same-length-2 c = search rules
+same-length-2 c = search_lem rules
 
 returns-3 : tie.Need-returns-3 invariant-loop decreases-loop
 returns-3 c =

@@ -78,13 +78,13 @@ returns-2 c =
     no-root a.text.now c.before.before.before.before.before.before.requires.0 a.cards.now (above 32 34 a.c.sort c.if2.true)
 
 next-token-requires : tie.Need-next-token-requires
-next-token-requires c κs = search rules
+next-token-requires c κs = search_lem rules
 
 take-requires : tie.Need-take-requires
-take-requires c κs = search rules
+take-requires c κs = search_lem rules
 
 enum-known-begun : tie.Need-enum-known-begun
-enum-known-begun c = search rules
+enum-known-begun c = search_lem rules
 
 returns-3 : tie.Need-returns-3
 returns-3 c =
@@ -104,7 +104,7 @@ take-requires-2 c κs =
     (m.0, omega arith)
 
 enum-known-named : tie.Need-enum-known-named
-enum-known-named c = search rules
+enum-known-named c = search_lem rules
 
 returns-4 : tie.Need-returns-4
 returns-4 c =
@@ -121,7 +121,7 @@ returns-4 c =
     (taken text (name ∷ []) e.result e.ensures))
 
 add-end-item : tie.Need-overflow-add-end-item
-add-end-item c = search rules
+add-end-item c = search_lem rules
 
 end-item-requires : tie.Need-end-item-requires
 end-item-requires c κs =
@@ -136,7 +136,7 @@ end-item-requires c κs =
     )
 
 same_length : tie.Need-same-length
-same_length c = search rules
+same_length c = search_lem rules
 
 returns-5 : tie.Need-returns-5
 returns-5 c =

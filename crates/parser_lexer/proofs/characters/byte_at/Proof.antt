@@ -5,10 +5,10 @@ use Rattle.parser_lexer.proofs.characters.byte_at.Tie as tie
 use borrow.Author.Rules.{rules}
 
 shared-slice-read-result : tie.Need-shared-slice-read-result
-shared-slice-read-result c = search rules
+shared-slice-read-result c = search_lem rules
 
 returns : tie.Need-returns
-returns c = search rules
+returns c = search_lem rules
 
 returns-2 : tie.Need-returns-2
 returns-2 c = sym (get_or-eq_default c.before.args.text.now 0 c.if1.false)

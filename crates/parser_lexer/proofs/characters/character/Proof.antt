@@ -5,7 +5,7 @@ use Rattle.parser_lexer.proofs.characters.character.Tie as tie
 use borrow.Author.Rules.{rules}
 
 shared-slice-read-b : tie.Need-shared-slice-read-b
-shared-slice-read-b c = search rules
+shared-slice-read-b c = search_lem rules
 
 returns : tie.Need-returns
 returns c = sym (character_at c.before.before.before.before.args.text.now c.before.before.before.before.args.at ∙ of_tab _ _ _ c.if2.true)
@@ -28,19 +28,19 @@ returns-5 c = sym (character_at c.before.before.before.before.args.text.now c.be
     of_one _ _ _ c.before.if1.false c.if5.true)
 
 add-byte-at : tie.Need-overflow-add-byte-at
-add-byte-at c = search rules
+add-byte-at c = search_lem rules
 
 byte-at-requires : tie.Need-byte-at-requires
-byte-at-requires c κs = search rules
+byte-at-requires c κs = search_lem rules
 
 add-byte-at-2 : tie.Need-overflow-add-byte-at-2
-add-byte-at-2 c = search rules
+add-byte-at-2 c = search_lem rules
 
 byte-at-requires-2 : tie.Need-byte-at-requires-2
-byte-at-requires-2 c κs = search rules
+byte-at-requires-2 c κs = search_lem rules
 
 wide-requires : tie.Need-wide-requires
-wide-requires c κs = search rules
+wide-requires c κs = search_lem rules
 
 returns-6 : tie.Need-returns-6
 returns-6 c = c.wide.ensures ∙ rw (c.before.before.byte_at.ensures, c.before.byte-at2.ensures)

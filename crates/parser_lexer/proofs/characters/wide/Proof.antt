@@ -9,7 +9,7 @@ returns : tie.Need-returns
 returns c = sym (of_none _ _ _ c.before.requires c.if1.true)
 
 within-requires : tie.Need-within-requires
-within-requires c κs = search rules
+within-requires c κs = search_lem rules
 
 returns-2 : tie.Need-returns-2
 returns-2 c = sym (of_two _ _ _ c.before.before.before.before.requires c.before.before.before.if1.false c.before.before.if2.true ∙
@@ -23,14 +23,14 @@ returns-4 : tie.Need-returns-4
 returns-4 c = sym (of_more _ _ _ c.before.before.before.requires c.if4.true)
 
 is-second-requires : tie.Need-is-second-requires
-is-second-requires c κs = search rules
+is-second-requires c κs = search_lem rules
 
 returns-5 : tie.Need-returns-5
 returns-5 c = sym (of_three _ _ _ c.before.before.before.before.before.requires c.before.before.before.if2.false c.before.before.if4.false ∙
     simp (sym c.before.is-second.ensures ∙ not-true _ c.if5.true))
 
 within-requires-2 : tie.Need-within-requires-2
-within-requires-2 c κs = search rules
+within-requires-2 c κs = search_lem rules
 
 returns-6 : tie.Need-returns-6
 returns-6 c = sym (of_three _ _ _ c.before.before.before.before.before.before.before.requires c.before.before.before.before.before.if2.false

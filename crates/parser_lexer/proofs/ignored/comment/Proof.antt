@@ -18,13 +18,13 @@ loop-holds : tie.Need-loop-init invariant-loop decreases-loop
 loop-holds c = omega arith
 
 shared-slice-read-byte : tie.Need-shared-slice-read-byte invariant-loop decreases-loop
-shared-slice-read-byte c = search rules
+shared-slice-read-byte c = search_lem rules
 
 add-i : tie.Need-overflow-add-i invariant-loop decreases-loop
-add-i c = search rules
+add-i c = search_lem rules
 
 loop-less : tie.Need-loop-smaller invariant-loop decreases-loop
-loop-less c = search rules
+loop-less c = search_lem rules
 
 loop-again : tie.Need-loop-preserved invariant-loop decreases-loop
 loop-again c =
@@ -36,10 +36,10 @@ loop-again c =
     (omega arith, g.0, g.1)
 
 taken-requires : tie.Need-taken-requires invariant-loop decreases-loop
-taken-requires c κs = search rules
+taken-requires c κs = search_lem rules
 
 sub-result : tie.Need-overflow-sub-result invariant-loop decreases-loop
-sub-result c = search rules
+sub-result c = search_lem rules
 
 returns : tie.Need-returns invariant-loop decreases-loop
 returns c = comment_stops c.before.before.before.before.before.before.before.args.text.now
@@ -72,7 +72,7 @@ loop-again-2 c =
     (omega arith, g.0, g.1)
 
 sub-result-2 : tie.Need-overflow-sub-result-2 invariant-loop decreases-loop
-sub-result-2 c = search rules
+sub-result-2 c = search_lem rules
 
 returns-2 : tie.Need-returns-2 invariant-loop decreases-loop
 returns-2 c = comment_ends c.before.before.before.args.text.now c.before.before.before.args.at c.before.loop.i c.before.loop.invariant.0

@@ -6,10 +6,10 @@ use Rattle.parser_lexer.proofs.numbers.begun.Tie as tie
 use borrow.Author.Rules.{rules}
 
 add-digits : tie.Need-overflow-add-digits
-add-digits c = search rules
+add-digits c = search_lem rules
 
 digits-requires : tie.Need-digits-requires
-digits-requires c κs = search rules
+digits-requires c κs = search_lem rules
 
 returns : tie.Need-returns
 returns c = (
@@ -19,7 +19,7 @@ returns c = (
 )
 
 add-t5 : tie.Need-overflow-add-t5
-add-t5 c = search rules
+add-t5 c = search_lem rules
 
 returns-2 : tie.Need-returns-2
 returns-2 c = (

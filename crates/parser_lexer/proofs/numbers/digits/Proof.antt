@@ -19,13 +19,13 @@ loop-holds : tie.Need-loop-init invariant-loop decreases-loop
 loop-holds c = omega arith
 
 shared-slice-read-within : tie.Need-shared-slice-read-within invariant-loop decreases-loop
-shared-slice-read-within c = search rules
+shared-slice-read-within c = search_lem rules
 
 within-requires : tie.Need-within-requires invariant-loop decreases-loop
-within-requires c κs = search rules
+within-requires c κs = search_lem rules
 
 sub-result : tie.Need-overflow-sub-result invariant-loop decreases-loop
-sub-result c = search rules
+sub-result c = search_lem rules
 
 returns : tie.Need-returns invariant-loop decreases-loop
 returns c = omega (
@@ -35,10 +35,10 @@ returns c = omega (
 )
 
 add-i : tie.Need-overflow-add-i invariant-loop decreases-loop
-add-i c = search rules
+add-i c = search_lem rules
 
 loop-less : tie.Need-loop-smaller invariant-loop decreases-loop
-loop-less c = search rules
+loop-less c = search_lem rules
 
 loop-again : tie.Need-loop-preserved invariant-loop decreases-loop
 loop-again c = omega (
@@ -48,7 +48,7 @@ loop-again c = omega (
 )
 
 sub-result-2 : tie.Need-overflow-sub-result-2 invariant-loop decreases-loop
-sub-result-2 c = search rules
+sub-result-2 c = search_lem rules
 
 returns-2 : tie.Need-returns-2 invariant-loop decreases-loop
 returns-2 c = omega (arith, digit_end c.before.before.before.args.text.now c.before.loop.i c.loop-test.false)

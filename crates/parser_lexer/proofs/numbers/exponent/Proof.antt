@@ -7,7 +7,7 @@ use Rattle.parser_lexer.proofs.numbers.exponent.Tie as tie
 use borrow.Author.Rules.{rules}
 
 is-either-requires : tie.Need-is-either-requires
-is-either-requires c κs = search rules
+is-either-requires c κs = search_lem rules
 
 returns : tie.Need-returns
 returns c = (
@@ -17,10 +17,10 @@ returns c = (
 )
 
 add-is-either : tie.Need-overflow-add-is-either
-add-is-either c = search rules
+add-is-either c = search_lem rules
 
 is-either-requires-2 : tie.Need-is-either-requires-2
-is-either-requires-2 c κs = search rules
+is-either-requires-2 c κs = search_lem rules
 
 begun-requires : tie.Need-begun-requires
 begun-requires c κs = (exponent_signed c.before.before.before.before.before.args.text.now c.before.before.before.before.before.args.at

@@ -6,7 +6,7 @@ use Rattle.parser_lexer.proofs.numbers.fraction.Tie as tie
 use borrow.Author.Rules.{rules}
 
 byte-at-requires : tie.Need-byte-at-requires
-byte-at-requires c κs = search rules
+byte-at-requires c κs = search_lem rules
 
 begun-requires : tie.Need-begun-requires
 begun-requires c κs = let l = stands c.before.before.before.args.text.now c.before.before.before.args.at 45

@@ -6,7 +6,7 @@ use Rattle.parser_lexer.proofs.numbers.integer.Tie as tie
 use borrow.Author.Rules.{rules}
 
 byte-at-requires : tie.Need-byte-at-requires
-byte-at-requires c κs = search rules
+byte-at-requires c κs = search_lem rules
 
 returns : tie.Need-returns
 returns c =
@@ -15,7 +15,7 @@ returns c =
     (sym (integer_zero c.before.before.before.args.text.now c.before.before.before.args.at e), omega arith)
 
 digits-requires : tie.Need-digits-requires
-digits-requires c κs = search rules
+digits-requires c κs = search_lem rules
 
 returns-2 : tie.Need-returns-2
 returns-2 c = (

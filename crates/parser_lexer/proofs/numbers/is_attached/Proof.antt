@@ -6,7 +6,7 @@ use Rattle.parser_lexer.proofs.numbers.is_attached.Tie as tie
 use borrow.Author.Rules.{rules}
 
 within-requires : tie.Need-within-requires
-within-requires c κs = search rules
+within-requires c κs = search_lem rules
 
 returns : tie.Need-returns
 unfolding is_digit
@@ -17,7 +17,7 @@ unfolding is_digit
 returns-2 c = simp (sym c.before.before.within.ensures ∙ c.before.if1.false, eq-eqb _ _ c.if2.true)
 
 is-name-start-requires : tie.Need-is-name-start-requires
-is-name-start-requires c κs = search rules
+is-name-start-requires c κs = search_lem rules
 
 returns-3 : tie.Need-returns-3
 unfolding is_digit

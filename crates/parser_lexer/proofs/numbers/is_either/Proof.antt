@@ -7,7 +7,7 @@ use Rattle.parser_lexer.proofs.numbers.is_either.Tie as tie
 use borrow.Author.Rules.{rules}
 
 byte-at-requires : tie.Need-byte-at-requires
-byte-at-requires c κs = search rules
+byte-at-requires c κs = search_lem rules
 
 returns : tie.Need-returns
 returns c = simp (eq-eqb _ _ (sym c.before.byte_at.ensures ∙ c.if1.true))

@@ -7,23 +7,23 @@ use Rattle.parser_lexer.proofs.numbers.number_from.Tie as tie
 use borrow.Author.Rules.{rules}
 
 add-fraction : tie.Need-overflow-add-fraction
-add-fraction c = search rules
+add-fraction c = search_lem rules
 
 fraction-requires : tie.Need-fraction-requires
-fraction-requires c κs = search rules
+fraction-requires c κs = search_lem rules
 
 enum-known-f : tie.Need-enum-known-f
-enum-known-f c = search rules
+enum-known-f c = search_lem rules
 
 enum_told : tie.Need-enum-told
-enum_told c = search rules
+enum_told c = search_lem rules
 
 returns : tie.Need-returns
 returns c = sym (from_broken c.before.before.before.before.args.text.now c.before.before.before.before.args.at _
     (sym c.before.before.fraction.ensures.0 ∙ ap measured c.enum_told.given.1))
 
 add-exponent : tie.Need-overflow-add-exponent
-add-exponent c = search rules
+add-exponent c = search_lem rules
 
 add-exponent-2 : tie.Need-overflow-add-exponent-2
 add-exponent-2 c = omega (arith, held _ _ _ c.before.f.given.1 c.before.before.before.fraction.ensures.1)
@@ -32,10 +32,10 @@ exponent-requires : tie.Need-exponent-requires
 exponent-requires c κs = omega (arith, held _ _ _ c.before.f.given.1 c.before.before.before.fraction.ensures.1)
 
 enum-known-e : tie.Need-enum-known-e
-enum-known-e c = search rules
+enum-known-e c = search_lem rules
 
 enum-told-2 : tie.Need-enum-told-2
-enum-told-2 c = search rules
+enum-told-2 c = search_lem rules
 
 returns-2 : tie.Need-returns-2
 returns-2 c = sym (from_fraction c.before.before.before.before.before.before.before.before.args.text.now
@@ -51,7 +51,7 @@ add-sort-of c = omega (
 )
 
 sort-of-requires : tie.Need-sort-of-requires
-sort-of-requires c κs = search rules
+sort-of-requires c κs = search_lem rules
 
 add-number-of : tie.Need-overflow-add-number-of
 add-number-of c = omega (

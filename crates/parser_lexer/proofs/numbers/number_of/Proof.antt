@@ -6,13 +6,13 @@ use Rattle.parser_lexer.proofs.numbers.number_of.Tie as tie
 use borrow.Author.Rules.{rules}
 
 add-byte-at : tie.Need-overflow-add-byte-at
-add-byte-at c = search rules
+add-byte-at c = search_lem rules
 
 byte-at-requires : tie.Need-byte-at-requires
-byte-at-requires c κs = search rules
+byte-at-requires c κs = search_lem rules
 
 is-attached-requires : tie.Need-is-attached-requires
-is-attached-requires c κs = search rules
+is-attached-requires c κs = search_lem rules
 
 returns : tie.Need-returns
 returns c = sym (number_attached c.before.before.before.before.args.text.now c.before.before.before.before.args.at _ _

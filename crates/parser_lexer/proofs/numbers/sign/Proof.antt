@@ -5,7 +5,7 @@ use Rattle.parser_lexer.proofs.numbers.sign.Tie as tie
 use borrow.Author.Rules.{rules}
 
 shared-slice-read-if1 : tie.Need-shared-slice-read-if1
-shared-slice-read-if1 c = search rules
+shared-slice-read-if1 c = search_lem rules
 
 returns : tie.Need-returns
 returns c = (simp (eq-eqb _ _ c.if1.true), omega arith)

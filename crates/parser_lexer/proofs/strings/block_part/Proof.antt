@@ -6,13 +6,13 @@ use Rattle.parser_lexer.proofs.strings.block_part.Tie as tie
 use borrow.Author.Rules.{rules}
 
 shared-slice-read-b : tie.Need-shared-slice-read-b
-shared-slice-read-b c = search rules
+shared-slice-read-b c = search_lem rules
 
 add-is-tripled : tie.Need-overflow-add-is-tripled
-add-is-tripled c = search rules
+add-is-tripled c = search_lem rules
 
 is-tripled-requires : tie.Need-is-tripled-requires
-is-tripled-requires c κs = search rules
+is-tripled-requires c κs = search_lem rules
 
 returns : tie.Need-returns
 returns c = (
@@ -29,7 +29,7 @@ returns-2 c = (
 )
 
 within-requires : tie.Need-within-requires
-within-requires c κs = search rules
+within-requires c κs = search_lem rules
 
 returns-3 : tie.Need-returns-3
 returns-3 c = (
@@ -40,7 +40,7 @@ returns-3 c = (
 )
 
 character-requires : tie.Need-character-requires
-character-requires c κs = search rules
+character-requires c κs = search_lem rules
 
 returns-4 : tie.Need-returns-4
 returns-4 c = (

@@ -17,19 +17,19 @@ abbrev decreases-loop : tie.decreases-loop
 decreases-loop text at i₀ i = length text - i
 
 add-i : tie.Need-overflow-add-i invariant-loop decreases-loop
-add-i c = search rules
+add-i c = search_lem rules
 
 loop-holds : tie.Need-loop-init invariant-loop decreases-loop
 loop-holds c = (omega arith, simp add-sub_cancel_left)
 
 is-tripled-requires : tie.Need-is-tripled-requires invariant-loop decreases-loop
-is-tripled-requires c κs = search rules
+is-tripled-requires c κs = search_lem rules
 
 sub-t8 : tie.Need-overflow-sub-t8 invariant-loop decreases-loop
-sub-t8 c = search rules
+sub-t8 c = search_lem rules
 
 add-t9 : tie.Need-overflow-add-t9 invariant-loop decreases-loop
-add-t9 c = search rules
+add-t9 c = search_lem rules
 
 returns : tie.Need-returns invariant-loop decreases-loop
 returns c = sym (c.before.before.before.loop.invariant.1 ∙ ap (string_of _)
@@ -37,7 +37,7 @@ returns c = sym (c.before.before.before.loop.invariant.1 ∙ ap (string_of _)
     (sym c.before.is-tripled.ensures ∙ c.if1.true)))
 
 block-part-requires : tie.Need-block-part-requires invariant-loop decreases-loop
-block-part-requires c κs = search rules
+block-part-requires c κs = search_lem rules
 
 returns-2 : tie.Need-returns-2 invariant-loop decreases-loop
 returns-2 c = sym (c.before.before.before.before.before.loop.invariant.1 ∙
@@ -46,10 +46,10 @@ returns-2 c = sym (c.before.before.before.before.before.loop.invariant.1 ∙
     (sym c.before.before.before.is-tripled.ensures ∙ c.before.before.if1.false) _ c.before.block-part.ensures.0 c.if2.true))
 
 add-i-2 : tie.Need-overflow-add-i-2 invariant-loop decreases-loop
-add-i-2 c = search rules
+add-i-2 c = search_lem rules
 
 loop-less : tie.Need-loop-smaller invariant-loop decreases-loop
-loop-less c = search rules
+loop-less c = search_lem rules
 
 loop-again : tie.Need-loop-preserved invariant-loop decreases-loop
 loop-again c =

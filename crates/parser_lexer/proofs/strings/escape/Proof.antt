@@ -7,10 +7,10 @@ use Rattle.parser_lexer.proofs.strings.escape.Tie as tie
 use borrow.Author.Rules.{rules}
 
 byte-at-requires : tie.Need-byte-at-requires
-byte-at-requires c κs = search rules
+byte-at-requires c κs = search_lem rules
 
 is-escaped-requires : tie.Need-is-escaped-requires
-is-escaped-requires c κs = search rules
+is-escaped-requires c κs = search_lem rules
 
 returns : tie.Need-returns
 returns c =
@@ -26,7 +26,7 @@ returns-2 c =
     )
 
 is-code-requires : tie.Need-is-code-requires
-is-code-requires c κs = search rules
+is-code-requires c κs = search_lem rules
 
 returns-3 : tie.Need-returns-3
 returns-3 c =

@@ -7,13 +7,13 @@ use Rattle.parser_lexer.proofs.strings.plain_part.Tie as tie
 use borrow.Author.Rules.{rules}
 
 shared-slice-read-b : tie.Need-shared-slice-read-b
-shared-slice-read-b c = search rules
+shared-slice-read-b c = search_lem rules
 
 add-escape : tie.Need-overflow-add-escape
-add-escape c = search rules
+add-escape c = search_lem rules
 
 escape-requires : tie.Need-escape-requires
-escape-requires c κs = search rules
+escape-requires c κs = search_lem rules
 
 returns : tie.Need-returns
 returns c = (
@@ -23,7 +23,7 @@ returns c = (
 )
 
 add-result : tie.Need-overflow-add-result
-add-result c = search rules
+add-result c = search_lem rules
 
 returns-2 : tie.Need-returns-2
 returns-2 c = (
@@ -33,7 +33,7 @@ returns-2 c = (
 )
 
 within-requires : tie.Need-within-requires
-within-requires c κs = search rules
+within-requires c κs = search_lem rules
 
 returns-3 : tie.Need-returns-3
 returns-3 c = (
@@ -58,7 +58,7 @@ returns-5 c = (
 )
 
 character-requires : tie.Need-character-requires
-character-requires c κs = search rules
+character-requires c κs = search_lem rules
 
 returns-6 : tie.Need-returns-6
 returns-6 c = (

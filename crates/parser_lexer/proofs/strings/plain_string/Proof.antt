@@ -17,19 +17,19 @@ abbrev decreases-loop : tie.decreases-loop
 decreases-loop text at i₀ i = length text - i
 
 add-i : tie.Need-overflow-add-i invariant-loop decreases-loop
-add-i c = search rules
+add-i c = search_lem rules
 
 loop-holds : tie.Need-loop-init invariant-loop decreases-loop
 loop-holds c = (omega arith, simp add-sub_cancel_left)
 
 shared-slice-read-if1 : tie.Need-shared-slice-read-if1 invariant-loop decreases-loop
-shared-slice-read-if1 c = search rules
+shared-slice-read-if1 c = search_lem rules
 
 sub-t9 : tie.Need-overflow-sub-t9 invariant-loop decreases-loop
-sub-t9 c = search rules
+sub-t9 c = search_lem rules
 
 add-t10 : tie.Need-overflow-add-t10 invariant-loop decreases-loop
-add-t10 c = search rules
+add-t10 c = search_lem rules
 
 returns : tie.Need-returns invariant-loop decreases-loop
 returns c = sym (c.before.before.before.loop.invariant.1 ∙ ap (string_of _)
@@ -37,7 +37,7 @@ returns c = sym (c.before.before.before.loop.invariant.1 ∙ ap (string_of _)
     c.if1.true))
 
 plain-part-requires : tie.Need-plain-part-requires invariant-loop decreases-loop
-plain-part-requires c κs = search rules
+plain-part-requires c κs = search_lem rules
 
 returns-2 : tie.Need-returns-2 invariant-loop decreases-loop
 returns-2 c = sym (c.before.before.before.before.before.loop.invariant.1 ∙
@@ -46,10 +46,10 @@ returns-2 c = sym (c.before.before.before.before.before.loop.invariant.1 ∙
     c.before.plain-part.ensures.0 c.if2.true))
 
 add-i-2 : tie.Need-overflow-add-i-2 invariant-loop decreases-loop
-add-i-2 c = search rules
+add-i-2 c = search_lem rules
 
 loop-less : tie.Need-loop-smaller invariant-loop decreases-loop
-loop-less c = search rules
+loop-less c = search_lem rules
 
 loop-again : tie.Need-loop-preserved invariant-loop decreases-loop
 loop-again c =

@@ -4,7 +4,7 @@ use Rattle.parser_lexer.proofs.tokens.dots.Tie as tie
 use borrow.Author.Rules.{rules}
 
 is-followed-requires : tie.Need-is-followed-requires
-is-followed-requires c κs = search rules
+is-followed-requires c κs = search_lem rules
 
 returns : tie.Need-returns
 returns c = rw (sym c.before.is-followed.ensures ∙ c.if1.true)

@@ -21,30 +21,30 @@ loop-holds : tie.Need-loop-init invariant-loop decreases-loop
 loop-holds c = omega arith
 
 shared-slice-read-byte : tie.Need-shared-slice-read-byte invariant-loop decreases-loop
-shared-slice-read-byte c = search rules
+shared-slice-read-byte c = search_lem rules
 
 sub-result : tie.Need-overflow-sub-result invariant-loop decreases-loop
-sub-result c = search rules
+sub-result c = search_lem rules
 
 returns : tie.Need-returns invariant-loop decreases-loop
 returns c = run_stops is_name_byte _ _ _ (omega arith) c.before.before.loop-test.true (past_lower _ c.if1.true)
     c.before.before.before.loop.invariant.2
 
 is-name-continue-requires : tie.Need-is-name-continue-requires invariant-loop decreases-loop
-is-name-continue-requires c κs = search rules
+is-name-continue-requires c κs = search_lem rules
 
 sub-result-2 : tie.Need-overflow-sub-result-2 invariant-loop decreases-loop
-sub-result-2 c = search rules
+sub-result-2 c = search_lem rules
 
 returns-2 : tie.Need-returns-2 invariant-loop decreases-loop
 returns-2 c = run_stops is_name_byte _ _ _ (omega arith) c.before.before.before.before.before.loop-test.true
     (sym c.before.is-name-continue.ensures ∙ not-true _ c.if3.true) c.before.before.before.before.before.before.loop.invariant.2
 
 add-i : tie.Need-overflow-add-i invariant-loop decreases-loop
-add-i c = search rules
+add-i c = search_lem rules
 
 loop-less : tie.Need-loop-smaller invariant-loop decreases-loop
-loop-less c = search rules
+loop-less c = search_lem rules
 
 loop-again : tie.Need-loop-preserved invariant-loop decreases-loop
 loop-again c = (
@@ -56,7 +56,7 @@ loop-again c = (
 )
 
 sub-result-3 : tie.Need-overflow-sub-result-3 invariant-loop decreases-loop
-sub-result-3 c = search rules
+sub-result-3 c = search_lem rules
 
 returns-3 : tie.Need-returns-3 invariant-loop decreases-loop
 returns-3 c = run_ends is_name_byte _ _ _ (omega arith) c.loop-test.false c.before.loop.invariant.2

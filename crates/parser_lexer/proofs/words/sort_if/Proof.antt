@@ -5,7 +5,7 @@ use Rattle.parser_lexer.proofs.words.sort_if.Tie as tie
 use borrow.Author.Rules.{rules}
 
 span-is-requires : tie.Need-span-is-requires
-span-is-requires c κs = search rules
+span-is-requires c κs = search_lem rules
 
 returns : tie.Need-returns
 unfolding bytes_at

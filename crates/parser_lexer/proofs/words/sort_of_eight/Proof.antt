@@ -10,13 +10,13 @@ use Rattle.parser_lexer.proofs.words.sort_of_eight.Tie as tie
 use borrow.Author.Rules.{rules}
 
 shared-slice-read-first : tie.Need-shared-slice-read-first
-shared-slice-read-first c = search rules
+shared-slice-read-first c = search_lem rules
 
 slice-aggregate-sort-if : tie.Need-slice-aggregate-sort-if
-slice-aggregate-sort-if c = search rules
+slice-aggregate-sort-if c = search_lem rules
 
 sort-if-requires : tie.Need-sort-if-requires
-sort-if-requires c κs = search rules
+sort-if-requires c κs = search_lem rules
 
 returns : tie.Need-returns
 unfolding alone all words bytes same_name compare_names place_of sort_of_name
@@ -25,10 +25,10 @@ returns c = c.sort-if.ensures ∙ only c.before.before.before.before.before.args
     c.before.before.match.keys1
 
 slice-aggregate-sort-if-2 : tie.Need-slice-aggregate-sort-if-2
-slice-aggregate-sort-if-2 c = search rules
+slice-aggregate-sort-if-2 c = search_lem rules
 
 sort-if-requires-2 : tie.Need-sort-if-requires-2
-sort-if-requires-2 c κs = search rules
+sort-if-requires-2 c κs = search_lem rules
 
 returns-2 : tie.Need-returns-2
 unfolding alone all words bytes same_name compare_names place_of sort_of_name

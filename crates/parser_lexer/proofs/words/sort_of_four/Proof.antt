@@ -11,16 +11,16 @@ use Rattle.parser_lexer.proofs.words.sort_of_four.Tie as tie
 use borrow.Author.Rules.{rules}
 
 add-second : tie.Need-overflow-add-second
-add-second c = search rules
+add-second c = search_lem rules
 
 shared-slice-read-second : tie.Need-shared-slice-read-second
-shared-slice-read-second c = search rules
+shared-slice-read-second c = search_lem rules
 
 slice-aggregate-sort-if : tie.Need-slice-aggregate-sort-if
-slice-aggregate-sort-if c = search rules
+slice-aggregate-sort-if c = search_lem rules
 
 sort-if-requires : tie.Need-sort-if-requires
-sort-if-requires c κs = search rules
+sort-if-requires c κs = search_lem rules
 
 returns : tie.Need-returns
 unfolding alone all words bytes same_name compare_names place_of sort_of_name
@@ -29,10 +29,10 @@ returns c = c.sort-if.ensures ∙ only c.before.before.before.before.before.args
     c.before.before.match.keys1
 
 slice-aggregate-sort-if-2 : tie.Need-slice-aggregate-sort-if-2
-slice-aggregate-sort-if-2 c = search rules
+slice-aggregate-sort-if-2 c = search_lem rules
 
 sort-if-requires-2 : tie.Need-sort-if-requires-2
-sort-if-requires-2 c κs = search rules
+sort-if-requires-2 c κs = search_lem rules
 
 returns-2 : tie.Need-returns-2
 unfolding alone all words bytes same_name compare_names place_of sort_of_name
@@ -41,10 +41,10 @@ returns-2 c = c.sort-if2.ensures ∙ only c.before.before.before.before.before.a
     (c.before.before.before.before.before.args.at + 1) (omega arith) refl c.before.before.match.keys2
 
 slice-aggregate-sort-if-3 : tie.Need-slice-aggregate-sort-if-3
-slice-aggregate-sort-if-3 c = search rules
+slice-aggregate-sort-if-3 c = search_lem rules
 
 sort-if-requires-3 : tie.Need-sort-if-requires-3
-sort-if-requires-3 c κs = search rules
+sort-if-requires-3 c κs = search_lem rules
 
 returns-3 : tie.Need-returns-3
 unfolding alone all words bytes same_name compare_names place_of sort_of_name
@@ -53,10 +53,10 @@ returns-3 c = c.sort-if3.ensures ∙ only c.before.before.before.before.before.a
     (c.before.before.before.before.before.args.at + 1) (omega arith) refl c.before.before.match.keys3
 
 slice-aggregate-sort-if-4 : tie.Need-slice-aggregate-sort-if-4
-slice-aggregate-sort-if-4 c = search rules
+slice-aggregate-sort-if-4 c = search_lem rules
 
 sort-if-requires-4 : tie.Need-sort-if-requires-4
-sort-if-requires-4 c κs = search rules
+sort-if-requires-4 c κs = search_lem rules
 
 returns-4 : tie.Need-returns-4
 unfolding alone all words bytes same_name compare_names place_of sort_of_name
@@ -65,10 +65,10 @@ returns-4 c = c.sort-if4.ensures ∙ only c.before.before.before.before.before.a
     (c.before.before.before.before.before.args.at + 1) (omega arith) refl c.before.before.match.keys4
 
 slice-aggregate-sort-if-5 : tie.Need-slice-aggregate-sort-if-5
-slice-aggregate-sort-if-5 c = search rules
+slice-aggregate-sort-if-5 c = search_lem rules
 
 sort-if-requires-5 : tie.Need-sort-if-requires-5
-sort-if-requires-5 c κs = search rules
+sort-if-requires-5 c κs = search_lem rules
 
 returns-5 : tie.Need-returns-5
 unfolding alone all words bytes same_name compare_names place_of sort_of_name

@@ -9,10 +9,10 @@ use Rattle.parser_lexer.proofs.words.word_sort.Tie as tie
 use borrow.Author.Rules.{rules}
 
 slice-aggregate-sort-if : tie.Need-slice-aggregate-sort-if
-slice-aggregate-sort-if c = search rules
+slice-aggregate-sort-if c = search_lem rules
 
 sort-if-requires : tie.Need-sort-if-requires
-sort-if-requires c κs = search rules
+sort-if-requires c κs = search_lem rules
 
 returns : tie.Need-returns
 unfolding lone all words bytes same_name compare_names place_of sort_of_name
@@ -20,58 +20,58 @@ returns c = c.sort-if.ensures ∙ only_size c.before.before.before.before.args.t
     c.before.before.before.before.args.size c.before.before.before.before.requires (bytes "on") c.before.before.match.keys1 refl
 
 sort-of-four-requires : tie.Need-sort-of-four-requires
-sort-of-four-requires c κs = search rules
+sort-of-four-requires c κs = search_lem rules
 
 returns-2 : tie.Need-returns-2
 returns-2 c = rw c.before.match.keys2 c.sort-of-four.ensures
 
 sort-of-five-requires : tie.Need-sort-of-five-requires
-sort-of-five-requires c κs = search rules
+sort-of-five-requires c κs = search_lem rules
 
 returns-3 : tie.Need-returns-3
 returns-3 c = rw c.before.match.keys3 c.sort-of-five.ensures
 
 sort-of-six-requires : tie.Need-sort-of-six-requires
-sort-of-six-requires c κs = search rules
+sort-of-six-requires c κs = search_lem rules
 
 returns-4 : tie.Need-returns-4
 returns-4 c = rw c.before.match.keys4 c.sort-of-six.ensures
 
 sort-of-eight-requires : tie.Need-sort-of-eight-requires
-sort-of-eight-requires c κs = search rules
+sort-of-eight-requires c κs = search_lem rules
 
 returns-5 : tie.Need-returns-5
 returns-5 c = rw c.before.match.keys5 c.sort-of-eight.ensures
 
 sort-of-nine-requires : tie.Need-sort-of-nine-requires
-sort-of-nine-requires c κs = search rules
+sort-of-nine-requires c κs = search_lem rules
 
 returns-6 : tie.Need-returns-6
 returns-6 c = rw c.before.match.keys6 c.sort-of-nine.ensures
 
 sort-of-ten-requires : tie.Need-sort-of-ten-requires
-sort-of-ten-requires c κs = search rules
+sort-of-ten-requires c κs = search_lem rules
 
 returns-7 : tie.Need-returns-7
 returns-7 c = rw c.before.match.keys7 c.sort-of-ten.ensures
 
 sort-of-twelve-requires : tie.Need-sort-of-twelve-requires
-sort-of-twelve-requires c κs = search rules
+sort-of-twelve-requires c κs = search_lem rules
 
 returns-8 : tie.Need-returns-8
 returns-8 c = rw c.before.match.keys8 c.sort-of-twelve.ensures
 
 sort-of-fifteen-requires : tie.Need-sort-of-fifteen-requires
-sort-of-fifteen-requires c κs = search rules
+sort-of-fifteen-requires c κs = search_lem rules
 
 returns-9 : tie.Need-returns-9
 returns-9 c = rw c.before.match.keys9 c.sort-of-fifteen.ensures
 
 slice-aggregate-sort-if-2 : tie.Need-slice-aggregate-sort-if-2
-slice-aggregate-sort-if-2 c = search rules
+slice-aggregate-sort-if-2 c = search_lem rules
 
 sort-if-requires-2 : tie.Need-sort-if-requires-2
-sort-if-requires-2 c κs = search rules
+sort-if-requires-2 c κs = search_lem rules
 
 returns-10 : tie.Need-returns-10
 unfolding lone all words bytes same_name compare_names place_of sort_of_name
@@ -80,16 +80,16 @@ returns-10 c = c.sort-if2.ensures ∙ only_size c.before.before.before.before.ar
     c.before.before.match.keys10 refl
 
 sort-of-nineteen-requires : tie.Need-sort-of-nineteen-requires
-sort-of-nineteen-requires c κs = search rules
+sort-of-nineteen-requires c κs = search_lem rules
 
 returns-11 : tie.Need-returns-11
 returns-11 c = rw c.before.match.keys11 c.sort-of-nineteen.ensures
 
 slice-aggregate-sort-if-3 : tie.Need-slice-aggregate-sort-if-3
-slice-aggregate-sort-if-3 c = search rules
+slice-aggregate-sort-if-3 c = search_lem rules
 
 sort-if-requires-3 : tie.Need-sort-if-requires-3
-sort-if-requires-3 c κs = search rules
+sort-if-requires-3 c κs = search_lem rules
 
 returns-12 : tie.Need-returns-12
 unfolding lone all words bytes same_name compare_names place_of sort_of_name

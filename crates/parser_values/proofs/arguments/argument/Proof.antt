@@ -8,10 +8,10 @@ use Rattle.parser_values.proofs.arguments.argument.Statement.{statement}
 use Rattle.parser_values.proofs.arguments.argument.Tie as tie
 
 name-and-colon-requires : tie.Need-name-and-colon-requires
-name-and-colon-requires c κs = search rules
+name-and-colon-requires c κs = search_lem rules
 
 enum-known-named : tie.Need-enum-known-named
-enum-known-named c = search rules
+enum-known-named c = search_lem rules
 
 returns : tie.Need-returns
 returns c =

@@ -18,7 +18,7 @@ returns : tie.Need-returns invariant-loop decreases-loop
 returns c = no_arguments c.if1.true c.before.before.before.requires
 
 next-token-requires : tie.Need-next-token-requires invariant-loop decreases-loop
-next-token-requires c κs = search rules
+next-token-requires c κs = search_lem rules
 
 loop-holds : tie.Need-loop-init invariant-loop decreases-loop
 loop-holds c = at_start (some_of Argument Argument* 4) c.next-token.ensures.1
@@ -27,7 +27,7 @@ argument-requires : tie.Need-argument-requires invariant-loop decreases-loop
 argument-requires c κs = c.loop.invariant.1
 
 enum-known-one : tie.Need-enum-known-one invariant-loop decreases-loop
-enum-known-one c = search rules
+enum-known-one c = search_lem rules
 
 returns-2 : tie.Need-returns-2 invariant-loop decreases-loop
 returns-2 c =

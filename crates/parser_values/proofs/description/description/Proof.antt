@@ -8,7 +8,7 @@ use Rattle.parser_values.proofs.description.description.Statement.{statement}
 use Rattle.parser_values.proofs.description.description.Tie as tie
 
 take-optional-requires : tie.Need-take-optional-requires
-take-optional-requires c κs = search rules
+take-optional-requires c κs = search_lem rules
 
 returns : tie.Need-returns
 unfolding rule first

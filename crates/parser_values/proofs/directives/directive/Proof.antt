@@ -8,10 +8,10 @@ use Rattle.parser_values.proofs.directives.directive.Statement.{statement}
 use Rattle.parser_values.proofs.directives.directive.Tie as tie
 
 take-requires : tie.Need-take-requires
-take-requires c κs = search rules
+take-requires c κs = search_lem rules
 
 enum-known-begun : tie.Need-enum-known-begun
-enum-known-begun c = search rules
+enum-known-begun c = search_lem rules
 
 returns : tie.Need-returns
 returns c =
@@ -24,7 +24,7 @@ take-requires-2 c κs =
     (m.0, omega arith)
 
 enum-known-named : tie.Need-enum-known-named
-enum-known-named c = search rules
+enum-known-named c = search_lem rules
 
 returns-2 : tie.Need-returns-2
 returns-2 c =

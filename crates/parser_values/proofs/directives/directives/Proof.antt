@@ -22,7 +22,7 @@ directive-requires : tie.Need-directive-requires invariant-loop decreases-loop
 directive-requires c κs = c.before.before.loop.invariant.1
 
 enum-known-one : tie.Need-enum-known-one invariant-loop decreases-loop
-enum-known-one c = search rules
+enum-known-one c = search_lem rules
 
 returns : tie.Need-returns invariant-loop decreases-loop
 returns c =

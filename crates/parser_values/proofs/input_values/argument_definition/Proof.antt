@@ -8,13 +8,13 @@ use Rattle.parser_values.proofs.input_values.argument_definition.Statement.{stat
 use Rattle.parser_values.proofs.input_values.argument_definition.Tie as tie
 
 description-requires : tie.Need-description-requires
-description-requires c κs = search rules
+description-requires c κs = search_lem rules
 
 take-requires : tie.Need-take-requires
 take-requires c κs = (c.description.ensures.1, omega arith)
 
 enum-known-named : tie.Need-enum-known-named
-enum-known-named c = search rules
+enum-known-named c = search_lem rules
 
 returns : tie.Need-returns
 returns c =

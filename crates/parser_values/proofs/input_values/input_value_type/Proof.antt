@@ -7,10 +7,10 @@ use Rattle.parser_values.proofs.input_values.input_value_type.Statement.{stateme
 use Rattle.parser_values.proofs.input_values.input_value_type.Tie as tie
 
 take-requires : tie.Need-take-requires
-take-requires c κs = search rules
+take-requires c κs = search_lem rules
 
 enum-known-begun : tie.Need-enum-known-begun
-enum-known-begun c = search rules
+enum-known-begun c = search_lem rules
 
 returns : tie.Need-returns
 returns c =
@@ -23,7 +23,7 @@ type-reference-requires c κs =
     (m.0, omega arith)
 
 enum-known-typed : tie.Need-enum-known-typed
-enum-known-typed c = search rules
+enum-known-typed c = search_lem rules
 
 returns-2 : tie.Need-returns-2
 returns-2 c =
@@ -38,7 +38,7 @@ default-value-requires c κs =
     m.0
 
 enum-known-given : tie.Need-enum-known-given
-enum-known-given c = search rules
+enum-known-given c = search_lem rules
 
 returns-3 : tie.Need-returns-3
 returns-3 c =

@@ -50,10 +50,10 @@ type-reference-claims t = (
 )
 
 type-reference-take-requires : (t : ℕ) → type-reference-lts.Need-take-requires (type-reference-claims t) (type-reference-at t) type-reference.Post
-type-reference-take-requires t c κs = search rules
+type-reference-take-requires t c κs = search_lem rules
 
 type-reference-enum-known-named : (t : ℕ) → type-reference-lts.Need-enum-known-named (type-reference-claims t) (type-reference-at t) type-reference.Post
-type-reference-enum-known-named t c = search rules
+type-reference-enum-known-named t c = search_lem rules
 
 type-reference-returns : (t : ℕ) → type-reference-lts.Need-returns (type-reference-claims t) (type-reference-at t) type-reference.Post
 type-reference-returns t c =
@@ -78,17 +78,17 @@ type-reference-returns-3 : (t : ℕ) → type-reference-lts.Need-returns-3 (type
 type-reference-returns-3 t c = list_deep c.before.if1.false (omega arith) c.before.before.before.before.requires.1.0
 
 type-reference-next-token-requires : (t : ℕ) → type-reference-lts.Need-next-token-requires (type-reference-claims t) (type-reference-at t) type-reference.Post
-type-reference-next-token-requires t c κs = search rules
+type-reference-next-token-requires t c κs = search_lem rules
 
 type-reference-sub-type-reference : (t : ℕ) → type-reference-lts.Need-overflow-sub-type-reference (type-reference-claims t) (type-reference-at t) type-reference.Post
-type-reference-sub-type-reference t c = search rules
+type-reference-sub-type-reference t c = search_lem rules
 
 type-reference-type-reference-requires : (t : ℕ) → type-reference-lts.Need-type-reference-requires (type-reference-claims t)
     (type-reference-at t) type-reference.Post
-type-reference-type-reference-requires t c κs = search rules
+type-reference-type-reference-requires t c κs = search_lem rules
 
 type-reference-enum-known-inner : (t : ℕ) → type-reference-lts.Need-enum-known-inner (type-reference-claims t) (type-reference-at t) type-reference.Post
-type-reference-enum-known-inner t c = search rules
+type-reference-enum-known-inner t c = search_lem rules
 
 type-reference-returns-4 : (t : ℕ) → type-reference-lts.Need-returns-4 (type-reference-claims t) (type-reference-at t) type-reference.Post
 type-reference-returns-4 t c =
@@ -106,7 +106,7 @@ type-reference-take-requires-2 t c κs =
     (m.0, omega arith)
 
 type-reference-enum-known-closed : (t : ℕ) → type-reference-lts.Need-enum-known-closed (type-reference-claims t) (type-reference-at t) type-reference.Post
-type-reference-enum-known-closed t c = search rules
+type-reference-enum-known-closed t c = search_lem rules
 
 type-reference-returns-5 : (t : ℕ) → type-reference-lts.Need-returns-5 (type-reference-claims t) (type-reference-at t) type-reference.Post
 type-reference-returns-5 t c =

@@ -85,7 +85,7 @@ object-value-returns-2 t c = object_deep c.before.if1.false c.before.before.befo
 
 object-value-next-token-requires : (t : ℕ) → object-value-lts.Need-next-token-requires (object-value-claims t)
     (object-value-at t) object-value.Post object-value-Inv-loop object-value-μ-loop
-object-value-next-token-requires t c κs = search rules
+object-value-next-token-requires t c κs = search_lem rules
 
 object-value-loop-holds : (t : ℕ) → object-value-lts.Need-loop-init (object-value-claims t)
     (object-value-at t) object-value.Post object-value-Inv-loop object-value-μ-loop
@@ -93,7 +93,7 @@ object-value-loop-holds t c = at_start (any_of ObjectField* 13) c.next-token.ens
 
 object-value-next-token-requires-2 : (t : ℕ) → object-value-lts.Need-next-token-requires-2 (object-value-claims t)
     (object-value-at t) object-value.Post object-value-Inv-loop object-value-μ-loop
-object-value-next-token-requires-2 t c κs = search rules
+object-value-next-token-requires-2 t c κs = search_lem rules
 
 object-value-returns-3 : (t : ℕ) → object-value-lts.Need-returns-3 (object-value-claims t)
     (object-value-at t) object-value.Post object-value-Inv-loop object-value-μ-loop
@@ -110,7 +110,7 @@ object-value-name-and-colon-requires t c κs = c.before.before.loop.invariant.1
 
 object-value-enum-known-named : (t : ℕ) → object-value-lts.Need-enum-known-named (object-value-claims t)
     (object-value-at t) object-value.Post object-value-Inv-loop object-value-μ-loop
-object-value-enum-known-named t c = search rules
+object-value-enum-known-named t c = search_lem rules
 
 object-value-returns-4 : (t : ℕ) → object-value-lts.Need-returns-4 (object-value-claims t)
     (object-value-at t) object-value.Post object-value-Inv-loop object-value-μ-loop
@@ -127,7 +127,7 @@ object-value-returns-4 t c =
 
 object-value-sub-value : (t : ℕ) → object-value-lts.Need-overflow-sub-value (object-value-claims t)
     (object-value-at t) object-value.Post object-value-Inv-loop object-value-μ-loop
-object-value-sub-value t c = search rules
+object-value-sub-value t c = search_lem rules
 
 object-value-value-requires : (t : ℕ) → object-value-lts.Need-value-requires (object-value-claims t)
     (object-value-at t) object-value.Post object-value-Inv-loop object-value-μ-loop
@@ -139,7 +139,7 @@ object-value-value-requires t c κs =
 
 object-value-enum-known-field : (t : ℕ) → object-value-lts.Need-enum-known-field (object-value-claims t)
     (object-value-at t) object-value.Post object-value-Inv-loop object-value-μ-loop
-object-value-enum-known-field t c = search rules
+object-value-enum-known-field t c = search_lem rules
 
 object-value-returns-5 : (t : ℕ) → object-value-lts.Need-returns-5 (object-value-claims t)
     (object-value-at t) object-value.Post object-value-Inv-loop object-value-μ-loop
@@ -184,13 +184,13 @@ abbrev value-μ-loop : value-lts.decreases-loop
 value-μ-loop text depth k₀ k = length text - k.last
 
 value-object-value-requires : (t : ℕ) → value-lts.Need-object-value-requires (value-claims t) (value-at t) value.Post value-Inv-loop value-μ-loop
-value-object-value-requires t c κs = search rules
+value-object-value-requires t c κs = search_lem rules
 
 value-returns : (t : ℕ) → value-lts.Need-returns (value-claims t) (value-at t) value.Post value-Inv-loop value-μ-loop
 value-returns t c = value_object c.before.if1.true c.object-value.ensures
 
 value-take-requires : (t : ℕ) → value-lts.Need-take-requires (value-claims t) (value-at t) value.Post value-Inv-loop value-μ-loop
-value-take-requires t c κs = search rules
+value-take-requires t c κs = search_lem rules
 
 value-returns-2 : (t : ℕ) → value-lts.Need-returns-2 (value-claims t) (value-at t) value.Post value-Inv-loop value-μ-loop
 value-returns-2 t c =
@@ -201,13 +201,13 @@ value-returns-3 : (t : ℕ) → value-lts.Need-returns-3 (value-claims t) (value
 value-returns-3 t c = list_deep c.before.if2.false c.before.before.before.before.before.before.requires.1.0 (omega arith)
 
 value-next-token-requires : (t : ℕ) → value-lts.Need-next-token-requires (value-claims t) (value-at t) value.Post value-Inv-loop value-μ-loop
-value-next-token-requires t c κs = search rules
+value-next-token-requires t c κs = search_lem rules
 
 value-loop-holds : (t : ℕ) → value-lts.Need-loop-init (value-claims t) (value-at t) value.Post value-Inv-loop value-μ-loop
 value-loop-holds t c = at_start (any_of Value* 10) c.next-token.ensures.1
 
 value-next-token-requires-2 : (t : ℕ) → value-lts.Need-next-token-requires-2 (value-claims t) (value-at t) value.Post value-Inv-loop value-μ-loop
-value-next-token-requires-2 t c κs = search rules
+value-next-token-requires-2 t c κs = search_lem rules
 
 value-returns-4 : (t : ℕ) → value-lts.Need-returns-4 (value-claims t) (value-at t) value.Post value-Inv-loop value-μ-loop
 value-returns-4 t c =
@@ -218,7 +218,7 @@ value-returns-4 t c =
     c.before.before.before.loop.invariant)
 
 value-sub-value : (t : ℕ) → value-lts.Need-overflow-sub-value (value-claims t) (value-at t) value.Post value-Inv-loop value-μ-loop
-value-sub-value t c = search rules
+value-sub-value t c = search_lem rules
 
 value-value-requires : (t : ℕ) → value-lts.Need-value-requires (value-claims t) (value-at t) value.Post value-Inv-loop value-μ-loop
 value-value-requires t c κs =
@@ -227,7 +227,7 @@ value-value-requires t c κs =
     (omega arith, (c.before.before.loop.invariant.1, omega arith))
 
 value-enum-known-item : (t : ℕ) → value-lts.Need-enum-known-item (value-claims t) (value-at t) value.Post value-Inv-loop value-μ-loop
-value-enum-known-item t c = search rules
+value-enum-known-item t c = search_lem rules
 
 value-returns-5 : (t : ℕ) → value-lts.Need-returns-5 (value-claims t) (value-at t) value.Post value-Inv-loop value-μ-loop
 value-returns-5 t c =

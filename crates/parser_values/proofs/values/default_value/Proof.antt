@@ -9,7 +9,7 @@ returns : tie.Need-returns
 returns c = no_default c.if1.true c.before.before.before.requires
 
 next-token-requires : tie.Need-next-token-requires
-next-token-requires c κs = search rules
+next-token-requires c κs = search_lem rules
 
 value-requires : tie.Need-value-requires
 value-requires c κs = (c.next-token.ensures.1, omega arith)

@@ -7,28 +7,28 @@ use Rattle.program_io.proofs.filing.file_document.Statement.{statement}
 use Rattle.program_io.proofs.filing.file_document.Tie as tie
 
 file-bytes-requires : tie.Need-file-bytes-requires
-file-bytes-requires c κs = search rules
+file-bytes-requires c κs = search_lem rules
 
 file-bytes-requires-2 : tie.Need-file-bytes-requires-2
-file-bytes-requires-2 c κs = search rules
+file-bytes-requires-2 c κs = search_lem rules
 
 card-words-requires : tie.Need-card-words-requires
-card-words-requires c κs = search rules
+card-words-requires c κs = search_lem rules
 
 slice-aggregate-read-document : tie.Need-slice-aggregate-read-document
-slice-aggregate-read-document c = search rules
+slice-aggregate-read-document c = search_lem rules
 
 slice-aggregate-read-document-2 : tie.Need-slice-aggregate-read-document-2
-slice-aggregate-read-document-2 c = search rules
+slice-aggregate-read-document-2 c = search_lem rules
 
 slice-aggregate-read-document-3 : tie.Need-slice-aggregate-read-document-3
-slice-aggregate-read-document-3 c = search rules
+slice-aggregate-read-document-3 c = search_lem rules
 
 read-document-requires : tie.Need-read-document-requires
-read-document-requires c κs = search rules
+read-document-requires c κs = search_lem rules
 
 enum-known-size : tie.Need-enum-known-size
-enum-known-size c = search rules
+enum-known-size c = search_lem rules
 
 array-share-prefix-lent : tie.Need-array-share-prefix-lent
 array-share-prefix-lent c =
@@ -56,34 +56,34 @@ slice-aggregate-file-2 c =
     sym (length-take-le c.before.before.before.before.before.size.given.0.1.0 _ (omega arith))
 
 file-requires : tie.Need-file-requires
-file-requires c κs = search rules
+file-requires c κs = search_lem rules
 
 enum_told : tie.Need-enum-told
-enum_told c = search rules
+enum_told c = search_lem rules
 
 enum-told-2 : tie.Need-enum-told-2
-enum-told-2 c = search rules
+enum-told-2 c = search_lem rules
 
 enum-told-3 : tie.Need-enum-told-3
-enum-told-3 c = search rules
+enum-told-3 c = search_lem rules
 
 same_length : tie.Need-same-length
-same_length c = search rules
+same_length c = search_lem rules
 
 same-length-2 : tie.Need-same-length-2
-same-length-2 c = search rules
+same-length-2 c = search_lem rules
 
 returns : tie.Need-returns
-returns c = search rules
+returns c = search_lem rules
 
 returns-2 : tie.Need-returns-2
-returns-2 c = search rules
+returns-2 c = search_lem rules
 
 returns-3 : tie.Need-returns-3
-returns-3 c = search rules
+returns-3 c = search_lem rules
 
 returns-4 : tie.Need-returns-4
-returns-4 c = search rules
+returns-4 c = search_lem rules
 
 pub file-document-spec : {M : Type 1} → statement M
 file-document-spec =

@@ -18,74 +18,74 @@ decreases-loop case folder calls text₀ words₀ rows₀ keptText₀ keptWords�
     length calls - at
 
 text-requires : tie.Need-text-requires invariant-loop decreases-loop
-text-requires c κs = search rules
+text-requires c κs = search_lem rules
 
 words-requires : tie.Need-words-requires invariant-loop decreases-loop
-words-requires c κs = search rules
+words-requires c κs = search_lem rules
 
 rows-requires : tie.Need-rows-requires invariant-loop decreases-loop
-rows-requires c κs = search rules
+rows-requires c κs = search_lem rules
 
 text-requires-2 : tie.Need-text-requires-2 invariant-loop decreases-loop
-text-requires-2 c κs = search rules
+text-requires-2 c κs = search_lem rules
 
 words-requires-2 : tie.Need-words-requires-2 invariant-loop decreases-loop
-words-requires-2 c κs = search rules
+words-requires-2 c κs = search_lem rules
 
 whole-requires : tie.Need-whole-requires invariant-loop decreases-loop
-whole-requires c κs = search rules
+whole-requires c κs = search_lem rules
 
 loop-holds : tie.Need-loop-init invariant-loop decreases-loop
-loop-holds c = search rules
+loop-holds c = search_lem rules
 
 find-byte-requires : tie.Need-find-byte-requires invariant-loop decreases-loop
-find-byte-requires c κs = search rules
+find-byte-requires c κs = search_lem rules
 
 add-number : tie.Need-overflow-add-number invariant-loop decreases-loop
-add-number c = search rules
+add-number c = search_lem rules
 
 sub-count-unended : tie.Need-overflow-sub-count-unended invariant-loop decreases-loop
-sub-count-unended c = search rules
+sub-count-unended c = search_lem rules
 
 part-count-unended-start : tie.Need-slice-bounds-count-unended-start invariant-loop decreases-loop
-part-count-unended-start c = search rules
+part-count-unended-start c = search_lem rules
 
 part-count-unended-end : tie.Need-slice-bounds-count-unended-end invariant-loop decreases-loop
-part-count-unended-end c = search rules
+part-count-unended-end c = search_lem rules
 
 count-unended-requires : tie.Need-count-unended-requires invariant-loop decreases-loop
 count-unended-requires c κs =
     let i = c.before.before.before.before.loop.invariant in
     let t = c.before.before.before.loop-test.true in
     let p = c.before.before.before.before.before.before.before.before.before.before.before.before.before.requires in
-    search rules
+    search_lem rules
 
 returns : tie.Need-returns invariant-loop decreases-loop
-returns c = search rules
+returns c = search_lem rules
 
 sub-line : tie.Need-overflow-sub-line invariant-loop decreases-loop
-sub-line c = search rules
+sub-line c = search_lem rules
 
 part-line-start : tie.Need-slice-bounds-line-start invariant-loop decreases-loop
-part-line-start c = search rules
+part-line-start c = search_lem rules
 
 part-line-end : tie.Need-slice-bounds-line-end invariant-loop decreases-loop
-part-line-end c = search rules
+part-line-end c = search_lem rules
 
 slice-aggregate-run-line : tie.Need-slice-aggregate-run-line invariant-loop decreases-loop
-slice-aggregate-run-line c = search rules
+slice-aggregate-run-line c = search_lem rules
 
 slice-aggregate-run-line-2 : tie.Need-slice-aggregate-run-line-2 invariant-loop decreases-loop
-slice-aggregate-run-line-2 c = search rules
+slice-aggregate-run-line-2 c = search_lem rules
 
 slice-aggregate-run-line-3 : tie.Need-slice-aggregate-run-line-3 invariant-loop decreases-loop
-slice-aggregate-run-line-3 c = search rules
+slice-aggregate-run-line-3 c = search_lem rules
 
 slice-aggregate-run-line-4 : tie.Need-slice-aggregate-run-line-4 invariant-loop decreases-loop
-slice-aggregate-run-line-4 c = search rules
+slice-aggregate-run-line-4 c = search_lem rules
 
 slice-aggregate-run-line-5 : tie.Need-slice-aggregate-run-line-5 invariant-loop decreases-loop
-slice-aggregate-run-line-5 c = search rules
+slice-aggregate-run-line-5 c = search_lem rules
 
 run-line-requires : tie.Need-run-line-requires invariant-loop decreases-loop
 run-line-requires c κs =
@@ -93,7 +93,7 @@ run-line-requires c κs =
     let i = far.loop.invariant in
     let p = far.before.before.before.before.before.before.before.before.before.requires in
     let g = c.before.before.before.before.before.line.given in
-    search rules
+    search_lem rules
 
 count-requires : tie.Need-count-requires invariant-loop decreases-loop
 count-requires c κs =
@@ -101,7 +101,7 @@ count-requires c κs =
     let i = far.before.loop.invariant in
     let t = far.loop-test.true in
     let p = far.before.before.before.before.before.before.before.before.before.before.requires in
-    search rules
+    search_lem rules
 
 add_at : tie.Need-overflow-add-at invariant-loop decreases-loop
 add_at c =
@@ -109,7 +109,7 @@ add_at c =
     let e = far.before.find-byte.ensures in
     let f = far.if1.false in
     let p = far.before.before.before.before.before.before.before.before.before.before.before.before.requires in
-    search rules
+    search_lem rules
 
 loop-less : tie.Need-loop-smaller invariant-loop decreases-loop
 loop-less c =
@@ -118,7 +118,7 @@ loop-less c =
     let e = far.before.find-byte.ensures in
     let f = far.if1.false in
     let p = far.before.before.before.before.before.before.before.before.before.before.before.before.requires in
-    search rules
+    search_lem rules
 
 loop-again : tie.Need-loop-preserved invariant-loop decreases-loop
 loop-again c =
@@ -128,10 +128,10 @@ loop-again c =
     let i = far.before.before.before.loop.invariant in
     let e = far.before.find-byte.ensures in
     let f = far.if1.false in
-    search rules
+    search_lem rules
 
 returns-2 : tie.Need-returns-2 invariant-loop decreases-loop
-returns-2 c = search rules
+returns-2 c = search_lem rules
 
 pub run-lines-spec : {M : Type 1} → statement M
 run-lines-spec =

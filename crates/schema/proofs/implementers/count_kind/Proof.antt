@@ -1,102 +1,89 @@
--- The loop's invariant: n of the chain's pairs before j are of the kind.
-use mathlib.Core.Path.{◌≡◌, refl}
-use Prim.Native.Nat.{◌+◌, ◌-◌, ◌/◌, ◌≤◌, ◌<◌}
+-- The loop's invariant: n of the pairs before i pass.
+use mathlib.Core.Path.{◌≡◌, ◌∙◌, sym, ap}
+use Prim.Native.Nat.{◌+◌, ◌-◌, ◌≤◌}
 use native.Mathlib.Omega.{arith}
-use lib.ListN.{length}
+use borrow.Author.Tests.{not-true, not-false}
+use lib.ListN.{length, drop}
 use Rattle.definition.specs.Lists.{filter}
-use Rattle.definition.specs.LentRows.{is_row_named}
-use Rattle.definition.specs.Lookups.{is_row_of}
+use Rattle.definition.specs.LentRows.{lent_rows}
+use Rattle.definition.specs.Lookups.{is_part_named}
 use Rattle.store_reader.specs.Stored.{stored_parts}
-use Rattle.schema_rows.specs.Rows.{row_at}
-use Rattle.schema.specs.Owners.{named}
-use Rattle.schema.specs.Chains.{number_at, same_from}
-use Rattle.schema.proofs.Chains.{next_named, next_after, next_most, counts_here, counts_over, counts_end}
+use Rattle.schema_rows.proofs.SearchLaws.{part_any}
+use Rattle.schema.proofs.Groups.{filter_here, filter_over, counted}
 use Rattle.schema.proofs.implementers.count_kind.Statement.{statement}
 use Rattle.schema.proofs.implementers.count_kind.Tie as tie
 use borrow.Author.Rules.{rules}
 
 abbrev invariant-loop : tie.invariant-loop
-invariant-loop text words numbers pairs nexts i kind count n₀ j₀ n j =
-    (j ≤ length pairs / 3)
-    × (j < length pairs / 3 → number_at numbers pairs j ≡ number_at numbers pairs i)
-    × (n ≤ j)
-    × (length (filter (is_row_of kind) (same_from text words pairs i i)) ≡ n + length (filter (is_row_of kind) (same_from text words pairs i j)))
+invariant-loop text words pairs name kind count n₀ i₀ n i =
+    (i ≤ count)
+    × (n ≤ i)
+    × (length (filter (is_part_named (stored_parts text words) kind name) (lent_rows pairs))
+    ≡ n + length (filter (is_part_named (stored_parts text words) kind name) (drop i (lent_rows pairs))))
 
 abbrev decreases-loop : tie.decreases-loop
-decreases-loop text words numbers pairs nexts i kind count n₀ j₀ n j = length pairs / 3 - j
+decreases-loop text words pairs name kind count n₀ i₀ n i = count - i
 
 loop-holds : tie.Need-loop-init invariant-loop decreases-loop
-loop-holds c = let h = c.requires.1 in (omega arith, (λ l. refl), omega arith, omega arith)
+loop-holds c = (omega arith, omega arith, omega arith)
 
-mul-if1 : tie.Need-overflow-mul-if1 invariant-loop decreases-loop
-mul-if1 c = search rules
+mul-is-part-named : tie.Need-overflow-mul-is-part-named invariant-loop decreases-loop
+mul-is-part-named c = search_lem rules
 
-mul-if1-2 : tie.Need-overflow-mul-if1-2 invariant-loop decreases-loop
-mul-if1-2 c = search rules
+mul-is-part-named-2 : tie.Need-overflow-mul-is-part-named-2 invariant-loop decreases-loop
+mul-is-part-named-2 c = search_lem rules
 
-shared-slice-read-if1 : tie.Need-shared-slice-read-if1 invariant-loop decreases-loop
-shared-slice-read-if1 c = search rules
+shared-slice-read-is-part-named : tie.Need-shared-slice-read-is-part-named invariant-loop decreases-loop
+shared-slice-read-is-part-named c = search_lem rules
 
-mul-j : tie.Need-overflow-mul-j invariant-loop decreases-loop
-mul-j c = omega (arith, c.before.before.before.before.requires.0.size, c.before.before.loop-test.true)
+mul-is-part-named-3 : tie.Need-overflow-mul-is-part-named-3 invariant-loop decreases-loop
+mul-is-part-named-3 c = search_lem rules
 
-shared-slice-read-j : tie.Need-shared-slice-read-j invariant-loop decreases-loop
-shared-slice-read-j c = omega (arith, c.before.before.before.before.before.requires.0.size, c.before.before.before.loop-test.true)
+add-is-part-named : tie.Need-overflow-add-is-part-named invariant-loop decreases-loop
+add-is-part-named c = search_lem rules
 
-cast-j : tie.Need-overflow-cast-j invariant-loop decreases-loop
-cast-j c = omega (arith, c.shared-slice-known2.given c.before.before.before.before.loop.j)
+mul-is-part-named-4 : tie.Need-overflow-mul-is-part-named-4 invariant-loop decreases-loop
+mul-is-part-named-4 c = search_lem rules
+
+shared-slice-read-is-part-named-2 : tie.Need-shared-slice-read-is-part-named-2 invariant-loop decreases-loop
+shared-slice-read-is-part-named-2 c = search_lem rules
+
+is-part-named-requires : tie.Need-is-part-named-requires invariant-loop decreases-loop
+is-part-named-requires c κs = search_lem rules
+
+add-i : tie.Need-overflow-add-i invariant-loop decreases-loop
+add-i c = search_lem rules
 
 loop-less : tie.Need-loop-smaller invariant-loop decreases-loop
-loop-less c =
-    let t = c.before.before.before.loop-test.true in
-    let a = next_after _ _ _ _ c.before.before.before.before.before.requires.0 _ c.before.before.before.before.before.requires.1 _ t
-    (c.before.before.before.before.loop.invariant.1 t) in
-    omega (arith, a, t)
+loop-less c = search_lem rules
 
 loop-again : tie.Need-loop-preserved invariant-loop decreases-loop
 loop-again c =
-    let p = c.before.before.before.before.before.requires in
-    let l = c.before.before.before.before.loop.invariant in
-    let t = c.before.before.before.loop-test.true in
-    let a = next_after _ _ _ _ p.0 _ p.1 _ t (l.1 t) in
-    let q = counts_over _ _ _ _ p.0 _ p.1 _ t (l.1 t) _ c.before.if1.true in
-    (next_most _ _ _ _ p.0 _ p.1 _ t (l.1 t), (λ k. next_named _ _ _ _ p.0 _ p.1 _ t (l.1 t) k), omega (arith, a, l.2), omega (arith, q, l.3))
+    let e = c.before.before.before.before.before.before.before.before.before.before.args in
+    let k = filter_over (is_part_named (stored_parts e.text.now e.words.now) e.kind e.name.now) e.pairs.now
+    c.before.before.before.before.before.loop.i c.before.before.before.before.loop-test.true
+    (sym (part_any _ _ _ _ _ _ _) ∙ sym c.before.is-part-named.ensures ∙ not-true _ c.if1.true) in
+    (omega arith, omega arith, c.before.before.before.before.before.loop.invariant.2 ∙ (let l = ap length k in omega arith))
 
 add-n : tie.Need-overflow-add-n invariant-loop decreases-loop
-add-n c = omega (arith, c.before.before.before.loop.invariant.2, c.before.before.loop-test.true, c.before.before.before.before.requires.0.few)
+add-n c = search_lem rules
 
-mul-j-2 : tie.Need-overflow-mul-j-2 invariant-loop decreases-loop
-mul-j-2 c = omega (arith, c.before.before.before.before.requires.0.size, c.before.before.loop-test.true)
-
-shared-slice-read-j-2 : tie.Need-shared-slice-read-j-2 invariant-loop decreases-loop
-shared-slice-read-j-2 c = omega (arith, c.before.before.before.before.before.requires.0.size, c.before.before.before.loop-test.true)
-
-cast-j-2 : tie.Need-overflow-cast-j-2 invariant-loop decreases-loop
-cast-j-2 c = omega (arith, c.shared-slice-known3.given c.before.before.before.before.loop.j)
+add-i-2 : tie.Need-overflow-add-i-2 invariant-loop decreases-loop
+add-i-2 c = search_lem rules
 
 loop-less-2 : tie.Need-loop-smaller-2 invariant-loop decreases-loop
-loop-less-2 c =
-    let t = c.before.before.before.loop-test.true in
-    let a = next_after _ _ _ _ c.before.before.before.before.before.requires.0 _ c.before.before.before.before.before.requires.1 _ t
-    (c.before.before.before.before.loop.invariant.1 t) in
-    omega (arith, a, t)
+loop-less-2 c = search_lem rules
 
 loop-again-2 : tie.Need-loop-preserved-2 invariant-loop decreases-loop
 loop-again-2 c =
-    let p = c.before.before.before.before.before.requires in
-    let l = c.before.before.before.before.loop.invariant in
-    let t = c.before.before.before.loop-test.true in
-    let a = next_after _ _ _ _ p.0 _ p.1 _ t (l.1 t) in
-    let q = counts_here _ _ _ _ p.0 _ p.1 _ t (l.1 t) _ c.before.if1.false in
-    (next_most _ _ _ _ p.0 _ p.1 _ t (l.1 t), (λ k. next_named _ _ _ _ p.0 _ p.1 _ t (l.1 t) k), omega (arith, a, l.2), omega (arith, q, l.3))
+    let e = c.before.before.before.before.before.before.before.before.before.before.args in
+    let k = filter_here (is_part_named (stored_parts e.text.now e.words.now) e.kind e.name.now) e.pairs.now
+    c.before.before.before.before.before.loop.i c.before.before.before.before.loop-test.true
+    (sym (part_any _ _ _ _ _ _ _) ∙ sym c.before.is-part-named.ensures ∙ not-false _ c.if1.false) in
+    (omega arith, omega arith, c.before.before.before.before.before.loop.invariant.2 ∙ (let l = ap length k in omega arith))
 
 returns : tie.Need-returns invariant-loop decreases-loop
-returns c =
-    let e = c.before.before.args in
-    let z = counts_end e.kind (is_row_named (stored_parts e.text.now e.words.now) (named (stored_parts e.text.now e.words.now) (row_at
-    e.pairs.now e.i)))
-    e.pairs.now c.before.loop.j c.loop-test.false in
-    omega (arith, z, c.before.loop.invariant.3)
+returns c = counted _ _ _ _ _ _ c.loop-test.false c.before.loop.invariant.2
 
 pub count-kind-spec : {M : Type 1} → statement M
 count-kind-spec =
@@ -105,18 +92,19 @@ count-kind-spec =
     invariant-loop
     decreases-loop
     loop-holds
-    mul-if1
-    mul-if1-2
-    shared-slice-read-if1
-    mul-j
-    shared-slice-read-j
-    cast-j
+    mul-is-part-named
+    mul-is-part-named-2
+    shared-slice-read-is-part-named
+    mul-is-part-named-3
+    add-is-part-named
+    mul-is-part-named-4
+    shared-slice-read-is-part-named-2
+    is-part-named-requires
+    add-i
     loop-less
     loop-again
     add-n
-    mul-j-2
-    shared-slice-read-j-2
-    cast-j-2
+    add-i-2
     loop-less-2
     loop-again-2
     returns)

@@ -1,67 +1,61 @@
--- The head of a number is the first pair that has it.
+-- What was found is the pair itself exactly where no pair before has the name.
+use mathlib.Core.Path.{◌∙◌, sym}
+use Prim.Native.Nat.{◌+◌, ◌*◌}
 use native.Mathlib.Omega.{arith}
-use Rattle.schema.specs.Chains.{number_at}
-use Rattle.schema.proofs.Chains.{opener_told}
+use Rattle.schema.proofs.Groups.{pair_none, pair_some}
 use Rattle.schema.proofs.implementers.is_first_pair.Statement.{statement}
 use Rattle.schema.proofs.implementers.is_first_pair.Tie as tie
 use borrow.Author.Rules.{rules}
 
-mul-number : tie.Need-overflow-mul-number
-mul-number c = search rules
+mul-card-name : tie.Need-overflow-mul-card-name
+mul-card-name c = search_lem rules
 
-add-number : tie.Need-overflow-add-number
-add-number c = search rules
+add-card-name : tie.Need-overflow-add-card-name
+add-card-name c = search_lem rules
 
-mul-number-2 : tie.Need-overflow-mul-number-2
-mul-number-2 c = search rules
+mul-card-name-2 : tie.Need-overflow-mul-card-name-2
+mul-card-name-2 c = search_lem rules
 
-shared-slice-read-number : tie.Need-shared-slice-read-number
-shared-slice-read-number c = search rules
+shared-slice-read-card-name : tie.Need-shared-slice-read-card-name
+shared-slice-read-card-name c = search_lem rules
 
-cast-number : tie.Need-overflow-cast-number
-cast-number c = let s = c.before.requires.2.stored _ c.before.requires.4 in omega (arith, s)
+cast-card-name : tie.Need-overflow-cast-card-name
+cast-card-name c = omega (arith, c.shared-slice-known4.given (3 * c.before.before.before.before.args.i + 1))
 
-mul-number-3 : tie.Need-overflow-mul-number-3
-mul-number-3 c = let s = c.before.requires.2.stored _ c.before.requires.4 in omega (arith, s)
+card-name-requires : tie.Need-card-name-requires
+card-name-requires c κs = search_lem rules
 
-shared-slice-read-number-2 : tie.Need-shared-slice-read-number-2
-shared-slice-read-number-2 c = c.before.before.requires.2.stored _ c.before.before.requires.4
+find-interface-requires : tie.Need-find-interface-requires
+find-interface-requires c κs = search_lem rules
 
-cast-result : tie.Need-overflow-cast-result
-cast-result c = let s = c.before.before.requires.2.headed _ c.before.before.requires.4 in omega (arith, s)
+enum-known-first : tie.Need-enum-known-first
+enum-known-first c = search_lem rules
 
-mul-result : tie.Need-overflow-mul-result
-mul-result c = let s = c.before.before.requires.2.headed _ c.before.before.requires.4 in omega (arith, s)
-
-shared-slice-read-result : tie.Need-shared-slice-read-result
-shared-slice-read-result c = c.before.before.before.requires.2.headed _ c.before.before.before.requires.4
-
-cast-result-2 : tie.Need-overflow-cast-result-2
-cast-result-2 c =
-    omega (
-      arith,
-      c.shared-slice-known3.given (number_at c.before.before.before.args.numbers.now c.before.before.before.args.pairs.now
-          c.before.before.before.args.i),
-    )
+enum_told : tie.Need-enum-told
+enum_told c = search_lem rules
 
 returns : tie.Need-returns
 returns c =
-    opener_told _ _ _ c.before.before.before.requires.0 c.before.before.before.requires.1 _ c.before.before.before.requires.3 _
-    c.before.before.before.requires.4
+    pair_none _ _ _ _ _ c.before.before.before.card-name.ensures c.before.before.before.before.before.before.before.before.requires
+    (sym c.before.before.find-interface.ensures ∙ c.enum_told.given.1)
+
+returns-2 : tie.Need-returns-2
+returns-2 c =
+    pair_some _ _ _ _ _ c.before.before.before.before.card-name.ensures c.before.before.before.before.before.before.before.before.before.requires
+    _ (sym c.before.before.before.find-interface.ensures ∙ c.before.first.given.1)
 
 pub is-first-pair-spec : {M : Type 1} → statement M
 is-first-pair-spec =
     tie.close
     (tie.spec
-    mul-number
-    add-number
-    mul-number-2
-    shared-slice-read-number
-    cast-number
-    mul-number-3
-    shared-slice-read-number-2
-    cast-result
-    mul-result
-    shared-slice-read-result
-    cast-result-2
-    returns)
+    mul-card-name
+    add-card-name
+    mul-card-name-2
+    shared-slice-read-card-name
+    cast-card-name
+    card-name-requires
+    find-interface-requires
+    enum-known-first
+    enum_told
+    returns
+    returns-2)

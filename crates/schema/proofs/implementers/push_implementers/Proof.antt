@@ -1,87 +1,109 @@
--- The loop's invariant: what is written, and then the types from pair j on, are all types.
-use mathlib.Core.Path.{◌≡◌, refl}
-use mathlib.Core.List.{◌++◌, map}
-use Prim.Native.Nat.{◌+◌, ◌-◌, ◌/◌, ◌≤◌, ◌<◌}
+-- The loop's invariant: what is written, and then the types from pair i on, are all types.
+use mathlib.Core.Path.{◌∙◌, sym}
+use mathlib.Core.List.{◌++◌}
+use Prim.Native.Nat.{◌-◌, ◌≤◌}
 use native.Mathlib.Omega.{arith}
-use lib.ListN.{length, take}
-use Rattle.definition.specs.Lookups.{origin_of}
+use borrow.Author.Tests.{not-true, not-false}
+use lib.ListN.{take, drop}
+use Rattle.definition.specs.LentRows.{lent_rows}
+use Rattle.store_reader.specs.Stored.{stored_parts}
+use Rattle.schema_rows.proofs.Rows.{row_named}
 use Rattle.schema_rows.proofs.Listing.{Listing, listing_push, listing_same, listing_capacity_lem}
-use Rattle.schema.specs.Chains.{number_at, same_from}
-use Rattle.schema.proofs.Groups.{from_start, from_capacity, from_done}
-use Rattle.schema.proofs.Chains.{next_named, next_after, next_most, types_here, types_end}
+use Rattle.schema.specs.Groups.{implementers_named}
+use Rattle.schema.proofs.Groups.{from_start, from_capacity, from_done, implementers_end, implementers_here, implementers_over}
 use Rattle.schema.proofs.implementers.push_implementers.Statement.{statement}
 use Rattle.schema.proofs.implementers.push_implementers.Tie as tie
 use borrow.Author.Rules.{rules}
 
 abbrev invariant-loop : tie.invariant-loop
-invariant-loop text words numbers pairs nexts i list₀ start count n₀ j₀ list n j =
-    (j ≤ length pairs / 3)
-    × (j < length pairs / 3 → number_at numbers pairs j ≡ number_at numbers pairs i)
-    × Listing list₀ list n (map origin_of (same_from text words pairs i j)) (take start list₀ ++ map origin_of (same_from text words pairs i i))
+invariant-loop text words pairs name list₀ start count n₀ i₀ list n i =
+    (i ≤ count)
+    × Listing list₀ list n (implementers_named (stored_parts text words) (drop i (lent_rows pairs)) name)
+    (take start list₀ ++ implementers_named (stored_parts text words) (lent_rows pairs) name)
 
 abbrev decreases-loop : tie.decreases-loop
-decreases-loop text words numbers pairs nexts i list₀ start count n₀ j₀ list n j = length pairs / 3 - j
+decreases-loop text words pairs name list₀ start count n₀ i₀ list n i = count - i
 
 loop-holds : tie.Need-loop-init invariant-loop decreases-loop
-loop-holds c = let h = c.requires.1 in (omega arith, (λ l. refl), from_start _ _ _ (let h = c.requires.2 in omega arith))
+loop-holds c = (omega arith, from_start _ _ _ (let h = c.before.before.before.before.before.requires in omega arith))
+
+mul-is-named : tie.Need-overflow-mul-is-named invariant-loop decreases-loop
+mul-is-named c = search_lem rules
+
+add-is-named : tie.Need-overflow-add-is-named invariant-loop decreases-loop
+add-is-named c = search_lem rules
+
+mul-is-named-2 : tie.Need-overflow-mul-is-named-2 invariant-loop decreases-loop
+mul-is-named-2 c = search_lem rules
+
+shared-slice-read-is-named : tie.Need-shared-slice-read-is-named invariant-loop decreases-loop
+shared-slice-read-is-named c = search_lem rules
+
+is-named-requires : tie.Need-is-named-requires invariant-loop decreases-loop
+is-named-requires c κs = search_lem rules
+
+add-i : tie.Need-overflow-add-i invariant-loop decreases-loop
+add-i c = search_lem rules
+
+loop-less : tie.Need-loop-smaller invariant-loop decreases-loop
+loop-less c = search_lem rules
+
+loop-again : tie.Need-loop-preserved invariant-loop decreases-loop
+loop-again c = (
+  omega arith,
+  listing_same _ _ _ _ _ _ c.before.before.before.before.loop.invariant.1
+      (implementers_over _ _ _ _ c.before.before.before.loop-test.true
+      (row_named _ _ _ _ _ _ ∙ sym c.before.is_named_lem.ensures ∙ not-true _ c.if1.true)),
+)
 
 mul-list : tie.Need-overflow-mul-list invariant-loop decreases-loop
-mul-list c = search rules
+mul-list c = search_lem rules
 
 add-list : tie.Need-overflow-add-list invariant-loop decreases-loop
-add-list c = search rules
+add-list c = search_lem rules
 
 mul-list-2 : tie.Need-overflow-mul-list-2 invariant-loop decreases-loop
-mul-list-2 c = search rules
+mul-list-2 c = search_lem rules
 
 shared-slice-read-list : tie.Need-shared-slice-read-list invariant-loop decreases-loop
-shared-slice-read-list c = search rules
+shared-slice-read-list c = search_lem rules
 
 mul-list-3 : tie.Need-overflow-mul-list-3 invariant-loop decreases-loop
-mul-list-3 c = search rules
+mul-list-3 c = search_lem rules
 
 slice-write-list : tie.Need-slice-write-list invariant-loop decreases-loop
 slice-write-list c =
-    let t = c.before.loop-test.true in
-    listing_capacity_lem _ _ _ _ _ c.before.before.loop.invariant.2 _ _ (types_here _ _ _ _ c.before.before.before.requires.0 _
-    c.before.before.before.requires.1 _ t (c.before.before.loop.invariant.1 t))
-    (from_capacity _ _ _ c.before.before.before.requires.2)
+    listing_capacity_lem _ _ _ _ _ c.before.before.before.before.before.loop.invariant.1 _ _
+    (implementers_here _ _ _ _ c.before.before.before.before.loop-test.true
+    (row_named _ _ _ _ _ _ ∙ sym c.before.before.is_named_lem.ensures ∙ not-false _ c.before.if1.false))
+    (from_capacity _ _ _ c.before.before.before.before.before.before.before.before.before.before.before.requires)
 
 add-n : tie.Need-overflow-add-n invariant-loop decreases-loop
-add-n c = search rules
+add-n c = search_lem rules
 
-mul-j : tie.Need-overflow-mul-j invariant-loop decreases-loop
-mul-j c = omega (arith, c.before.before.before.requires.0.size, c.before.loop-test.true)
+add-i-2 : tie.Need-overflow-add-i-2 invariant-loop decreases-loop
+add-i-2 c = search_lem rules
 
-shared-slice-read-j : tie.Need-shared-slice-read-j invariant-loop decreases-loop
-shared-slice-read-j c = omega (arith, c.before.before.before.before.requires.0.size, c.before.before.loop-test.true)
+loop-less-2 : tie.Need-loop-smaller-2 invariant-loop decreases-loop
+loop-less-2 c = search_lem rules
 
-cast-j : tie.Need-overflow-cast-j invariant-loop decreases-loop
-cast-j c = omega (arith, c.shared-slice-known2.given c.before.before.before.loop.j)
-
-loop-less : tie.Need-loop-smaller invariant-loop decreases-loop
-loop-less c =
-    let t = c.before.before.loop-test.true in
-    let a = next_after _ _ _ _ c.before.before.before.before.requires.0 _ c.before.before.before.before.requires.1 _ t
-    (c.before.before.before.loop.invariant.1 t) in
-    omega (arith, a, t)
-
-loop-again : tie.Need-loop-preserved invariant-loop decreases-loop
-loop-again c =
-    let p = c.before.before.before.before.requires in
-    let l = c.before.before.before.loop.invariant in
-    let t = c.before.before.loop-test.true in
-    let e = types_here _ _ _ _ p.0 _ p.1 _ t (l.1 t) in (
-      next_most _ _ _ _ p.0 _ p.1 _ t (l.1 t),
-      (λ k. next_named _ _ _ _ p.0 _ p.1 _ t (l.1 t) k),
-      listing_push _ _ _ _ _ _ (listing_same _ _ _ _ _ _ l.2 e) (listing_capacity_lem _ _ _ _ _ l.2 _ _ e (from_capacity _ _ _ p.2)),
-    )
+loop-again-2 : tie.Need-loop-preserved-2 invariant-loop decreases-loop
+loop-again-2 c = (
+  omega arith,
+  (let e = implementers_here _ _ _ _ c.before.before.before.before.loop-test.true
+      (row_named _ _ _ _ _ _ ∙ sym c.before.before.is_named_lem.ensures ∙ not-false _ c.before.if1.false) in
+      listing_push _ _ _ _ _ _ (listing_same _ _ _ _ _ _ c.before.before.before.before.before.loop.invariant.1 e)
+      (listing_capacity_lem _ _ _ _ _ c.before.before.before.before.before.loop.invariant.1 _ _ e
+      (from_capacity _ _ _ c.before.before.before.before.before.before.before.before.before.before.before.requires))),
+)
 
 same_length : tie.Need-same-length invariant-loop decreases-loop
-same_length c = c.before.loop.invariant.2.kept
+same_length c = c.before.loop.invariant.1.kept
 
 returns : tie.Need-returns invariant-loop decreases-loop
-returns c = from_done _ _ _ _ _ _ c.before.before.requires.2 c.before.loop.invariant.2 (types_end _ _ _ c.loop-test.false)
+returns c =
+    from_done _ _ _ _ _ _ c.before.before.before.before.before.before.before.requires c.before.loop.invariant.1
+    (implementers_end _ _ _ _ c.loop-test.false)
 
 pub push-implementers-spec : {M : Type 1} → statement M
 push-implementers-spec =
@@ -90,6 +112,14 @@ push-implementers-spec =
     invariant-loop
     decreases-loop
     loop-holds
+    mul-is-named
+    add-is-named
+    mul-is-named-2
+    shared-slice-read-is-named
+    is-named-requires
+    add-i
+    loop-less
+    loop-again
     mul-list
     add-list
     mul-list-2
@@ -97,10 +127,8 @@ push-implementers-spec =
     mul-list-3
     slice-write-list
     add-n
-    mul-j
-    shared-slice-read-j
-    cast-j
-    loop-less
-    loop-again
+    add-i-2
+    loop-less-2
+    loop-again-2
     same_length
     returns)

@@ -6,37 +6,37 @@ use Rattle.schema.proofs.implementers.put_words.Tie as tie
 use borrow.Author.Rules.{rules}
 
 mul-list : tie.Need-overflow-mul-list
-mul-list c = search rules
+mul-list c = search_lem rules
 
 slice-write-list : tie.Need-slice-write-list
-slice-write-list c = search rules
+slice-write-list c = search_lem rules
 
 add-list : tie.Need-overflow-add-list
-add-list c = search rules
+add-list c = search_lem rules
 
 mul-list-2 : tie.Need-overflow-mul-list-2
-mul-list-2 c = search rules
+mul-list-2 c = search_lem rules
 
 slice-write-list-2 : tie.Need-slice-write-list-2
 slice-write-list-2 c = simp length-set (omega arith)
 
 add-list-2 : tie.Need-overflow-add-list-2
-add-list-2 c = search rules
+add-list-2 c = search_lem rules
 
 mul-list-3 : tie.Need-overflow-mul-list-3
-mul-list-3 c = search rules
+mul-list-3 c = search_lem rules
 
 slice-write-list-3 : tie.Need-slice-write-list-3
 slice-write-list-3 c = simp length-set (omega arith)
 
 add-result : tie.Need-overflow-add-result
-add-result c = search rules
+add-result c = search_lem rules
 
 same_length : tie.Need-same-length
 same_length c = simp length-set
 
 returns : tie.Need-returns
-returns c = search rules
+returns c = search_lem rules
 
 pub put-words-spec : {M : Type 1} → statement M
 put-words-spec =

@@ -6,10 +6,10 @@ use Rattle.schema.proofs.lookup.explicit_field.Tie as tie
 use borrow.Author.Rules.{rules}
 
 enum-known-part : tie.Need-enum-known-part
-enum-known-part c = search rules
+enum-known-part c = search_lem rules
 
 enum_told : tie.Need-enum-told
-enum_told c = search rules
+enum_told c = search_lem rules
 
 returns : tie.Need-returns
 returns c = explicit_none _ _ _ c.enum_told.given.1

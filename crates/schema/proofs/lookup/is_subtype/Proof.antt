@@ -15,13 +15,13 @@ owned c =
     c.before.before.before.before.before.before.before.before.requires _ c.before.before.find-part.ensures _ c.owner.given.1
 
 find-part-requires : tie.Need-find-part-requires
-find-part-requires c κs = search rules
+find-part-requires c κs = search_lem rules
 
 enum-known-owner : tie.Need-enum-known-owner
-enum-known-owner c = search rules
+enum-known-owner c = search_lem rules
 
 enum_told : tie.Need-enum-told
-enum_told c = search rules
+enum_told c = search_lem rules
 
 returns : tie.Need-returns
 returns c =
@@ -38,10 +38,10 @@ shared-slice-read-what : tie.Need-shared-slice-read-what
 shared-slice-read-what c = omega (arith, owned c.before.before)
 
 find-part-requires-2 : tie.Need-find-part-requires-2
-find-part-requires-2 c κs = search rules
+find-part-requires-2 c κs = search_lem rules
 
 subtype-if-requires : tie.Need-subtype-if-requires
-subtype-if-requires c κs = search rules
+subtype-if-requires c κs = search_lem rules
 
 returns-2 : tie.Need-returns-2
 returns-2 c =
@@ -51,7 +51,7 @@ returns-2 c =
     c.before.before.if1.true _ c.before.find-part2.ensures
 
 subtype-if-requires-2 : tie.Need-subtype-if-requires-2
-subtype-if-requires-2 c κs = search rules
+subtype-if-requires-2 c κs = search_lem rules
 
 returns-3 : tie.Need-returns-3
 returns-3 c =

@@ -16,13 +16,13 @@ owned c =
     c.before.before.before.before.before.before.before.before.requires _ c.before.before.find-part.ensures _ c.owner.given.1
 
 find-part-requires : tie.Need-find-part-requires
-find-part-requires c κs = search rules
+find-part-requires c κs = search_lem rules
 
 enum-known-owner : tie.Need-enum-known-owner
-enum-known-owner c = search rules
+enum-known-owner c = search_lem rules
 
 enum_told : tie.Need-enum-told
-enum_told c = search rules
+enum_told c = search_lem rules
 
 returns : tie.Need-returns
 returns c =
@@ -58,10 +58,10 @@ shared-slice-read-what : tie.Need-shared-slice-read-what
 shared-slice-read-what c = omega (arith, owned c.before.before.before.before)
 
 meta-field-requires : tie.Need-meta-field-requires
-meta-field-requires c κs = search rules
+meta-field-requires c κs = search_lem rules
 
 first-found-requires : tie.Need-first-found-requires
-first-found-requires c κs = search rules
+first-found-requires c κs = search_lem rules
 
 returns-2 : tie.Need-returns-2
 returns-2 c =

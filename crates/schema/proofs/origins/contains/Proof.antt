@@ -20,19 +20,19 @@ loop-holds : tie.Need-loop-init invariant-loop decreases-loop
 loop-holds c = (omega arith, refl)
 
 mul-if1 : tie.Need-overflow-mul-if1 invariant-loop decreases-loop
-mul-if1 c = search rules
+mul-if1 c = search_lem rules
 
 shared-slice-read-if1 : tie.Need-shared-slice-read-if1 invariant-loop decreases-loop
-shared-slice-read-if1 c = search rules
+shared-slice-read-if1 c = search_lem rules
 
 returns : tie.Need-returns invariant-loop decreases-loop
 returns c = sym (c.before.before.before.loop.invariant.1 ∙ among_hit _ _ _ c.before.before.loop-test.true c.if1.true)
 
 add-i : tie.Need-overflow-add-i invariant-loop decreases-loop
-add-i c = search rules
+add-i c = search_lem rules
 
 loop-less : tie.Need-loop-smaller invariant-loop decreases-loop
-loop-less c = search rules
+loop-less c = search_lem rules
 
 loop-again : tie.Need-loop-preserved invariant-loop decreases-loop
 loop-again c = (omega arith, c.before.before.before.loop.invariant.1 ∙ among_miss _ _ _ c.before.before.loop-test.true c.if1.false)

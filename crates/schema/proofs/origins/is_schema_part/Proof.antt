@@ -9,7 +9,7 @@ returns : tie.Need-returns
 returns c = schema_use _ _ _ c.if1.true
 
 is-root-requires : tie.Need-is-root-requires
-is-root-requires c κs = search rules
+is-root-requires c κs = search_lem rules
 
 returns-2 : tie.Need-returns-2
 returns-2 c = c.is-root.ensures ∙ schema_root _ _ _ c.before.if1.false

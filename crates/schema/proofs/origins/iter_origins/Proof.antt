@@ -26,13 +26,13 @@ loop-holds : tie.Need-loop-init invariant-loop decreases-loop
 loop-holds c = listing_start _ _
 
 next-part-requires : tie.Need-next-part-requires invariant-loop decreases-loop
-next-part-requires c κs = search rules
+next-part-requires c κs = search_lem rules
 
 enum-known-k : tie.Need-enum-known-k invariant-loop decreases-loop
-enum-known-k c = search rules
+enum-known-k c = search_lem rules
 
 enum_told : tie.Need-enum-told invariant-loop decreases-loop
-enum_told c = search rules
+enum_told c = search_lem rules
 
 same_length : tie.Need-same-length invariant-loop decreases-loop
 same_length c = c.before.before.before.loop.invariant.kept
@@ -54,7 +54,7 @@ shared-slice-read-list : tie.Need-shared-slice-read-list invariant-loop decrease
 shared-slice-read-list c = let h = inside c.before.before in omega (arith, h.0, h.1)
 
 mul-list-3 : tie.Need-overflow-mul-list-3 invariant-loop decreases-loop
-mul-list-3 c = search rules
+mul-list-3 c = search_lem rules
 
 slice-write-list : tie.Need-slice-write-list invariant-loop decreases-loop
 slice-write-list c =
@@ -63,7 +63,7 @@ slice-write-list c =
     c.before.before.before.before.before.before.before.before.requires
 
 add-n : tie.Need-overflow-add-n invariant-loop decreases-loop
-add-n c = search rules
+add-n c = search_lem rules
 
 add-i : tie.Need-overflow-add-i invariant-loop decreases-loop
 add-i c = let h = inside c.before.before in omega (arith, h.0, h.1)

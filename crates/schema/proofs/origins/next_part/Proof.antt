@@ -21,16 +21,16 @@ loop-holds : tie.Need-loop-init invariant-loop decreases-loop
 loop-holds c = refl
 
 mul-what : tie.Need-overflow-mul-what invariant-loop decreases-loop
-mul-what c = search rules
+mul-what c = search_lem rules
 
 mul-what-2 : tie.Need-overflow-mul-what-2 invariant-loop decreases-loop
-mul-what-2 c = search rules
+mul-what-2 c = search_lem rules
 
 shared-slice-read-what : tie.Need-shared-slice-read-what invariant-loop decreases-loop
-shared-slice-read-what c = search rules
+shared-slice-read-what c = search_lem rules
 
 is-type-requires : tie.Need-is-type-requires invariant-loop decreases-loop
-is-type-requires c κs = search rules
+is-type-requires c κs = search_lem rules
 
 returns : tie.Need-returns invariant-loop decreases-loop
 returns c =
@@ -38,7 +38,7 @@ returns c =
     ∙ part_stop _ _ _ c.before.before.before.loop-test.true (sym c.before.is_type_lem.ensures ∙ c.if1.true))
 
 is-schema-part-requires : tie.Need-is-schema-part-requires invariant-loop decreases-loop
-is-schema-part-requires c κs = search rules
+is-schema-part-requires c κs = search_lem rules
 
 returns-2 : tie.Need-returns-2 invariant-loop decreases-loop
 returns-2 c =
@@ -48,10 +48,10 @@ returns-2 c =
     (sym (schema_any _ _ _) ∙ sym c.before.is-schema-part.ensures ∙ c.if2.true))
 
 add-i : tie.Need-overflow-add-i invariant-loop decreases-loop
-add-i c = search rules
+add-i c = search_lem rules
 
 loop-less : tie.Need-loop-smaller invariant-loop decreases-loop
-loop-less c = search rules
+loop-less c = search_lem rules
 
 loop-again : tie.Need-loop-preserved invariant-loop decreases-loop
 loop-again c =

@@ -10,13 +10,13 @@ use Rattle.schema.proofs.roots.is_query_root.Tie as tie
 use borrow.Author.Rules.{rules}
 
 find-row-requires : tie.Need-find-row-requires
-find-row-requires c κs = search rules
+find-row-requires c κs = search_lem rules
 
 enum-known-i : tie.Need-enum-known-i
-enum-known-i c = search rules
+enum-known-i c = search_lem rules
 
 enum_told : tie.Need-enum-told
-enum_told c = search rules
+enum_told c = search_lem rules
 
 returns : tie.Need-returns
 returns c = query_none _ _ _ _ (root_none _ Query 26 refl (sym c.before.before.find-row.ensures ∙ c.enum_told.given.1))
@@ -26,7 +26,7 @@ root-card-requires c κs =
     let f = sym c.before.before.before.find-row.ensures ∙ c.before.i.given.1 in (root_inside _ Query 26 refl _ f, root_what _ Query 26 refl _ f)
 
 is-named-requires : tie.Need-is-named-requires
-is-named-requires c κs = search rules
+is-named-requires c κs = search_lem rules
 
 returns-2 : tie.Need-returns-2
 returns-2 c =

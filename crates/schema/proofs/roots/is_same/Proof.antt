@@ -7,16 +7,16 @@ use Rattle.schema.proofs.roots.is_same.Lts as lts
 use Rattle.name.proofs.compare.Reads as compare-reads
 
 compare-requires : tie.Need-compare-requires
-compare-requires c κs = search rules
+compare-requires c κs = search_lem rules
 
 enum_told : tie.Need-enum-told
-enum_told c = search rules
+enum_told c = search_lem rules
 
 enum-told-2 : tie.Need-enum-told-2
-enum-told-2 c = search rules
+enum-told-2 c = search_lem rules
 
 enum-told-3 : tie.Need-enum-told-3
-enum-told-3 c = search rules
+enum-told-3 c = search_lem rules
 
 returns : tie.Need-returns
 returns c = same_told _ _ _ _ c.before.before.compare.ensures c.enum_told.given.1

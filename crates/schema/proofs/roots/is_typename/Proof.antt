@@ -13,10 +13,10 @@ returns-2 : tie.Need-returns-2
 returns-2 c = typename_high _ _ c.if2.true
 
 slice-aggregate-is-same : tie.Need-slice-aggregate-is-same
-slice-aggregate-is-same c = search rules
+slice-aggregate-is-same c = search_lem rules
 
 is-same-requires : tie.Need-is-same-requires
-is-same-requires c κs = search rules
+is-same-requires c κs = search_lem rules
 
 returns-3 : tie.Need-returns-3
 unfolding bytes

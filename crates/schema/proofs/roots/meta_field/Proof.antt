@@ -8,13 +8,13 @@ use Rattle.schema.proofs.roots.meta_field.Tie as tie
 use borrow.Author.Rules.{rules}
 
 is-typename-requires : tie.Need-is-typename-requires
-is-typename-requires c κs = search rules
+is-typename-requires c κs = search_lem rules
 
 returns : tie.Need-returns
 returns c = meta_typename _ _ _ _ _ _ (sym c.before.is-typename.ensures ∙ c.if1.true)
 
 is-query-root-requires : tie.Need-is-query-root-requires
-is-query-root-requires c κs = search rules
+is-query-root-requires c κs = search_lem rules
 
 returns-2 : tie.Need-returns-2
 returns-2 c =
@@ -22,10 +22,10 @@ returns-2 c =
     (sym c.before.is-query-root.ensures ∙ not-true _ c.if2.true)
 
 slice-aggregate-is-same : tie.Need-slice-aggregate-is-same
-slice-aggregate-is-same c = search rules
+slice-aggregate-is-same c = search_lem rules
 
 is-same-requires : tie.Need-is-same-requires
-is-same-requires c κs = search rules
+is-same-requires c κs = search_lem rules
 
 returns-3 : tie.Need-returns-3
 unfolding bytes
@@ -36,10 +36,10 @@ returns-3 c =
     (sym c.before.is_same.ensures ∙ c.if3.true)
 
 slice-aggregate-is-same-2 : tie.Need-slice-aggregate-is-same-2
-slice-aggregate-is-same-2 c = search rules
+slice-aggregate-is-same-2 c = search_lem rules
 
 is-same-requires-2 : tie.Need-is-same-requires-2
-is-same-requires-2 c κs = search rules
+is-same-requires-2 c κs = search_lem rules
 
 returns-4 : tie.Need-returns-4
 unfolding bytes

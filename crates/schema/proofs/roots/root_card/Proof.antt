@@ -18,37 +18,37 @@ inside c =
     (sym c.before.before.find-default-root.ensures ∙ c.t.given.1)
 
 mul-card : tie.Need-overflow-mul-card
-mul-card c = search rules
+mul-card c = search_lem rules
 
 add-card : tie.Need-overflow-add-card
-add-card c = search rules
+add-card c = search_lem rules
 
 mul-card-2 : tie.Need-overflow-mul-card-2
-mul-card-2 c = search rules
+mul-card-2 c = search_lem rules
 
 shared-slice-read-card : tie.Need-shared-slice-read-card
-shared-slice-read-card c = search rules
+shared-slice-read-card c = search_lem rules
 
 returns : tie.Need-returns
 returns c = card_own _ _ _ c.if1.true
 
 mul-find-default-root : tie.Need-overflow-mul-find-default-root
-mul-find-default-root c = search rules
+mul-find-default-root c = search_lem rules
 
 mul-find-default-root-2 : tie.Need-overflow-mul-find-default-root-2
-mul-find-default-root-2 c = search rules
+mul-find-default-root-2 c = search_lem rules
 
 shared-slice-read-find-default-root : tie.Need-shared-slice-read-find-default-root
-shared-slice-read-find-default-root c = search rules
+shared-slice-read-find-default-root c = search_lem rules
 
 find-default-root-requires : tie.Need-find-default-root-requires
-find-default-root-requires c κs = search rules
+find-default-root-requires c κs = search_lem rules
 
 enum-known-t : tie.Need-enum-known-t
-enum-known-t c = search rules
+enum-known-t c = search_lem rules
 
 enum_told : tie.Need-enum-told
-enum_told c = search rules
+enum_told c = search_lem rules
 
 returns-2 : tie.Need-returns-2
 returns-2 c = card_none _ _ _ c.before.before.before.before.if1.false (sym c.before.before.find-default-root.ensures ∙ c.enum_told.given.1)

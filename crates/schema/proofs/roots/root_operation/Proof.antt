@@ -12,22 +12,22 @@ use Rattle.schema.proofs.roots.root_operation.Tie as tie
 use borrow.Author.Rules.{rules}
 
 root-kind-requires : tie.Need-root-kind-requires
-root-kind-requires c κs = search rules
+root-kind-requires c κs = search_lem rules
 
 find-row-requires : tie.Need-find-row-requires
-find-row-requires c κs = search rules
+find-row-requires c κs = search_lem rules
 
 enum-known-i : tie.Need-enum-known-i
-enum-known-i c = search rules
+enum-known-i c = search_lem rules
 
 enum_told : tie.Need-enum-told
-enum_told c = search rules
+enum_told c = search_lem rules
 
 sub-result : tie.Need-overflow-sub-result
-sub-result c = search rules
+sub-result c = search_lem rules
 
 part-result-start : tie.Need-slice-bounds-result-start
-part-result-start c = search rules
+part-result-start c = search_lem rules
 
 part-result-end : tie.Need-slice-bounds-result-end
 part-result-end c = let l = (long _ _ c.before.before.before.before.before.before.before.requires.1).0 in omega (arith, l)
@@ -49,10 +49,10 @@ root-card-requires c κs =
     )
 
 cast-read-name : tie.Need-overflow-cast-read-name
-cast-read-name c = search rules
+cast-read-name c = search_lem rules
 
 read-name-requires : tie.Need-read-name-requires
-read-name-requires c κs = search rules
+read-name-requires c κs = search_lem rules
 
 returns-2 : tie.Need-returns-2
 unfolding card_name

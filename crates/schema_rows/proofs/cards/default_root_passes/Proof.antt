@@ -19,7 +19,7 @@ inside c =
     (sym c.before.before.find-default-root.ensures ∙ c.t.given.1)
 
 is-default-root-requires : tie.Need-is-default-root-requires
-is-default-root-requires c κs = search rules
+is-default-root-requires c κs = search_lem rules
 
 returns : tie.Need-returns
 returns c = root_plain _ _ _ (sym c.before.is-default-root.ensures ∙ not-true _ c.if1.true)
@@ -30,10 +30,10 @@ find-default-root-requires c κs =
     (sym c.before.is-default-root.ensures ∙ not-false _ c.if1.false)
 
 enum-known-t : tie.Need-enum-known-t
-enum-known-t c = search rules
+enum-known-t c = search_lem rules
 
 enum_told : tie.Need-enum-told
-enum_told c = search rules
+enum_told c = search_lem rules
 
 returns-2 : tie.Need-returns-2
 returns-2 c =

@@ -7,7 +7,7 @@ use Rattle.schema_rows.proofs.cards.is_default_root.Tie as tie
 use borrow.Author.Rules.{rules}
 
 is-root-requires : tie.Need-is-root-requires
-is-root-requires c κs = search rules
+is-root-requires c κs = search_lem rules
 
 returns : tie.Need-returns
 returns c = default_other _ _ _ (sym c.before.is_root_lem.ensures ∙ not-true _ c.if1.true)

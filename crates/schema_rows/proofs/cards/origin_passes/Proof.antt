@@ -6,10 +6,10 @@ use Rattle.schema_rows.proofs.cards.origin_passes.Tie as tie
 use borrow.Author.Rules.{rules}
 
 card-kind-requires : tie.Need-card-kind-requires
-card-kind-requires c κs = search rules
+card-kind-requires c κs = search_lem rules
 
 is-extension-requires : tie.Need-is-extension-requires
-is-extension-requires c κs = search rules
+is-extension-requires c κs = search_lem rules
 
 returns : tie.Need-returns
 returns c = c.is-extension.ensures ∙ origin_asked _ _ c.before.before.if1.true _ c.before.card_kind_lem.ensures

@@ -8,7 +8,7 @@ use Rattle.schema_rows.proofs.cards.wanted_kind.Tie as tie
 use borrow.Author.Rules.{rules}
 
 is-type-requires : tie.Need-is-type-requires
-is-type-requires c κs = search rules
+is-type-requires c κs = search_lem rules
 
 returns : tie.Need-returns
 returns c = wanted_other _ _ _ (sym c.before.is_type_lem.ensures ∙ not-true _ c.if1.true)

@@ -10,13 +10,13 @@ use Rattle.schema_rows.proofs.order.place_under.Tie as tie
 use borrow.Author.Rules.{rules}
 
 schema-place-requires : tie.Need-schema-place-requires
-schema-place-requires c κs = search rules
+schema-place-requires c κs = search_lem rules
 
 returns : tie.Need-returns
 returns c = c.schema-place.ensures ∙ ap (λ (k : ℕ). place_in (row_order k) c.before.before.args.what) (sym c.before.if1.true)
 
 place-of-requires : tie.Need-place-of-requires
-place-of-requires c κs = search rules
+place-of-requires c κs = search_lem rules
 
 returns-2 : tie.Need-returns-2
 returns-2 c =

@@ -10,7 +10,7 @@ returns : tie.Need-returns
 returns c = places_schema c.before.args.kind c.if1.true
 
 places-under-requires : tie.Need-places-under-requires
-places-under-requires c κs = search rules
+places-under-requires c κs = search_lem rules
 
 returns-2 : tie.Need-returns-2
 returns-2 c =

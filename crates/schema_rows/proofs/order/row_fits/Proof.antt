@@ -10,7 +10,7 @@ returns : tie.Need-returns
 returns c = fits_first _ c.before.args.place _ c.if1.true
 
 is-type-requires : tie.Need-is-type-requires
-is-type-requires c κs = search rules
+is-type-requires c κs = search_lem rules
 
 returns-2 : tie.Need-returns-2
 returns-2 c = fits_type _ _ _ c.before.before.if1.false (sym c.before.is_type_lem.ensures ∙ c.if2.true)
@@ -40,7 +40,7 @@ returns-5 c =
     c.before.before.before.before.place-under.ensures c.before.before.before.places-under.ensures c.before.before.if3.false c.if5.true
 
 is-root-requires : tie.Need-is-root-requires
-is-root-requires c κs = search rules
+is-root-requires c κs = search_lem rules
 
 returns-6 : tie.Need-returns-6
 returns-6 c =

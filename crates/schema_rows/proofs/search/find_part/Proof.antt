@@ -6,12 +6,12 @@ use lib.ListN.{drop}
 use Rattle.definition.specs.LentRows.{lent_rows, is_type_row_named}
 use Rattle.definition.specs.Lookups.{is_part_named}
 use Rattle.store_reader.specs.Stored.{stored_parts}
-use Rattle.schema_rows.specs.declared.search.Found.TheVariants.{Nothing}
+use Rattle.schema_rows.specs.declared.search_lem.Found.TheVariants.{Nothing}
 use Rattle.schema_rows.proofs.Rows.{type_any}
 use Rattle.schema_rows.specs.Search.{part_from, located_from}
 use Rattle.schema_rows.proofs.SearchLaws.{part_any, part_stop, part_hit, part_miss, part_end, owner_hit, owner_miss, owner_end, located}
-use Rattle.schema_rows.proofs.search.find_part.Statement.{statement}
-use Rattle.schema_rows.proofs.search.find_part.Tie as tie
+use Rattle.schema_rows.proofs.search_lem.find_part.Statement.{statement}
+use Rattle.schema_rows.proofs.search_lem.find_part.Tie as tie
 use borrow.Author.Rules.{rules}
 
 abbrev invariant-loop : tie.invariant-loop
@@ -39,82 +39,82 @@ search-holds : tie.Need-search-init invariant-loop decreases-loop invariant-sear
 search-holds c = (omega arith, refl, refl, refl)
 
 mul-is-type-named : tie.Need-overflow-mul-is-type-named invariant-loop decreases-loop invariant-search decreases-search
-mul-is-type-named c = search rules
+mul-is-type-named c = search_lem rules
 
 mul-is-type-named-2 : tie.Need-overflow-mul-is-type-named-2 invariant-loop decreases-loop invariant-search decreases-search
-mul-is-type-named-2 c = search rules
+mul-is-type-named-2 c = search_lem rules
 
 shared-slice-read-is-type-named : tie.Need-shared-slice-read-is-type-named invariant-loop decreases-loop invariant-search decreases-search
-shared-slice-read-is-type-named c = search rules
+shared-slice-read-is-type-named c = search_lem rules
 
 mul-is-type-named-3 : tie.Need-overflow-mul-is-type-named-3 invariant-loop decreases-loop invariant-search decreases-search
-mul-is-type-named-3 c = search rules
+mul-is-type-named-3 c = search_lem rules
 
 add-is-type-named : tie.Need-overflow-add-is-type-named invariant-loop decreases-loop invariant-search decreases-search
-add-is-type-named c = search rules
+add-is-type-named c = search_lem rules
 
 mul-is-type-named-4 : tie.Need-overflow-mul-is-type-named-4 invariant-loop decreases-loop invariant-search decreases-search
-mul-is-type-named-4 c = search rules
+mul-is-type-named-4 c = search_lem rules
 
 shared-slice-read-is-type-named-2 : tie.Need-shared-slice-read-is-type-named-2 invariant-loop decreases-loop invariant-search decreases-search
-shared-slice-read-is-type-named-2 c = search rules
+shared-slice-read-is-type-named-2 c = search_lem rules
 
 is-type-named-requires : tie.Need-is-type-named-requires invariant-loop decreases-loop invariant-search decreases-search
-is-type-named-requires c κs = search rules
+is-type-named-requires c κs = search_lem rules
 
 add-j : tie.Need-overflow-add-j invariant-loop decreases-loop invariant-search decreases-search
-add-j c = search rules
+add-j c = search_lem rules
 
 loop-holds : tie.Need-loop-init invariant-loop decreases-loop invariant-search decreases-search
 loop-holds c = (
   omega arith,
-  c.before.before.before.before.before.search.invariant.2,
-  c.before.before.before.before.before.search.invariant.3
+  c.before.before.before.before.before.search_lem.invariant.2,
+  c.before.before.before.before.before.search_lem.invariant.3
       ∙ owner_hit _ _ _ _ c.before.before.before.before.search-test.true
       (sym (type_any _ _ _ _ _ _) ∙ sym c.before.is-type-named.ensures ∙ c.if1.true),
 )
 
 mul-is-type : tie.Need-overflow-mul-is-type invariant-loop decreases-loop invariant-search decreases-search
-mul-is-type c = search rules
+mul-is-type c = search_lem rules
 
 mul-is-type-2 : tie.Need-overflow-mul-is-type-2 invariant-loop decreases-loop invariant-search decreases-search
-mul-is-type-2 c = search rules
+mul-is-type-2 c = search_lem rules
 
 shared-slice-read-is-type : tie.Need-shared-slice-read-is-type invariant-loop decreases-loop invariant-search decreases-search
-shared-slice-read-is-type c = search rules
+shared-slice-read-is-type c = search_lem rules
 
 is-type-requires : tie.Need-is-type-requires invariant-loop decreases-loop invariant-search decreases-search
-is-type-requires c κs = search rules
+is-type-requires c κs = search_lem rules
 
 mul-is-part-named : tie.Need-overflow-mul-is-part-named invariant-loop decreases-loop invariant-search decreases-search
-mul-is-part-named c = search rules
+mul-is-part-named c = search_lem rules
 
 mul-is-part-named-2 : tie.Need-overflow-mul-is-part-named-2 invariant-loop decreases-loop invariant-search decreases-search
-mul-is-part-named-2 c = search rules
+mul-is-part-named-2 c = search_lem rules
 
 shared-slice-read-is-part-named : tie.Need-shared-slice-read-is-part-named invariant-loop decreases-loop invariant-search decreases-search
-shared-slice-read-is-part-named c = search rules
+shared-slice-read-is-part-named c = search_lem rules
 
 mul-is-part-named-3 : tie.Need-overflow-mul-is-part-named-3 invariant-loop decreases-loop invariant-search decreases-search
-mul-is-part-named-3 c = search rules
+mul-is-part-named-3 c = search_lem rules
 
 add-is-part-named : tie.Need-overflow-add-is-part-named invariant-loop decreases-loop invariant-search decreases-search
-add-is-part-named c = search rules
+add-is-part-named c = search_lem rules
 
 mul-is-part-named-4 : tie.Need-overflow-mul-is-part-named-4 invariant-loop decreases-loop invariant-search decreases-search
-mul-is-part-named-4 c = search rules
+mul-is-part-named-4 c = search_lem rules
 
 shared-slice-read-is-part-named-2 : tie.Need-shared-slice-read-is-part-named-2 invariant-loop decreases-loop invariant-search decreases-search
-shared-slice-read-is-part-named-2 c = search rules
+shared-slice-read-is-part-named-2 c = search_lem rules
 
 is-part-named-requires : tie.Need-is-part-named-requires invariant-loop decreases-loop invariant-search decreases-search
-is-part-named-requires c κs = search rules
+is-part-named-requires c κs = search_lem rules
 
 add-j-2 : tie.Need-overflow-add-j-2 invariant-loop decreases-loop invariant-search decreases-search
-add-j-2 c = search rules
+add-j-2 c = search_lem rules
 
 loop-less : tie.Need-loop-smaller invariant-loop decreases-loop invariant-search decreases-search
-loop-less c = search rules
+loop-less c = search_lem rules
 
 loop-again : tie.Need-loop-preserved invariant-loop decreases-loop invariant-search decreases-search
 loop-again c = (
@@ -127,24 +127,24 @@ loop-again c = (
 )
 
 add-i : tie.Need-overflow-add-i invariant-loop decreases-loop invariant-search decreases-search
-add-i c = search rules
+add-i c = search_lem rules
 
 search-less : tie.Need-search-smaller invariant-loop decreases-loop invariant-search decreases-search
-search-less c = search rules
+search-less c = search_lem rules
 
 search-again : tie.Need-search-preserved invariant-loop decreases-loop invariant-search decreases-search
 search-again c = (
   omega arith,
-  c.before.before.before.before.before.search.invariant.1,
-  c.before.before.before.before.before.search.invariant.2,
-  c.before.before.before.before.before.search.invariant.3
+  c.before.before.before.before.before.search_lem.invariant.1,
+  c.before.before.before.before.before.search_lem.invariant.2,
+  c.before.before.before.before.before.search_lem.invariant.3
       ∙ owner_miss _ _ _ _ c.before.before.before.before.search-test.true
       (sym (type_any _ _ _ _ _ _) ∙ sym c.before.is-type-named.ensures ∙ c.if1.false),
 )
 
 returns : tie.Need-returns invariant-loop decreases-loop invariant-search decreases-search
 returns c =
-    (λ j. located (c.before.search.invariant.1 j) (c.before.search.invariant.2 j)) ∙ sym (c.before.search.invariant.3 ∙ owner_end _ _ _ _ c.search-test.false)
+    (λ j. located (c.before.search_lem.invariant.1 j) (c.before.search_lem.invariant.2 j)) ∙ sym (c.before.search_lem.invariant.3 ∙ owner_end _ _ _ _ c.search-test.false)
 
 returns-2 : tie.Need-returns-2 invariant-loop decreases-loop invariant-search decreases-search
 returns-2 c =

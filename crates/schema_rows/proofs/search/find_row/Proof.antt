@@ -8,8 +8,8 @@ use Rattle.definition.specs.Lookups.{is_row_of}
 use Rattle.schema_rows.specs.Rows.{found_from}
 use Rattle.schema_rows.proofs.Rows.{found_hit, found_miss, found_end}
 use Rattle.schema_rows.proofs.SearchLaws.{kind_hit, kind_miss}
-use Rattle.schema_rows.proofs.search.find_row.Statement.{statement}
-use Rattle.schema_rows.proofs.search.find_row.Tie as tie
+use Rattle.schema_rows.proofs.search_lem.find_row.Statement.{statement}
+use Rattle.schema_rows.proofs.search_lem.find_row.Tie as tie
 use borrow.Author.Rules.{rules}
 
 abbrev invariant-loop : tie.invariant-loop
@@ -22,22 +22,22 @@ loop-holds : tie.Need-loop-init invariant-loop decreases-loop
 loop-holds c = (omega arith, refl)
 
 mul-if1 : tie.Need-overflow-mul-if1 invariant-loop decreases-loop
-mul-if1 c = search rules
+mul-if1 c = search_lem rules
 
 mul-if1-2 : tie.Need-overflow-mul-if1-2 invariant-loop decreases-loop
-mul-if1-2 c = search rules
+mul-if1-2 c = search_lem rules
 
 shared-slice-read-if1 : tie.Need-shared-slice-read-if1 invariant-loop decreases-loop
-shared-slice-read-if1 c = search rules
+shared-slice-read-if1 c = search_lem rules
 
 returns : tie.Need-returns invariant-loop decreases-loop
 returns c = sym (c.before.before.before.loop.invariant.1 ∙ found_hit _ _ _ c.before.before.loop-test.true (kind_hit _ _ _ _ c.if1.true))
 
 add-i : tie.Need-overflow-add-i invariant-loop decreases-loop
-add-i c = search rules
+add-i c = search_lem rules
 
 loop-less : tie.Need-loop-smaller invariant-loop decreases-loop
-loop-less c = search rules
+loop-less c = search_lem rules
 
 loop-again : tie.Need-loop-preserved invariant-loop decreases-loop
 loop-again c =

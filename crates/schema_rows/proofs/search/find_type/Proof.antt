@@ -7,8 +7,8 @@ use Rattle.definition.specs.LentRows.{lent_rows, is_type_row_named}
 use Rattle.store_reader.specs.Stored.{stored_parts}
 use Rattle.schema_rows.specs.Rows.{found_from}
 use Rattle.schema_rows.proofs.Rows.{found_hit, found_miss, found_end, type_any}
-use Rattle.schema_rows.proofs.search.find_type.Statement.{statement}
-use Rattle.schema_rows.proofs.search.find_type.Tie as tie
+use Rattle.schema_rows.proofs.search_lem.find_type.Statement.{statement}
+use Rattle.schema_rows.proofs.search_lem.find_type.Tie as tie
 use borrow.Author.Rules.{rules}
 
 abbrev invariant-loop : tie.invariant-loop
@@ -23,28 +23,28 @@ loop-holds : tie.Need-loop-init invariant-loop decreases-loop
 loop-holds c = (omega arith, refl)
 
 mul-is-type-named : tie.Need-overflow-mul-is-type-named invariant-loop decreases-loop
-mul-is-type-named c = search rules
+mul-is-type-named c = search_lem rules
 
 mul-is-type-named-2 : tie.Need-overflow-mul-is-type-named-2 invariant-loop decreases-loop
-mul-is-type-named-2 c = search rules
+mul-is-type-named-2 c = search_lem rules
 
 shared-slice-read-is-type-named : tie.Need-shared-slice-read-is-type-named invariant-loop decreases-loop
-shared-slice-read-is-type-named c = search rules
+shared-slice-read-is-type-named c = search_lem rules
 
 mul-is-type-named-3 : tie.Need-overflow-mul-is-type-named-3 invariant-loop decreases-loop
-mul-is-type-named-3 c = search rules
+mul-is-type-named-3 c = search_lem rules
 
 add-is-type-named : tie.Need-overflow-add-is-type-named invariant-loop decreases-loop
-add-is-type-named c = search rules
+add-is-type-named c = search_lem rules
 
 mul-is-type-named-4 : tie.Need-overflow-mul-is-type-named-4 invariant-loop decreases-loop
-mul-is-type-named-4 c = search rules
+mul-is-type-named-4 c = search_lem rules
 
 shared-slice-read-is-type-named-2 : tie.Need-shared-slice-read-is-type-named-2 invariant-loop decreases-loop
-shared-slice-read-is-type-named-2 c = search rules
+shared-slice-read-is-type-named-2 c = search_lem rules
 
 is-type-named-requires : tie.Need-is-type-named-requires invariant-loop decreases-loop
-is-type-named-requires c κs = search rules
+is-type-named-requires c κs = search_lem rules
 
 returns : tie.Need-returns invariant-loop decreases-loop
 returns c =
@@ -53,10 +53,10 @@ returns c =
     (sym (type_any _ _ _ _ _ _) ∙ sym c.before.is-type-named.ensures ∙ c.if1.true))
 
 add-i : tie.Need-overflow-add-i invariant-loop decreases-loop
-add-i c = search rules
+add-i c = search_lem rules
 
 loop-less : tie.Need-loop-smaller invariant-loop decreases-loop
-loop-less c = search rules
+loop-less c = search_lem rules
 
 loop-again : tie.Need-loop-preserved invariant-loop decreases-loop
 loop-again c = (

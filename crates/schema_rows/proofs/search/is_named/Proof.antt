@@ -1,27 +1,27 @@
 use mathlib.Core.Path.{◌∙◌}
 use Rattle.name.proofs.Laws.{same_told}
 use borrow.Author.Rules.{rules}
-use Rattle.schema_rows.proofs.search.is_named.Statement.{statement}
-use Rattle.schema_rows.proofs.search.is_named.Tie as tie
-use Rattle.schema_rows.proofs.search.is_named.Reads as reads
-use Rattle.schema_rows.proofs.search.is_named.Lts as lts
+use Rattle.schema_rows.proofs.search_lem.is_named.Statement.{statement}
+use Rattle.schema_rows.proofs.search_lem.is_named.Tie as tie
+use Rattle.schema_rows.proofs.search_lem.is_named.Reads as reads
+use Rattle.schema_rows.proofs.search_lem.is_named.Lts as lts
 use Rattle.name.proofs.compare.Reads as compare-reads
 use Rattle.store_reader.proofs.card_name.Reads as card-name-reads
 
 card-name-requires : tie.Need-card-name-requires
-card-name-requires c κs = search rules
+card-name-requires c κs = search_lem rules
 
 compare-requires : tie.Need-compare-requires
-compare-requires c κs = search rules
+compare-requires c κs = search_lem rules
 
 enum_told : tie.Need-enum-told
-enum_told c = search rules
+enum_told c = search_lem rules
 
 enum-told-2 : tie.Need-enum-told-2
-enum-told-2 c = search rules
+enum-told-2 c = search_lem rules
 
 enum-told-3 : tie.Need-enum-told-3
-enum-told-3 c = search rules
+enum-told-3 c = search_lem rules
 
 returns : tie.Need-returns
 returns c = same_told _ _ _ _ c.before.before.compare.ensures c.enum_told.given.1 ∙ rw c.before.before.before.card-name.ensures

@@ -7,22 +7,22 @@ use Rattle.store.proofs.copying.append_cards.Tie as tie
 use borrow.Author.Rules.{rules}
 
 mul-copy-cards : tie.Need-overflow-mul-copy-cards
-mul-copy-cards c = search rules
+mul-copy-cards c = search_lem rules
 
 sub-copy-cards : tie.Need-overflow-sub-copy-cards
-sub-copy-cards c = search rules
+sub-copy-cards c = search_lem rules
 
 part-copy-cards-start : tie.Need-slice-bounds-copy-cards-start
-part-copy-cards-start c = search rules
+part-copy-cards-start c = search_lem rules
 
 part-copy-cards-end : tie.Need-slice-bounds-copy-cards-end
-part-copy-cards-end c = search rules
+part-copy-cards-end c = search_lem rules
 
 copy-cards-requires : tie.Need-copy-cards-requires
-copy-cards-requires c κs = search rules
+copy-cards-requires c κs = search_lem rules
 
 same_length : tie.Need-same-length
-same_length c = search rules
+same_length c = search_lem rules
 
 returns : tie.Need-returns
 returns c =

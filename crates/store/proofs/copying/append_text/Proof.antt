@@ -5,19 +5,19 @@ use Rattle.store.proofs.copying.append_text.Tie as tie
 use borrow.Author.Rules.{rules}
 
 sub-copy-text : tie.Need-overflow-sub-copy-text
-sub-copy-text c = search rules
+sub-copy-text c = search_lem rules
 
 part-copy-text-start : tie.Need-slice-bounds-copy-text-start
-part-copy-text-start c = search rules
+part-copy-text-start c = search_lem rules
 
 part-copy-text-end : tie.Need-slice-bounds-copy-text-end
-part-copy-text-end c = search rules
+part-copy-text-end c = search_lem rules
 
 copy-text-requires : tie.Need-copy-text-requires
-copy-text-requires c κs = search rules
+copy-text-requires c κs = search_lem rules
 
 same_length : tie.Need-same-length
-same_length c = search rules
+same_length c = search_lem rules
 
 returns : tie.Need-returns
 returns c =

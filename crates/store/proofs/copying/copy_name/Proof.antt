@@ -5,46 +5,46 @@ use Rattle.store.proofs.copying.copy_name.Tie as tie
 use borrow.Author.Rules.{rules}
 
 add_at : tie.Need-overflow-add-at
-add_at c = search rules
+add_at c = search_lem rules
 
 mul_at : tie.Need-overflow-mul-at
-mul_at c = search rules
+mul_at c = search_lem rules
 
 shared-slice-read-at : tie.Need-shared-slice-read-at
-shared-slice-read-at c = search rules
+shared-slice-read-at c = search_lem rules
 
 add-len : tie.Need-overflow-add-len
-add-len c = search rules
+add-len c = search_lem rules
 
 mul-len : tie.Need-overflow-mul-len
-mul-len c = search rules
+mul-len c = search_lem rules
 
 shared-slice-read-len : tie.Need-shared-slice-read-len
-shared-slice-read-len c = search rules
+shared-slice-read-len c = search_lem rules
 
 moved-name-requires : tie.Need-moved-name-requires
-moved-name-requires c κs = search rules
+moved-name-requires c κs = search_lem rules
 
 add-unused : tie.Need-overflow-add-unused
-add-unused c = search rules
+add-unused c = search_lem rules
 
 mul-unused : tie.Need-overflow-mul-unused
-mul-unused c = search rules
+mul-unused c = search_lem rules
 
 slice-write-unused : tie.Need-slice-write-unused
-slice-write-unused c = search rules
+slice-write-unused c = search_lem rules
 
 add-unused-2 : tie.Need-overflow-add-unused-2
-add-unused-2 c = search rules
+add-unused-2 c = search_lem rules
 
 mul-unused-2 : tie.Need-overflow-mul-unused-2
-mul-unused-2 c = search rules
+mul-unused-2 c = search_lem rules
 
 slice-write-unused-2 : tie.Need-slice-write-unused-2
 slice-write-unused-2 c = simp length-set (omega arith)
 
 same_length : tie.Need-same-length
-same_length c = search rules
+same_length c = search_lem rules
 
 returns : tie.Need-returns
 returns c = rw c.moved-name.ensures

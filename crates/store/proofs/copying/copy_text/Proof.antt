@@ -18,16 +18,16 @@ loop-holds : tie.Need-loop-init invariant-loop decreases-loop
 loop-holds c = (omega arith, copied_none _ c.args.text.now, refl)
 
 shared-slice-read-unused : tie.Need-shared-slice-read-unused invariant-loop decreases-loop
-shared-slice-read-unused c = search rules
+shared-slice-read-unused c = search_lem rules
 
 slice-write-unused : tie.Need-slice-write-unused invariant-loop decreases-loop
-slice-write-unused c = search rules
+slice-write-unused c = search_lem rules
 
 add-copied : tie.Need-overflow-add-copied invariant-loop decreases-loop
-add-copied c = search rules
+add-copied c = search_lem rules
 
 loop-less : tie.Need-loop-smaller invariant-loop decreases-loop
-loop-less c = search rules
+loop-less c = search_lem rules
 
 loop-again : tie.Need-loop-preserved invariant-loop decreases-loop
 loop-again c = (
@@ -38,7 +38,7 @@ loop-again c = (
 )
 
 same_length : tie.Need-same-length invariant-loop decreases-loop
-same_length c = search rules
+same_length c = search_lem rules
 
 returns : tie.Need-returns invariant-loop decreases-loop
 returns c = c.before.loop.invariant.1 ∙ copied_all _ c.before.before.args.text.now c.before.loop.copied (omega arith)

@@ -9,14 +9,14 @@ unfolding moved_name
 returns c = simp (eq-eqb _ _ c.before.if1.true, eq-eqb _ _ c.if2.true)
 
 add-result : tie.Need-overflow-add-result
-add-result c = search rules
+add-result c = search_lem rules
 
 returns-2 : tie.Need-returns-2
 unfolding moved_name
 returns-2 c = simp (eq-eqb _ _ c.before.if1.true, ne_eqb _ _ c.if2.false)
 
 add-result-2 : tie.Need-overflow-add-result-2
-add-result-2 c = search rules
+add-result-2 c = search_lem rules
 
 returns-3 : tie.Need-returns-3
 unfolding moved_name

@@ -6,22 +6,22 @@ use Rattle.store.proofs.filing.file.Tie as tie
 use borrow.Author.Rules.{rules}
 
 slice-read-documents : tie.Need-slice-read-documents
-slice-read-documents c = search rules
+slice-read-documents c = search_lem rules
 
 slice-read-ignore : tie.Need-slice-read-ignore
-slice-read-ignore c = search rules
+slice-read-ignore c = search_lem rules
 
 slice-read-text-used : tie.Need-slice-read-text-used
-slice-read-text-used c = search rules
+slice-read-text-used c = search_lem rules
 
 slice-read-cards-used : tie.Need-slice-read-cards-used
-slice-read-cards-used c = search rules
+slice-read-cards-used c = search_lem rules
 
 cast-text-len : tie.Need-overflow-cast-text-len
-cast-text-len c = search rules
+cast-text-len c = search_lem rules
 
 cast-card-count : tie.Need-overflow-cast-card-count
-cast-card-count c = search rules
+cast-card-count c = search_lem rules
 
 cast-row : tie.Need-overflow-cast-row
 unfolding document_count
@@ -90,10 +90,10 @@ append-cards-requires c κs =
     )
 
 same_length : tie.Need-same-length
-same_length c = search rules
+same_length c = search_lem rules
 
 same-length-2 : tie.Need-same-length-2
-same-length-2 c = search rules
+same-length-2 c = search_lem rules
 
 returns : tie.Need-returns
 unfolding document_count ignore_word text_used_of cards_used_of

@@ -5,16 +5,16 @@ use Rattle.store.proofs.filing.file_built_in.Tie as tie
 use borrow.Author.Rules.{rules}
 
 cast-text-len : tie.Need-overflow-cast-text-len
-cast-text-len c = search rules
+cast-text-len c = search_lem rules
 
 cast-card-count : tie.Need-overflow-cast-card-count
-cast-card-count c = search rules
+cast-card-count c = search_lem rules
 
 append-text-requires : tie.Need-append-text-requires
-append-text-requires c κs = search rules
+append-text-requires c κs = search_lem rules
 
 write-front-requires : tie.Need-write-front-requires
-write-front-requires c κs = search rules
+write-front-requires c κs = search_lem rules
 
 append-cards-requires : tie.Need-append-cards-requires
 append-cards-requires c κs =
@@ -22,10 +22,10 @@ append-cards-requires c κs =
     (omega (arith, c.before.before.before.write-front.auto.0, p.cards_fit, p.words_long, p.whole), p.whole, omega arith, p.within)
 
 same_length : tie.Need-same-length
-same_length c = search rules
+same_length c = search_lem rules
 
 same-length-2 : tie.Need-same-length-2
-same-length-2 c = search rules
+same-length-2 c = search_lem rules
 
 returns : tie.Need-returns
 returns c =

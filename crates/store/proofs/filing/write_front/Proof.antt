@@ -5,7 +5,7 @@ use Rattle.store.proofs.filing.write_front.Tie as tie
 use borrow.Author.Rules.{rules}
 
 slice-write-words : tie.Need-slice-write-words
-slice-write-words c = search rules
+slice-write-words c = search_lem rules
 
 slice-write-words-2 : tie.Need-slice-write-words-2
 slice-write-words-2 c = simp length-set (omega arith)

@@ -7,14 +7,14 @@ use Rattle.store_check.proofs.counts.counts_sound.Tie as tie
 use borrow.Author.Rules.{rules}
 
 shared-slice-read-if1 : tie.Need-shared-slice-read-if1
-shared-slice-read-if1 c = search rules
+shared-slice-read-if1 c = search_lem rules
 
 returns : tie.Need-returns
 unfolding document_count
 returns c = sym (none_held _ c.if1.true)
 
 shared-slice-read-if2 : tie.Need-shared-slice-read-if2
-shared-slice-read-if2 c = search rules
+shared-slice-read-if2 c = search_lem rules
 
 cast-if2 : tie.Need-overflow-cast-if2
 cast-if2 c = omega (arith, c.shared-slice-known2.given 0)
@@ -24,14 +24,14 @@ unfolding document_count
 returns-2 c = sym (many_held _ c.before.before.if1.false c.if2.true)
 
 shared-slice-read-if3 : tie.Need-shared-slice-read-if3
-shared-slice-read-if3 c = search rules
+shared-slice-read-if3 c = search_lem rules
 
 returns-3 : tie.Need-returns-3
 unfolding document_count adopt_word
 returns-3 c = sym (adopt_high _ c.before.before.before.before.if1.false c.before.before.if2.false c.if3.true)
 
 shared-slice-read-if4 : tie.Need-shared-slice-read-if4
-shared-slice-read-if4 c = search rules
+shared-slice-read-if4 c = search_lem rules
 
 returns-4 : tie.Need-returns-4
 unfolding document_count adopt_word ignore_word
@@ -41,7 +41,7 @@ returns-4 c =
     c.before.before.if3.false c.if4.true)
 
 shared-slice-read-if5 : tie.Need-shared-slice-read-if5
-shared-slice-read-if5 c = search rules
+shared-slice-read-if5 c = search_lem rules
 
 cast-if5 : tie.Need-overflow-cast-if5
 cast-if5 c = omega (arith, c.shared-slice-known5.given 3)
@@ -55,7 +55,7 @@ returns-5 c =
     c.if5.true)
 
 shared-slice-read-result : tie.Need-shared-slice-read-result
-shared-slice-read-result c = search rules
+shared-slice-read-result c = search_lem rules
 
 cast-result : tie.Need-overflow-cast-result
 cast-result c = omega (arith, c.shared-slice-known6.given 4)

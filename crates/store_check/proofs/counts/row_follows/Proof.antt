@@ -7,13 +7,13 @@ use Rattle.store_check.proofs.counts.row_follows.Tie as tie
 use borrow.Author.Rules.{rules}
 
 add-if1 : tie.Need-overflow-add-if1
-add-if1 c = search rules
+add-if1 c = search_lem rules
 
 mul-if1 : tie.Need-overflow-mul-if1
-mul-if1 c = search rules
+mul-if1 c = search_lem rules
 
 shared-slice-read-if1 : tie.Need-shared-slice-read-if1
-shared-slice-read-if1 c = search rules
+shared-slice-read-if1 c = search_lem rules
 
 cast-if1 : tie.Need-overflow-cast-if1
 cast-if1 c = omega (arith, c.shared-slice-known.given (c.before.args.i + 0))
@@ -22,13 +22,13 @@ returns : tie.Need-returns
 returns c = sym (other_start _ _ _ _ c.if1.true)
 
 add-result : tie.Need-overflow-add-result
-add-result c = search rules
+add-result c = search_lem rules
 
 mul-result : tie.Need-overflow-mul-result
-mul-result c = search rules
+mul-result c = search_lem rules
 
 shared-slice-read-result : tie.Need-shared-slice-read-result
-shared-slice-read-result c = search rules
+shared-slice-read-result c = search_lem rules
 
 returns-2 : tie.Need-returns-2
 returns-2 c = sym (same_start _ _ _ _ c.before.if1.false)

@@ -23,19 +23,19 @@ abbrev decreases-loop : tie.decreases-loop
 decreases-loop words documents at₀ cards₀ ignored₀ row₀ at cards ignored row = documents - row
 
 shared-slice-read-documents : tie.Need-shared-slice-read-documents invariant-loop decreases-loop
-shared-slice-read-documents c = search rules
+shared-slice-read-documents c = search_lem rules
 
 cast-documents : tie.Need-overflow-cast-documents invariant-loop decreases-loop
 cast-documents c = omega (arith, c.shared-slice-known2.given 0)
 
 add-if1 : tie.Need-overflow-add-if1 invariant-loop decreases-loop
-add-if1 c = search rules
+add-if1 c = search_lem rules
 
 mul-if1 : tie.Need-overflow-mul-if1 invariant-loop decreases-loop
-mul-if1 c = search rules
+mul-if1 c = search_lem rules
 
 shared-slice-read-if1 : tie.Need-shared-slice-read-if1 invariant-loop decreases-loop
-shared-slice-read-if1 c = search rules
+shared-slice-read-if1 c = search_lem rules
 
 returns : tie.Need-returns invariant-loop decreases-loop
 unfolding document_count
@@ -46,13 +46,13 @@ unfolding document_count
 loop-holds c = (omega arith, c.before.before.before.before.requires.2, c.before.before.before.before.requires.0, omega arith, omega arith, passed_none _)
 
 mul-i : tie.Need-overflow-mul-i invariant-loop decreases-loop
-mul-i c = search rules
+mul-i c = search_lem rules
 
 add-i : tie.Need-overflow-add-i invariant-loop decreases-loop
-add-i c = search rules
+add-i c = search_lem rules
 
 row-follows-requires : tie.Need-row-follows-requires invariant-loop decreases-loop
-row-follows-requires c κs = search rules
+row-follows-requires c κs = search_lem rules
 
 returns-2 : tie.Need-returns-2 invariant-loop decreases-loop
 unfolding document_count
@@ -62,13 +62,13 @@ returns-2 c =
     (misfollows _ _ _ _ _ turn.loop-test.true (sym c.before.row-follows.ensures ∙ not-true _ c.if2.true) turn.before.loop.invariant.5)
 
 add_at : tie.Need-overflow-add-at invariant-loop decreases-loop
-add_at c = search rules
+add_at c = search_lem rules
 
 mul_at : tie.Need-overflow-mul-at invariant-loop decreases-loop
-mul_at c = search rules
+mul_at c = search_lem rules
 
 shared-slice-read-at : tie.Need-shared-slice-read-at invariant-loop decreases-loop
-shared-slice-read-at c = search rules
+shared-slice-read-at c = search_lem rules
 
 cast-at : tie.Need-overflow-cast-at invariant-loop decreases-loop
 cast-at c = omega (arith, c.shared-slice-known4.given (documents_at + document_words * c.before.before.before.before.loop.row + 1))
@@ -79,13 +79,13 @@ add-at-2 c =
     omega (arith, turn.loop.invariant, c.shared-slice-known4.given (documents_at + document_words * turn.loop.row + 1))
 
 add-cards : tie.Need-overflow-add-cards invariant-loop decreases-loop
-add-cards c = search rules
+add-cards c = search_lem rules
 
 mul-cards : tie.Need-overflow-mul-cards invariant-loop decreases-loop
-mul-cards c = search rules
+mul-cards c = search_lem rules
 
 shared-slice-read-cards : tie.Need-shared-slice-read-cards invariant-loop decreases-loop
-shared-slice-read-cards c = search rules
+shared-slice-read-cards c = search_lem rules
 
 cast-cards : tie.Need-overflow-cast-cards invariant-loop decreases-loop
 cast-cards c = omega (arith, c.shared-slice-known5.given (documents_at + document_words * c.before.before.before.before.before.loop.row + 2))
@@ -96,16 +96,16 @@ add-cards-2 c =
     omega (arith, turn.loop.invariant, c.shared-slice-known5.given (documents_at + document_words * turn.loop.row + 2))
 
 add-ignored : tie.Need-overflow-add-ignored invariant-loop decreases-loop
-add-ignored c = search rules
+add-ignored c = search_lem rules
 
 mul-ignored : tie.Need-overflow-mul-ignored invariant-loop decreases-loop
-mul-ignored c = search rules
+mul-ignored c = search_lem rules
 
 shared-slice-read-ignored : tie.Need-shared-slice-read-ignored invariant-loop decreases-loop
-shared-slice-read-ignored c = search rules
+shared-slice-read-ignored c = search_lem rules
 
 add_row : tie.Need-overflow-add-row invariant-loop decreases-loop
-add_row c = search rules
+add_row c = search_lem rules
 
 loop-less : tie.Need-loop-smaller invariant-loop decreases-loop
 loop-less c = omega arith
@@ -126,7 +126,7 @@ loop-again c =
     )
 
 sums-sound-requires : tie.Need-sums-sound-requires invariant-loop decreases-loop
-sums-sound-requires c κs = search rules
+sums-sound-requires c κs = search_lem rules
 
 returns-3 : tie.Need-returns-3 invariant-loop decreases-loop
 unfolding document_count

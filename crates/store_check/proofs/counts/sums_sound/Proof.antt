@@ -7,7 +7,7 @@ use Rattle.store_check.proofs.counts.sums_sound.Tie as tie
 use borrow.Author.Rules.{rules}
 
 shared-slice-read-if1 : tie.Need-shared-slice-read-if1
-shared-slice-read-if1 c = search rules
+shared-slice-read-if1 c = search_lem rules
 
 cast-if1 : tie.Need-overflow-cast-if1
 cast-if1 c = omega (arith, c.shared-slice-known.given 3)
@@ -17,7 +17,7 @@ unfolding sums_sound text_used_of
 returns c = simp (ne_eqb _ _ c.if1.true)
 
 shared-slice-read-if2 : tie.Need-shared-slice-read-if2
-shared-slice-read-if2 c = search rules
+shared-slice-read-if2 c = search_lem rules
 
 cast-if2 : tie.Need-overflow-cast-if2
 cast-if2 c = omega (arith, c.shared-slice-known2.given 4)
@@ -27,7 +27,7 @@ unfolding sums_sound text_used_of cards_used_of
 returns-2 c = simp (eq-eqb _ _ c.before.before.if1.false, ne_eqb _ _ c.if2.true)
 
 shared-slice-read-result : tie.Need-shared-slice-read-result
-shared-slice-read-result c = search rules
+shared-slice-read-result c = search_lem rules
 
 returns-3 : tie.Need-returns-3
 unfolding sums_sound text_used_of cards_used_of ignore_word

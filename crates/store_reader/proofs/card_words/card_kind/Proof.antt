@@ -5,7 +5,7 @@ use Rattle.store_reader.proofs.card_words.card_kind.Tie as tie
 use borrow.Author.Rules.{rules}
 
 card-word-requires : tie.Need-card-word-requires
-card-word-requires c κs = search rules
+card-word-requires c κs = search_lem rules
 
 returns : tie.Need-returns
 unfolding card_kind

@@ -7,22 +7,22 @@ use Rattle.store_reader.proofs.card_words.card_word.Tie as tie
 use borrow.Author.Rules.{rules}
 
 word-requires : tie.Need-word-requires
-word-requires c κs = search rules
+word-requires c κs = search_lem rules
 
 cast-used : tie.Need-overflow-cast-used
-cast-used c = search rules
+cast-used c = search_lem rules
 
 mul-word : tie.Need-overflow-mul-word
-mul-word c = search rules
+mul-word c = search_lem rules
 
 add-word : tie.Need-overflow-add-word
-add-word c = search rules
+add-word c = search_lem rules
 
 add-word-2 : tie.Need-overflow-add-word-2
-add-word-2 c = search rules
+add-word-2 c = search_lem rules
 
 word-requires-2 : tie.Need-word-requires-2
-word-requires-2 c κs = search rules
+word-requires-2 c κs = search_lem rules
 
 returns : tie.Need-returns
 unfolding cards_used_of

@@ -5,10 +5,10 @@ use Rattle.store_reader.proofs.card_words.cards_used.Tie as tie
 use borrow.Author.Rules.{rules}
 
 word-requires : tie.Need-word-requires
-word-requires c κs = search rules
+word-requires c κs = search_lem rules
 
 cast-result : tie.Need-overflow-cast-result
-cast-result c = search rules
+cast-result c = search_lem rules
 
 returns : tie.Need-returns
 unfolding cards_used_of

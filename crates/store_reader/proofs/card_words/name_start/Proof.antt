@@ -5,10 +5,10 @@ use Rattle.store_reader.proofs.card_words.name_start.Tie as tie
 use borrow.Author.Rules.{rules}
 
 card-word-requires : tie.Need-card-word-requires
-card-word-requires c κs = search rules
+card-word-requires c κs = search_lem rules
 
 cast-result : tie.Need-overflow-cast-result
-cast-result c = search rules
+cast-result c = search_lem rules
 
 returns : tie.Need-returns
 unfolding name_start

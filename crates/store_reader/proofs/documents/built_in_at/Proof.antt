@@ -8,7 +8,7 @@ use Rattle.store_reader.proofs.documents.built_in_at.Tie as tie
 use borrow.Author.Rules.{rules}
 
 built-in-count-requires : tie.Need-built-in-count-requires
-built-in-count-requires c κs = search rules
+built-in-count-requires c κs = search_lem rules
 
 returns : tie.Need-returns
 unfolding built_in_at

@@ -5,13 +5,13 @@ use Rattle.store_reader.proofs.documents.built_in_count.Tie as tie
 use borrow.Author.Rules.{rules}
 
 add-word : tie.Need-overflow-add-word
-add-word c = search rules
+add-word c = search_lem rules
 
 word-requires : tie.Need-word-requires
-word-requires c κs = search rules
+word-requires c κs = search_lem rules
 
 cast-result : tie.Need-overflow-cast-result
-cast-result c = search rules
+cast-result c = search_lem rules
 
 returns : tie.Need-returns
 unfolding built_in_count

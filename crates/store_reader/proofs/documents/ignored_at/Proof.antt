@@ -17,34 +17,34 @@ abbrev decreases-loop : tie.decreases-loop
 decreases-loop words n rows left₀ i₀ left i = rows - i
 
 word-requires : tie.Need-word-requires invariant-loop decreases-loop
-word-requires c κs = search rules
+word-requires c κs = search_lem rules
 
 cast-rows : tie.Need-overflow-cast-rows invariant-loop decreases-loop
-cast-rows c = search rules
+cast-rows c = search_lem rules
 
 loop-holds : tie.Need-loop-init invariant-loop decreases-loop
-loop-holds c = (search rules, ignored_start _ _)
+loop-holds c = (search_lem rules, ignored_start _ _)
 
 mul-row : tie.Need-overflow-mul-row invariant-loop decreases-loop
-mul-row c = search rules
+mul-row c = search_lem rules
 
 add_row : tie.Need-overflow-add-row invariant-loop decreases-loop
-add_row c = search rules
+add_row c = search_lem rules
 
 add-word : tie.Need-overflow-add-word invariant-loop decreases-loop
-add-word c = search rules
+add-word c = search_lem rules
 
 word-requires-2 : tie.Need-word-requires-2 invariant-loop decreases-loop
-word-requires-2 c κs = search rules
+word-requires-2 c κs = search_lem rules
 
 cast-count : tie.Need-overflow-cast-count invariant-loop decreases-loop
-cast-count c = search rules
+cast-count c = search_lem rules
 
 add-word-2 : tie.Need-overflow-add-word-2 invariant-loop decreases-loop
-add-word-2 c = search rules
+add-word-2 c = search_lem rules
 
 word-requires-3 : tie.Need-word-requires-3 invariant-loop decreases-loop
-word-requires-3 c κs = search rules
+word-requires-3 c κs = search_lem rules
 
 returns : tie.Need-returns invariant-loop decreases-loop
 unfolding document_count
@@ -56,16 +56,16 @@ returns c =
     ∙ ignored_found _ _ _ _ _ turn.before.before.word.ensures c.before.before.word2.ensures turn.loop-test.true c.before.if1.true)
 
 add-i : tie.Need-overflow-add-i invariant-loop decreases-loop
-add-i c = search rules
+add-i c = search_lem rules
 
 loop-less : tie.Need-loop-smaller invariant-loop decreases-loop
-loop-less c = search rules
+loop-less c = search_lem rules
 
 loop-again : tie.Need-loop-preserved invariant-loop decreases-loop
 unfolding document_count
 loop-again c =
     let turn = c.before.before in (
-      search rules,
+      search_lem rules,
       turn.before.loop.invariant.1
           ∙ ignored_passed _ _ _ _ _ turn.before.before.word.ensures c.before.word2.ensures turn.loop-test.true c.if1.false,
     )

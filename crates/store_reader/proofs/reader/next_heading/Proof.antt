@@ -281,7 +281,7 @@ module _ {M : Type 1} {𝓤 : Ura M} (𝓛 : Logic 𝓤) (mem : Memory → SProp
           assigns ! (of_opd ! (load ! (from ! (stop !)) (look ! 10 refl))) (from ! (stop !)) (init ! 2 refl (reader-typed i.0 i.1)) $
           use2 𝓛 (raw ((AskNext 𝓛 mem run).pre (to-next i.0)) ⊛ Params) (lends_reader 𝓛 κ κ' q q' (made n) i.0 i.1) $ split ! $
           calls_at_last ! fm (AskNext 𝓛 mem run) known_next (to-next i.0) (and_then ! (load ! (from ! (stop !)) (look ! 2 refl)) (no_more !)) (λ v.
-          use1 𝓛 (later (some (λ (y : CardReader). (Tokens 𝓛 κ κ' q q' ⊛ ‵ ((B κs).own y (v ∷ []))) ⊛ raw (Next-ensured i.0 y)))) (id⊢ 𝓤 _) $
+          use1 𝓛 (later (some (λ (y : CardReader). (Tokens 𝓛 κ κ' q q' ⊛ ‵ ((B κs).own_val y (v ∷ []))) ⊛ raw (Next-ensured i.0 y)))) (id⊢ 𝓤 _) $
           await ! tt $ pick ! (λ y.
           split ! $ move ! (1 ∷ []) $ use1 𝓛 (raw (fact 𝓤 (NextSays κs (made i.0) y))) (next-said i.0 y) $
           heard ! (NextSays κs (made i.0) y) (λ m. split ! $ move ! (1 ∷ []) $
@@ -317,7 +317,7 @@ module _ {M : Type 1} {𝓤 : Ura M} (𝓛 : Logic 𝓤) (mem : Memory → SProp
         calls_at ! fm (At' 𝓛 mem run) known_at_lem to_at
         (and_then ! (load ! (from ! (stop !)) (look ! 16 refl)) (and_then ! (load ! (from ! (stop !)) (look ! 14 refl))
         (and_then ! (load ! (from ! (stop !)) (look ! 12 refl)) (no_more !)))) (λ u.
-        use1 𝓛 (later (some (λ (d : CardReader). (Tokens 𝓛 κ κ' q q' ⊛ ‵ ((B κs).own d (u ∷ []))) ⊛ raw (At_ensured d)))) (id⊢ 𝓤 _) $
+        use1 𝓛 (later (some (λ (d : CardReader). (Tokens 𝓛 κ κ' q q' ⊛ ‵ ((B κs).own_val d (u ∷ []))) ⊛ raw (At_ensured d)))) (id⊢ 𝓤 _) $
         await ! tt $ pick ! (λ d.
         split ! $ move ! (1 ∷ []) $ use1 𝓛 (raw (fact 𝓤 (Made d))) (at_said d) $ heard ! (Made d) (λ m. split ! $ move ! (1 ∷ []) $
         facts ! (B κs) (Is (B κs)) (shows 𝓛 (B κs)) d (u ∷ []) (λ is.
@@ -326,7 +326,7 @@ module _ {M : Type 1} {𝓤 : Ura M} (𝓛 : Logic 𝓤) (mem : Memory → SProp
         rewrite ! 8 (λ (z : Val). ‵ (fat full_share reader-type l₅ 0 z)) (value-is d u is m.0 m.1 ∙ (λ j. T'.lowered (made (m.2 j)))) refl $
         use2 𝓛 (raw ((AskNext 𝓛 mem run).pre (to-next n)) ⊛ Params) (lends_reader 𝓛 κ κ' q q' (made n) n ok) $ split ! $
         calls_at ! fm (AskNext 𝓛 mem run) known_next (to-next n) (and_then ! (load ! (from ! (stop !)) (look ! 8 refl)) (no_more !)) (λ v.
-        use1 𝓛 (later (some (λ (y : CardReader). (Tokens 𝓛 κ κ' q q' ⊛ ‵ ((B κs).own y (v ∷ []))) ⊛ raw (Next-ensured n y)))) (id⊢ 𝓤 _) $
+        use1 𝓛 (later (some (λ (y : CardReader). (Tokens 𝓛 κ κ' q q' ⊛ ‵ ((B κs).own_val y (v ∷ []))) ⊛ raw (Next-ensured n y)))) (id⊢ 𝓤 _) $
         await ! tt $ pick ! (λ y.
         split ! $ move ! (1 ∷ []) $ use1 𝓛 (raw (fact 𝓤 (NextSays κs (made n) y))) (next-said n y) $
         heard ! (NextSays κs (made n) y) (λ m'. split ! $ move ! (1 ∷ []) $

@@ -17,49 +17,49 @@ abbrev decreases-loop : tie.decreases-loop
 decreases-loop bytes words₀ n₀ i₀ words n i = length bytes - i
 
 loop-holds : tie.Need-loop-init invariant-loop decreases-loop
-loop-holds c = (search rules, search rules, search rules, left_all _ _ _)
+loop-holds c = (search_lem rules, search_lem rules, search_lem rules, left_all _ _ _)
 
 sub-loop : tie.Need-overflow-sub-loop invariant-loop decreases-loop
-sub-loop c = search rules
+sub-loop c = search_lem rules
 
 shared-slice-read-little-endian : tie.Need-shared-slice-read-little-endian invariant-loop decreases-loop
-shared-slice-read-little-endian c = search rules
+shared-slice-read-little-endian c = search_lem rules
 
 add-little-endian : tie.Need-overflow-add-little-endian invariant-loop decreases-loop
-add-little-endian c = search rules
+add-little-endian c = search_lem rules
 
 shared-slice-read-little-endian-2 : tie.Need-shared-slice-read-little-endian-2 invariant-loop decreases-loop
-shared-slice-read-little-endian-2 c = search rules
+shared-slice-read-little-endian-2 c = search_lem rules
 
 add-little-endian-2 : tie.Need-overflow-add-little-endian-2 invariant-loop decreases-loop
-add-little-endian-2 c = search rules
+add-little-endian-2 c = search_lem rules
 
 shared-slice-read-little-endian-3 : tie.Need-shared-slice-read-little-endian-3 invariant-loop decreases-loop
-shared-slice-read-little-endian-3 c = search rules
+shared-slice-read-little-endian-3 c = search_lem rules
 
 add-little-endian-3 : tie.Need-overflow-add-little-endian-3 invariant-loop decreases-loop
-add-little-endian-3 c = search rules
+add-little-endian-3 c = search_lem rules
 
 shared-slice-read-little-endian-4 : tie.Need-shared-slice-read-little-endian-4 invariant-loop decreases-loop
-shared-slice-read-little-endian-4 c = search rules
+shared-slice-read-little-endian-4 c = search_lem rules
 
 little-endian-requires : tie.Need-little-endian-requires invariant-loop decreases-loop
-little-endian-requires c κs = search rules
+little-endian-requires c κs = search_lem rules
 
 mul_words : tie.Need-overflow-mul-words invariant-loop decreases-loop
-mul_words c = search rules
+mul_words c = search_lem rules
 
 slice-write-words : tie.Need-slice-write-words invariant-loop decreases-loop
-slice-write-words c = search rules
+slice-write-words c = search_lem rules
 
 add-n : tie.Need-overflow-add-n invariant-loop decreases-loop
-add-n c = search rules
+add-n c = search_lem rules
 
 add-i : tie.Need-overflow-add-i invariant-loop decreases-loop
-add-i c = search rules
+add-i c = search_lem rules
 
 loop-less : tie.Need-loop-smaller invariant-loop decreases-loop
-loop-less c = search rules
+loop-less c = search_lem rules
 
 loop-again : tie.Need-loop-preserved invariant-loop decreases-loop
 loop-again c =
@@ -73,7 +73,7 @@ loop-again c =
     )
 
 same_length : tie.Need-same-length invariant-loop decreases-loop
-same_length c = search rules
+same_length c = search_lem rules
 
 returns : tie.Need-returns invariant-loop decreases-loop
 returns c =

@@ -7,46 +7,46 @@ use Rattle.program_io.proofs.input.documents.read_both.Tie as tie
 use borrow.Author.Rules.{rules}
 
 read-file-requires : tie.Need-read-file-requires
-read-file-requires c κs = search rules
+read-file-requires c κs = search_lem rules
 
 enum-known-size : tie.Need-enum-known-size
-enum-known-size c = search rules
+enum-known-size c = search_lem rules
 
 enum_told : tie.Need-enum-told
-enum_told c = search rules
+enum_told c = search_lem rules
 
 same_length : tie.Need-same-length
-same_length c = search rules
+same_length c = search_lem rules
 
 returns : tie.Need-returns
-returns c = search rules
+returns c = search_lem rules
 
 read-file-requires-2 : tie.Need-read-file-requires-2
-read-file-requires-2 c κs = search rules
+read-file-requires-2 c κs = search_lem rules
 
 enum-known-n : tie.Need-enum-known-n
-enum-known-n c = search rules
+enum-known-n c = search_lem rules
 
 enum-told-2 : tie.Need-enum-told-2
-enum-told-2 c = search rules
+enum-told-2 c = search_lem rules
 
 same-length-2 : tie.Need-same-length-2
-same-length-2 c = search rules
+same-length-2 c = search_lem rules
 
 same-length-3 : tie.Need-same-length-3
-same-length-3 c = search rules
+same-length-3 c = search_lem rules
 
 returns-2 : tie.Need-returns-2
-returns-2 c = search rules
+returns-2 c = search_lem rules
 
 same-length-4 : tie.Need-same-length-4
-same-length-4 c = search rules
+same-length-4 c = search_lem rules
 
 same-length-5 : tie.Need-same-length-5
-same-length-5 c = search rules
+same-length-5 c = search_lem rules
 
 returns-3 : tie.Need-returns-3
-returns-3 c = search rules
+returns-3 c = search_lem rules
 
 slice-reshare-prefix-put-words : tie.Need-slice-reshare-prefix-put-words
 slice-reshare-prefix-put-words c =
@@ -68,13 +68,13 @@ put-words-requires c κs =
     omega arith
 
 same-length-6 : tie.Need-same-length-6
-same-length-6 c = search rules
+same-length-6 c = search_lem rules
 
 same-length-7 : tie.Need-same-length-7
-same-length-7 c = search rules
+same-length-7 c = search_lem rules
 
 same-length-8 : tie.Need-same-length-8
-same-length-8 c = search rules
+same-length-8 c = search_lem rules
 
 returns-4 : tie.Need-returns-4
 returns-4 c =

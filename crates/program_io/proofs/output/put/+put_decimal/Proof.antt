@@ -30,7 +30,7 @@ put-decimal-cast-put-byte : (t : ℕ) → put-decimal-lts.Need-overflow-cast-put
   put-decimal-below t,
   put-decimal.Post,
 ) (put-decimal-at t) put-decimal.Post
-put-decimal-cast-put-byte t c = search rules
+put-decimal-cast-put-byte t c = search_lem rules
 
 put-decimal-add-put-byte : (t : ℕ) → put-decimal-lts.Need-overflow-add-put-byte (
   put-byte-reads.Asked,
@@ -38,7 +38,7 @@ put-decimal-add-put-byte : (t : ℕ) → put-decimal-lts.Need-overflow-add-put-b
   put-decimal-below t,
   put-decimal.Post,
 ) (put-decimal-at t) put-decimal.Post
-put-decimal-add-put-byte t c = search rules
+put-decimal-add-put-byte t c = search_lem rules
 
 put-decimal-put-byte-requires : (t : ℕ) → put-decimal-lts.Need-put-byte-requires (
   put-byte-reads.Asked,
@@ -54,7 +54,7 @@ put-decimal-same-length : (t : ℕ) → put-decimal-lts.Need-same-length (
   put-decimal-below t,
   put-decimal.Post,
 ) (put-decimal-at t) put-decimal.Post
-put-decimal-same-length t c = search rules
+put-decimal-same-length t c = search_lem rules
 
 put-decimal-returns : (t : ℕ) → put-decimal-lts.Need-returns (
   put-byte-reads.Asked,
@@ -81,7 +81,7 @@ put-decimal-cast-put-byte-2 : (t : ℕ) → put-decimal-lts.Need-overflow-cast-p
   put-decimal-below t,
   put-decimal.Post,
 ) (put-decimal-at t) put-decimal.Post
-put-decimal-cast-put-byte-2 t c = search rules
+put-decimal-cast-put-byte-2 t c = search_lem rules
 
 put-decimal-add-put-byte-2 : (t : ℕ) → put-decimal-lts.Need-overflow-add-put-byte-2 (
   put-byte-reads.Asked,
@@ -89,7 +89,7 @@ put-decimal-add-put-byte-2 : (t : ℕ) → put-decimal-lts.Need-overflow-add-put
   put-decimal-below t,
   put-decimal.Post,
 ) (put-decimal-at t) put-decimal.Post
-put-decimal-add-put-byte-2 t c = search rules
+put-decimal-add-put-byte-2 t c = search_lem rules
 
 put-decimal-put-byte-requires-2 : (t : ℕ) → put-decimal-lts.Need-put-byte-requires-2 (
   put-byte-reads.Asked,
@@ -108,7 +108,7 @@ put-decimal-same-length-2 : (t : ℕ) → put-decimal-lts.Need-same-length-2 (
   put-decimal-below t,
   put-decimal.Post,
 ) (put-decimal-at t) put-decimal.Post
-put-decimal-same-length-2 t c = search rules
+put-decimal-same-length-2 t c = search_lem rules
 
 put-decimal-returns-2 : (t : ℕ) → put-decimal-lts.Need-returns-2 (
   put-byte-reads.Asked,

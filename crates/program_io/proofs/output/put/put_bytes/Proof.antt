@@ -14,22 +14,22 @@ abbrev decreases-loop : tie.decreases-loop
 decreases-loop bytes out₀ at i₀ out i = length bytes - i
 
 loop-holds : tie.Need-loop-init invariant-loop decreases-loop
-loop-holds c = (search rules, search rules, left_bytes _ _ _)
+loop-holds c = (search_lem rules, search_lem rules, left_bytes _ _ _)
 
 shared-slice-read-out : tie.Need-shared-slice-read-out invariant-loop decreases-loop
-shared-slice-read-out c = search rules
+shared-slice-read-out c = search_lem rules
 
 add-out : tie.Need-overflow-add-out invariant-loop decreases-loop
-add-out c = search rules
+add-out c = search_lem rules
 
 slice-write-out : tie.Need-slice-write-out invariant-loop decreases-loop
-slice-write-out c = search rules
+slice-write-out c = search_lem rules
 
 add-i : tie.Need-overflow-add-i invariant-loop decreases-loop
-add-i c = search rules
+add-i c = search_lem rules
 
 loop-less : tie.Need-loop-smaller invariant-loop decreases-loop
-loop-less c = search rules
+loop-less c = search_lem rules
 
 loop-again : tie.Need-loop-preserved invariant-loop decreases-loop
 loop-again c =
@@ -37,10 +37,10 @@ loop-again c =
     (omega arith, simp length-set a.invariant.1, left_byte _ _ _ _ _ c.before.loop-test.true (omega arith) a.invariant.2)
 
 add-result : tie.Need-overflow-add-result invariant-loop decreases-loop
-add-result c = search rules
+add-result c = search_lem rules
 
 same_length : tie.Need-same-length invariant-loop decreases-loop
-same_length c = search rules
+same_length c = search_lem rules
 
 returns : tie.Need-returns invariant-loop decreases-loop
 returns c = left_end _ _ _ _ _ c.loop-test.false c.before.loop.invariant.2

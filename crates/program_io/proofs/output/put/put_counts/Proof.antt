@@ -6,7 +6,7 @@ use Rattle.program_io.proofs.output.put.put_counts.Tie as tie
 use borrow.Author.Rules.{rules}
 
 put-bytes-requires : tie.Need-put-bytes-requires
-put-bytes-requires c κs = search rules
+put-bytes-requires c κs = search_lem rules
 
 put-decimal-requires : tie.Need-put-decimal-requires
 put-decimal-requires c κs =
@@ -48,7 +48,7 @@ put-byte-requires-2 c κs =
     omega arith
 
 same_length : tie.Need-same-length
-same_length c = search rules
+same_length c = search_lem rules
 
 returns : tie.Need-returns
 unfolding counts

@@ -7,16 +7,16 @@ use Rattle.program_io.proofs.output.put.put_errors.Tie as tie
 use borrow.Author.Rules.{rules}
 
 slice-aggregate-put-counts : tie.Need-slice-aggregate-put-counts
-slice-aggregate-put-counts c = search rules
+slice-aggregate-put-counts c = search_lem rules
 
 put-counts-requires : tie.Need-put-counts-requires
-put-counts-requires c κs = search rules
+put-counts-requires c κs = search_lem rules
 
 add-first-rows : tie.Need-overflow-add-first-rows
-add-first-rows c = search rules
+add-first-rows c = search_lem rules
 
 first-rows-requires : tie.Need-first-rows-requires
-first-rows-requires c κs = search rules
+first-rows-requires c κs = search_lem rules
 
 put-lines-requires : tie.Need-put-lines-requires
 put-lines-requires c κs =
@@ -26,7 +26,7 @@ put-lines-requires c κs =
     omega arith
 
 same_length : tie.Need-same-length
-same_length c = search rules
+same_length c = search_lem rules
 
 returns : tie.Need-returns
 unfolding errors_shown

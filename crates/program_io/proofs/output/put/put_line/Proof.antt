@@ -6,25 +6,25 @@ use Rattle.program_io.proofs.output.put.put_line.Tie as tie
 use borrow.Author.Rules.{rules}
 
 put-word-requires : tie.Need-put-word-requires
-put-word-requires c κs = search rules
+put-word-requires c κs = search_lem rules
 
 put-byte-requires : tie.Need-put-byte-requires
-put-byte-requires c κs = search rules
+put-byte-requires c κs = search_lem rules
 
 put-word-requires-2 : tie.Need-put-word-requires-2
-put-word-requires-2 c κs = search rules
+put-word-requires-2 c κs = search_lem rules
 
 put-byte-requires-2 : tie.Need-put-byte-requires-2
-put-byte-requires-2 c κs = search rules
+put-byte-requires-2 c κs = search_lem rules
 
 put-word-requires-3 : tie.Need-put-word-requires-3
-put-word-requires-3 c κs = search rules
+put-word-requires-3 c κs = search_lem rules
 
 put-byte-requires-3 : tie.Need-put-byte-requires-3
-put-byte-requires-3 c κs = search rules
+put-byte-requires-3 c κs = search_lem rules
 
 same_length : tie.Need-same-length
-same_length c = search rules
+same_length c = search_lem rules
 
 returns : tie.Need-returns
 unfolding line

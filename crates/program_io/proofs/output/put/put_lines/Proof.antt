@@ -16,43 +16,43 @@ abbrev decreases-loop : tie.decreases-loop
 decreases-loop rows out₀ at end₀ i₀ out end i = length rows - i
 
 loop-holds : tie.Need-loop-init invariant-loop decreases-loop
-loop-holds c = (search rules, search rules, omega arith, left_all _ _ _)
+loop-holds c = (search_lem rules, search_lem rules, omega arith, left_all _ _ _)
 
 sub-loop : tie.Need-overflow-sub-loop invariant-loop decreases-loop
-sub-loop c = search rules
+sub-loop c = search_lem rules
 
 mul-put-line : tie.Need-overflow-mul-put-line invariant-loop decreases-loop
-mul-put-line c = search rules
+mul-put-line c = search_lem rules
 
 shared-slice-read-put-line : tie.Need-shared-slice-read-put-line invariant-loop decreases-loop
-shared-slice-read-put-line c = search rules
+shared-slice-read-put-line c = search_lem rules
 
 add-put-line : tie.Need-overflow-add-put-line invariant-loop decreases-loop
-add-put-line c = search rules
+add-put-line c = search_lem rules
 
 mul-put-line-2 : tie.Need-overflow-mul-put-line-2 invariant-loop decreases-loop
-mul-put-line-2 c = search rules
+mul-put-line-2 c = search_lem rules
 
 shared-slice-read-put-line-2 : tie.Need-shared-slice-read-put-line-2 invariant-loop decreases-loop
-shared-slice-read-put-line-2 c = search rules
+shared-slice-read-put-line-2 c = search_lem rules
 
 add-put-line-2 : tie.Need-overflow-add-put-line-2 invariant-loop decreases-loop
-add-put-line-2 c = search rules
+add-put-line-2 c = search_lem rules
 
 mul-put-line-3 : tie.Need-overflow-mul-put-line-3 invariant-loop decreases-loop
-mul-put-line-3 c = search rules
+mul-put-line-3 c = search_lem rules
 
 shared-slice-read-put-line-3 : tie.Need-shared-slice-read-put-line-3 invariant-loop decreases-loop
-shared-slice-read-put-line-3 c = search rules
+shared-slice-read-put-line-3 c = search_lem rules
 
 put-line-requires : tie.Need-put-line-requires invariant-loop decreases-loop
-put-line-requires c κs = search rules
+put-line-requires c κs = search_lem rules
 
 add-i : tie.Need-overflow-add-i invariant-loop decreases-loop
-add-i c = search rules
+add-i c = search_lem rules
 
 loop-less : tie.Need-loop-smaller invariant-loop decreases-loop
-loop-less c = search rules
+loop-less c = search_lem rules
 
 loop-again : tie.Need-loop-preserved invariant-loop decreases-loop
 loop-again c =
@@ -62,7 +62,7 @@ loop-again c =
     (omega arith, omega arith, omega arith, left_turn (rw (lines_more rows a.i (omega arith)) at a.invariant.3) w.0)
 
 same_length : tie.Need-same-length invariant-loop decreases-loop
-same_length c = search rules
+same_length c = search_lem rules
 
 returns : tie.Need-returns invariant-loop decreases-loop
 returns c =

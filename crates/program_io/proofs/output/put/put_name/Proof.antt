@@ -6,10 +6,10 @@ use Rattle.program_io.proofs.output.put.put_name.Tie as tie
 use borrow.Author.Rules.{rules}
 
 put-bytes-requires : tie.Need-put-bytes-requires
-put-bytes-requires c κs = search rules
+put-bytes-requires c κs = search_lem rules
 
 put-bytes-requires-2 : tie.Need-put-bytes-requires-2
-put-bytes-requires-2 c κs = search rules
+put-bytes-requires-2 c κs = search_lem rules
 
 put-decimal-requires : tie.Need-put-decimal-requires
 put-decimal-requires c κs =
@@ -30,7 +30,7 @@ put-bytes-requires-3 c κs =
     omega arith
 
 same_length : tie.Need-same-length
-same_length c = search rules
+same_length c = search_lem rules
 
 returns : tie.Need-returns
 unfolding file_name

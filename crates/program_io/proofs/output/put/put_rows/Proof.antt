@@ -7,10 +7,10 @@ use Rattle.program_io.proofs.output.put.put_rows.Tie as tie
 use borrow.Author.Rules.{rules}
 
 slice-aggregate-put-bytes : tie.Need-slice-aggregate-put-bytes
-slice-aggregate-put-bytes c = search rules
+slice-aggregate-put-bytes c = search_lem rules
 
 put-bytes-requires : tie.Need-put-bytes-requires
-put-bytes-requires c κs = search rules
+put-bytes-requires c κs = search_lem rules
 
 put-decimal-requires : tie.Need-put-decimal-requires
 put-decimal-requires c κs =
@@ -28,7 +28,7 @@ put-byte-requires c κs =
     omega arith
 
 first-rows-requires : tie.Need-first-rows-requires
-first-rows-requires c κs = search rules
+first-rows-requires c κs = search_lem rules
 
 put-lines-requires : tie.Need-put-lines-requires
 put-lines-requires c κs =
@@ -45,7 +45,7 @@ put-lines-requires c κs =
     omega arith
 
 same_length : tie.Need-same-length
-same_length c = search rules
+same_length c = search_lem rules
 
 returns : tie.Need-returns
 unfolding rows_shown

@@ -5,10 +5,10 @@ use Rattle.program_io.proofs.output.put.put_word.Tie as tie
 use borrow.Author.Rules.{rules}
 
 put-byte-requires : tie.Need-put-byte-requires
-put-byte-requires c κs = search rules
+put-byte-requires c κs = search_lem rules
 
 same_length : tie.Need-same-length
-same_length c = search rules
+same_length c = search_lem rules
 
 returns : tie.Need-returns
 returns c =
@@ -19,7 +19,7 @@ put-decimal-requires : tie.Need-put-decimal-requires
 put-decimal-requires c κs = let b = decimal_32 c.before.before.before.args.w c.before.before.before.ranges.w.fits in omega arith
 
 same-length-2 : tie.Need-same-length-2
-same-length-2 c = search rules
+same-length-2 c = search_lem rules
 
 returns-2 : tie.Need-returns-2
 returns-2 c =

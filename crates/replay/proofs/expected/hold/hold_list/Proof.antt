@@ -6,16 +6,16 @@ use Rattle.replay.proofs.expected.hold.hold_list.Tie as tie
 use borrow.Author.Rules.{rules}
 
 count-words-requires : tie.Need-count-words-requires
-count-words-requires c κs = search rules
+count-words-requires c κs = search_lem rules
 
 returns : tie.Need-returns
-returns c = search rules
+returns c = search_lem rules
 
 returns-2 : tie.Need-returns-2
-returns-2 c = search rules
+returns-2 c = search_lem rules
 
 word-place-requires : tie.Need-word-place-requires
-word-place-requires c κs = search rules
+word-place-requires c κs = search_lem rules
 
 slice-aggregate-are-numbers : tie.Need-slice-aggregate-are-numbers
 slice-aggregate-are-numbers c =
@@ -23,25 +23,25 @@ slice-aggregate-are-numbers c =
     sym (length-take-le (c.before.before.before.before.count-words.result - start.args.from) start.args.list.now c.before.before.if2.false)
 
 are-numbers-requires : tie.Need-are-numbers-requires
-are-numbers-requires c κs = search rules
+are-numbers-requires c κs = search_lem rules
 
 returns-3 : tie.Need-returns-3
-returns-3 c = search rules
+returns-3 c = search_lem rules
 
 list-requires : tie.Need-list-requires
-list-requires c κs = search rules
+list-requires c κs = search_lem rules
 
 slice-aggregate-same-words : tie.Need-slice-aggregate-same-words
-slice-aggregate-same-words c = search rules
+slice-aggregate-same-words c = search_lem rules
 
 same-words-requires : tie.Need-same-words-requires
-same-words-requires c κs = search rules
+same-words-requires c κs = search_lem rules
 
 returns-4 : tie.Need-returns-4
-returns-4 c = search rules
+returns-4 c = search_lem rules
 
 returns-5 : tie.Need-returns-5
-returns-5 c = search rules
+returns-5 c = search_lem rules
 
 pub hold-list-spec : {M : Type 1} → statement M
 hold-list-spec =

@@ -8,7 +8,7 @@ put-decimal-requires : tie.Need-put-decimal-requires
 put-decimal-requires c κs = let l = decimal_64 c.before.before.args.n c.before.before.ranges.n.fits in omega arith
 
 same_length : tie.Need-same-length
-same_length c = search rules
+same_length c = search_lem rules
 
 returns : tie.Need-returns
 returns c =

@@ -20,37 +20,37 @@ decreases-loop line from list at₀ i₀ at i = length list - i
 
 loop-holds : tie.Need-loop-init invariant-loop decreases-loop
 unfolding after_words
-loop-holds c = (refl, search rules, search rules, λ j h. absurd (omega arith))
+loop-holds c = (refl, search_lem rules, search_lem rules, λ j h. absurd (omega arith))
 
 word-end-requires : tie.Need-word-end-requires invariant-loop decreases-loop
-word-end-requires c κs = search rules
+word-end-requires c κs = search_lem rules
 
 sub-number-of : tie.Need-overflow-sub-number-of invariant-loop decreases-loop
-sub-number-of c = search rules
+sub-number-of c = search_lem rules
 
 part-number-of-start : tie.Need-slice-bounds-number-of-start invariant-loop decreases-loop
-part-number-of-start c = search rules
+part-number-of-start c = search_lem rules
 
 part-number-of-end : tie.Need-slice-bounds-number-of-end invariant-loop decreases-loop
-part-number-of-end c = search rules
+part-number-of-end c = search_lem rules
 
 number-of-requires : tie.Need-number-of-requires invariant-loop decreases-loop
-number-of-requires c κs = search rules
+number-of-requires c κs = search_lem rules
 
 enum-known-n : tie.Need-enum-known-n invariant-loop decreases-loop
-enum-known-n c = search rules
+enum-known-n c = search_lem rules
 
 enum_told : tie.Need-enum-told invariant-loop decreases-loop
-enum_told c = search rules
+enum_told c = search_lem rules
 
 returns : tie.Need-returns invariant-loop decreases-loop
 returns c = λ e i h. cc
 
 mul-if1 : tie.Need-overflow-mul-if1 invariant-loop decreases-loop
-mul-if1 c = search rules
+mul-if1 c = search_lem rules
 
 shared-slice-read-if1 : tie.Need-shared-slice-read-if1 invariant-loop decreases-loop
-shared-slice-read-if1 c = search rules
+shared-slice-read-if1 c = search_lem rules
 
 cast-if1 : tie.Need-overflow-cast-if1 invariant-loop decreases-loop
 cast-if1 c = record { fits = omega (arith, c.shared-slice-known3.given c.before.before.before.before.before.before.before.before.loop.i) }
@@ -59,13 +59,13 @@ returns-2 : tie.Need-returns-2 invariant-loop decreases-loop
 returns-2 c = λ e i h. cc
 
 next-word-requires : tie.Need-next-word-requires invariant-loop decreases-loop
-next-word-requires c κs = search rules
+next-word-requires c κs = search_lem rules
 
 add-i : tie.Need-overflow-add-i invariant-loop decreases-loop
-add-i c = search rules
+add-i c = search_lem rules
 
 loop-less : tie.Need-loop-smaller invariant-loop decreases-loop
-loop-less c = search rules
+loop-less c = search_lem rules
 
 loop-again : tie.Need-loop-preserved invariant-loop decreases-loop
 loop-again c =
@@ -75,8 +75,8 @@ loop-again c =
     let i = c.before.before.before.before.before.before.before.before.before.before.loop.i in (
       c.next_word.ensures.0 ∙ after_more i rest (drop at line)
           c.before.before.before.before.before.before.before.before.before.before.loop.invariant.0,
-      search rules,
-      search rules,
+      search_lem rules,
+      search_lem rules,
       below_more _ _ c.before.before.before.before.before.before.before.before.before.before.loop.invariant.3
           (ap number_of (sym (word_cut line at c.before.before.before.before.before.before.before.before.word-end.result i rest
           c.before.before.before.before.before.before.before.before.word-end.ensures.0

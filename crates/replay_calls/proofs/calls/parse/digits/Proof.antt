@@ -17,7 +17,7 @@ loop-holds : tie.Need-loop-init invariant-loop decreases-loop
 loop-holds c = refl
 
 shared-slice-read-b : tie.Need-shared-slice-read-b invariant-loop decreases-loop
-shared-slice-read-b c = search rules
+shared-slice-read-b c = search_lem rules
 
 returns : tie.Need-returns invariant-loop decreases-loop
 returns c =
@@ -37,19 +37,19 @@ returns-3 c =
     c.before.if2.false c.if3.true) ∙ c.before.before.before.before.before.loop.invariant
 
 mul-n : tie.Need-overflow-mul-n invariant-loop decreases-loop
-mul-n c = search rules
+mul-n c = search_lem rules
 
 cast-n : tie.Need-overflow-cast-n invariant-loop decreases-loop
-cast-n c = search rules
+cast-n c = search_lem rules
 
 add-n : tie.Need-overflow-add-n invariant-loop decreases-loop
-add-n c = search rules
+add-n c = search_lem rules
 
 add-i : tie.Need-overflow-add-i invariant-loop decreases-loop
-add-i c = search rules
+add-i c = search_lem rules
 
 loop-less : tie.Need-loop-smaller invariant-loop decreases-loop
-loop-less c = search rules
+loop-less c = search_lem rules
 
 loop-again : tie.Need-loop-preserved invariant-loop decreases-loop
 loop-again c =
@@ -58,7 +58,7 @@ loop-again c =
     c.before.if2.false c.if3.false ∙ c.before.before.before.before.before.loop.invariant
 
 returns-4 : tie.Need-returns-4 invariant-loop decreases-loop
-returns-4 c = sym (digit_end c.before.before.args.word.now c.before.loop.i c.before.loop.n (search rules)) ∙ c.before.loop.invariant
+returns-4 c = sym (digit_end c.before.before.args.word.now c.before.loop.i c.before.loop.n (search_lem rules)) ∙ c.before.loop.invariant
 
 pub digits-spec : {M : Type 1} → statement M
 digits-spec =

@@ -17,40 +17,40 @@ abbrev decreases-loop : tie.decreases-loop
 decreases-loop line from numbers₀ i₀ numbers i = length numbers₀ - i
 
 loop-holds : tie.Need-loop-init invariant-loop decreases-loop
-loop-holds c = (refl, search rules, λ j h. absurd (omega arith))
+loop-holds c = (refl, search_lem rules, λ j h. absurd (omega arith))
 
 add-word : tie.Need-overflow-add-word invariant-loop decreases-loop
-add-word c = search rules
+add-word c = search_lem rules
 
 word-requires : tie.Need-word-requires invariant-loop decreases-loop
-word-requires c κs = search rules
+word-requires c κs = search_lem rules
 
 number-of-requires : tie.Need-number-of-requires invariant-loop decreases-loop
-number-of-requires c κs = search rules
+number-of-requires c κs = search_lem rules
 
 enum-known-n : tie.Need-enum-known-n invariant-loop decreases-loop
-enum-known-n c = search rules
+enum-known-n c = search_lem rules
 
 enum_told : tie.Need-enum-told invariant-loop decreases-loop
-enum_told c = search rules
+enum_told c = search_lem rules
 
 same_length : tie.Need-same-length invariant-loop decreases-loop
-same_length c = search rules
+same_length c = search_lem rules
 
 returns : tie.Need-returns invariant-loop decreases-loop
 returns c = λ e i h. cc
 
 mul-numbers : tie.Need-overflow-mul-numbers invariant-loop decreases-loop
-mul-numbers c = search rules
+mul-numbers c = search_lem rules
 
 slice-write-numbers : tie.Need-slice-write-numbers invariant-loop decreases-loop
-slice-write-numbers c = search rules
+slice-write-numbers c = search_lem rules
 
 add-i : tie.Need-overflow-add-i invariant-loop decreases-loop
-add-i c = search rules
+add-i c = search_lem rules
 
 loop-less : tie.Need-loop-smaller invariant-loop decreases-loop
-loop-less c = search rules
+loop-less c = search_lem rules
 
 loop-again : tie.Need-loop-preserved invariant-loop decreases-loop
 loop-again c =
@@ -66,7 +66,7 @@ loop-again c =
     )
 
 same-length-2 : tie.Need-same-length-2 invariant-loop decreases-loop
-same-length-2 c = search rules
+same-length-2 c = search_lem rules
 
 returns-2 : tie.Need-returns-2 invariant-loop decreases-loop
 returns-2 c = λ e i h. c.before.loop.invariant.2 i (omega arith)

@@ -4,19 +4,19 @@ use Rattle.replay_calls.proofs.calls.parse.read_numbers.Tie as tie
 use borrow.Author.Rules.{rules}
 
 count-words-requires : tie.Need-count-words-requires
-count-words-requires c κs = search rules
+count-words-requires c κs = search_lem rules
 
 add-if1 : tie.Need-overflow-add-if1
-add-if1 c = search rules
+add-if1 c = search_lem rules
 
 returns : tie.Need-returns
 returns c = (λ e i h. cc, λ e. cc)
 
 read-first-numbers-requires : tie.Need-read-first-numbers-requires
-read-first-numbers-requires c κs = search rules
+read-first-numbers-requires c κs = search_lem rules
 
 same_length : tie.Need-same-length
-same_length c = search rules
+same_length c = search_lem rules
 
 returns-2 : tie.Need-returns-2
 returns-2 c = (c.before.before.read-first-numbers.ensures, λ e. let n = c.before.before.before.before.before.count-words.ensures in omega arith)

@@ -4,19 +4,19 @@ use Rattle.replay_calls.proofs.calls.parse.word.Tie as tie
 use borrow.Author.Rules.{rules}
 
 word-place-requires : tie.Need-word-place-requires
-word-place-requires c κs = search rules
+word-place-requires c κs = search_lem rules
 
 word-end-requires : tie.Need-word-end-requires
-word-end-requires c κs = search rules
+word-end-requires c κs = search_lem rules
 
 sub-result : tie.Need-overflow-sub-result
-sub-result c = search rules
+sub-result c = search_lem rules
 
 part-result-start : tie.Need-slice-bounds-result-start
-part-result-start c = search rules
+part-result-start c = search_lem rules
 
 part-result-end : tie.Need-slice-bounds-result-end
-part-result-end c = search rules
+part-result-end c = search_lem rules
 
 returns : tie.Need-returns
 returns c =

@@ -19,20 +19,20 @@ unfolding after_words
 loop-holds c = (refl, omega arith, omega arith)
 
 next-word-requires : tie.Need-next-word-requires invariant-loop decreases-loop
-next-word-requires c κs = search rules
+next-word-requires c κs = search_lem rules
 
 add-i : tie.Need-overflow-add-i invariant-loop decreases-loop
-add-i c = search rules
+add-i c = search_lem rules
 
 loop-less : tie.Need-loop-smaller invariant-loop decreases-loop
-loop-less c = search rules
+loop-less c = search_lem rules
 
 loop-again : tie.Need-loop-preserved invariant-loop decreases-loop
 loop-again c = (
   c.next_word.ensures.0 ∙ after_more c.before.before.loop.i c.before.before.before.before.args.line.now
       (drop c.before.before.loop.at c.before.before.before.before.args.line.now) c.before.before.loop.invariant.0,
-  search rules,
-  search rules,
+  search_lem rules,
+  search_lem rules,
 )
 
 returns : tie.Need-returns invariant-loop decreases-loop

@@ -14,35 +14,35 @@ abbrev decreases-loop : tie.decreases-loop
 decreases-loop from to₀ n i₀ to i = n - i
 
 least-requires : tie.Need-least-requires invariant-loop decreases-loop
-least-requires c κs = search rules
+least-requires c κs = search_lem rules
 
 loop-holds : tie.Need-loop-init invariant-loop decreases-loop
-loop-holds c = (search rules, refl, refl)
+loop-holds c = (search_lem rules, refl, refl)
 
 shared-slice-read-to : tie.Need-shared-slice-read-to invariant-loop decreases-loop
-shared-slice-read-to c = search rules
+shared-slice-read-to c = search_lem rules
 
 slice-write-to : tie.Need-slice-write-to invariant-loop decreases-loop
-slice-write-to c = search rules
+slice-write-to c = search_lem rules
 
 add-i : tie.Need-overflow-add-i invariant-loop decreases-loop
-add-i c = search rules
+add-i c = search_lem rules
 
 loop-less : tie.Need-loop-smaller invariant-loop decreases-loop
-loop-less c = search rules
+loop-less c = search_lem rules
 
 loop-again : tie.Need-loop-preserved invariant-loop decreases-loop
 loop-again c =
     let k : c.before.before.loop.i < length c.before.before.loop.to = omega arith in
     let l : c.before.before.loop.i < length c.before.before.before.before.before.before.args.from.now = omega arith in (
-      search rules,
+      search_lem rules,
       simp length-set (omega arith),
       copied_more c.before.before.loop.to c.before.before.before.before.before.before.args.from.now c.before.before.loop.i k l
           c.before.before.loop.invariant.2,
     )
 
 same_length : tie.Need-same-length invariant-loop decreases-loop
-same_length c = search rules
+same_length c = search_lem rules
 
 returns : tie.Need-returns invariant-loop decreases-loop
 returns c = λ e.

@@ -12,7 +12,7 @@ slice-aggregate-result : tie.Need-slice-aggregate-result
 slice-aggregate-result c = sym (length-take-le c.before.before.args.n c.before.before.args.words.now (omega arith))
 
 returns-2 : tie.Need-returns-2
-returns-2 c = search rules
+returns-2 c = search_lem rules
 
 pub first-words-spec : {M : Type 1} → statement M
 first-words-spec = tie.close (tie.spec returns slice-aggregate-result returns-2)

@@ -85,9 +85,9 @@ module _ {M : Type 1} {𝓤 : Ura M} (𝓛 : Logic 𝓤) (mem : Memory → SProp
       ent 𝓤 (ensured 𝓛 callee.ended (callee.clauses 𝓛 mem run) κs (d.text, (d.words, (d.card, tt))) tt r) (fact 𝓤 (Found r))
   said r = ex_e 𝓤 _ (λ ws. snd∗ 𝓤 (sem 𝓛 (lasts callee.ended κs (d.text, (d.words, (d.card, tt))) ws)) (fact 𝓤 (Found r)))
 
-  exits : (r : Bor (List ℕ)) (u : Val) → Found r → ent 𝓤 (⋆ 𝓛 (‵ (Part.own r (u ∷ [])) ∷ Tokens 𝓛 κ κ' q q' ∷ ‵ (Owned κ κ' d) ∷ [])) (Post u)
+  exits : (r : Bor (List ℕ)) (u : Val) → Found r → ent 𝓤 (⋆ 𝓛 (‵ (Part.own_val r (u ∷ [])) ∷ Tokens 𝓛 κ κ' q q' ∷ ‵ (Owned κ κ' d) ∷ [])) (Post u)
   exits r u e =
-      qed 𝓛 (‵ (Part.own r (u ∷ [])) ∷ Tokens 𝓛 κ κ' q q' ∷ ‵ (Owned κ κ' d) ∷ []) ∵
+      qed 𝓛 (‵ (Part.own_val r (u ∷ [])) ∷ Tokens 𝓛 κ κ' q q' ∷ ‵ (Owned κ κ' d) ∷ []) ∵
       suffices ! _ (ends_at 𝓛 fn.ended stayed (fn.clauses 𝓛 mem run) ((κs, (q, (q', tt)), tt, (d, tt), (mach ∷ [], tt)), tt) u r (tt, tt) (tt, tt)) $
       says ! e $
       move ! (1 ∷ 2 ∷ []) $ frame ! $ frame ! $ done !
@@ -112,7 +112,7 @@ module _ {M : Type 1} {𝓤 : Ura M} (𝓛 : Logic 𝓤) (mem : Memory → SProp
         use1 𝓛
         (later
         (some
-        (λ (r : Bor (List ℕ)). (Tokens 𝓛 κ κ' q q' ⊛ ‵ (Part.own r (u ∷ []))) ⊛ raw
+        (λ (r : Bor (List ℕ)). (Tokens 𝓛 κ κ' q q' ⊛ ‵ (Part.own_val r (u ∷ []))) ⊛ raw
         (ensured 𝓛 callee.ended (callee.clauses 𝓛 mem run) κs (d.text, (d.words, (d.card, tt))) tt r))))
         (id⊢ 𝓤 _) $ await ! tt $ pick ! (λ r.
         split ! $ move ! (1 ∷ []) $ use1 𝓛 (raw (fact 𝓤 (Found r))) (said r) $ heard ! (Found r) (λ e. split ! $ move ! (1 ∷ []) $
