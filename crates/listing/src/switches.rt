@@ -3,23 +3,24 @@ ghost use Rattle.std.specs.Prelude.{◌≡◌};
 ghost use Rattle.listing.specs.Digits.{switches_of, adopt_of, ignore_of};
 
 use program_io::input::files::{File, is_missing, read_file, tell};
+use std::rt::Files;
 
-#[derive(Drop)]
+#[derive(Clone, Copy)]
 pub struct Switches {
     pub adopt: bool,
     pub ignore: bool,
 }
 
-#[derive(Drop)]
+#[derive(Clone, Copy)]
 pub enum SwitchesFile {
     Set(Switches),
     Malformed,
 }
 
 // The switches of the folder; without the file both are off. Of a file that is malformed or can't be read it was told.
-pub fn read_switches() -> SwitchesFile {
+pub fn read_switches(rt: &(impl Files + Eprint)) -> SwitchesFile {
     let path = b"switches";
-    if is_missing(path) {
+    if is_missing(rt, path) {
         return SwitchesFile::Set(Switches {
             adopt: false,
             ignore: false,
@@ -27,12 +28,12 @@ pub fn read_switches() -> SwitchesFile {
     }
     let wrong = b" is not two digits, each 0 or 1";
     let mut buffer = [0u8; 4];
-    let File::Whole(n) = read_file(path, wrong, &mut buffer) else {
+    let File::Whole(n) = read_file(rt, path, wrong, &mut buffer) else {
         return SwitchesFile::Malformed;
     };
     let switches = switches_of(&buffer[..n]);
     if let SwitchesFile::Malformed = switches {
-        tell(path, wrong);
+        tell(rt, path, wrong);
     }
     switches
 }

@@ -1,4 +1,4 @@
--- Laws of the words of a card file, and what is known of what was read.
+-- Laws of the words of a card file.
 use mathlib.Core.Path.{◌≡◌, refl, ap, ◌∙◌}
 use mathlib.Core.List.{List, [], ◌∷◌, ◌++◌}
 use Prim.Native.Nat.{ℕ, suc, ◌+◌, ◌-◌, ◌<◌, ◌≤◌}
@@ -6,11 +6,7 @@ use native.Mathlib.Numerals.{towards_suc}
 use native.Mathlib.Omega.{arith}
 use lib.ListN.{length, get_or, drop, length-drop}
 use lib.Seq.{drop-cons}
-use Rattle.program_io.specs.Input.{Within, Lies, little_endian, words_of}
-use Rattle.program_io.specs.declared.input.documents.Document.{Document}
-use Rattle.program_io.specs.declared.input.documents.Document.TheVariants.{Read}
-use Rattle.program_io.specs.declared.input.files.File.{File}
-use Rattle.program_io.specs.declared.input.files.File.TheVariants.{Whole}
+use Rattle.program_io.specs.Input.{little_endian, words_of}
 
 -- Four bytes at a place, and where fewer are left.
 drop4 : (s : List ℕ) (i : ℕ) → i + 4 ≤ length s → drop i s ≡ get_or s i 0 ∷ get_or s (i + 1) 0 ∷ get_or s (i + 2) 0 ∷ get_or s (i + 3) 0 ∷ drop (i + 4) s
@@ -37,10 +33,3 @@ short_words (a ∷ b ∷ c ∷ d ∷ s) h = absurd (omega arith)
 
 pub words_end : (s : List ℕ) (i : ℕ) → length s - i < 4 → words_of (drop i s) ≡ []
 words_end s i h = short_words (drop i s) (simp length-drop h)
-
--- What is known of a file or a document whose case is known.
-pub within : {f : File} {n k : ℕ} → f ≡ Whole n → Within f k → n < k
-within {f} {n} {k} e w = rw e at w
-
-pub lies : {d : Document} {t c bytes words : ℕ} → d ≡ Read t c → Lies d bytes words → (t ≤ bytes) × (c ≤ words)
-lies {d} {t} {c} {bytes} {words} e w = rw e at w

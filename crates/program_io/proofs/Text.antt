@@ -3,11 +3,11 @@ use mathlib.Core.Path.{◌≡◌, refl, sym, ap, ◌∙◌}
 use mathlib.Core.Bool.{Bool, true, false}
 use mathlib.Core.List.{List, [], ◌∷◌, ◌++◌, append_assoc, append-nil}
 use Prim.Native.Nat.{ℕ, zero, suc, ◌+◌, ◌-◌, ◌*◌, ◌/◌, ◌%◌, ◌^◌, ◌<◌, ◌≤◌}
-use native.Mathlib.Nat.{add-zero, add-suc, pow-suc}
+use native.Mathlib.Nat.{pow-suc}
 use native.Mathlib.Numerals.{add-one, towards_suc}
 use native.Mathlib.Omega.{arith}
 use lib.Dec.{ltb}
-use lib.ListN.{length, get_or, take, drop, set, length-append, length-take, length-drop, drop_of_length-le}
+use lib.ListN.{length, get_or, take, drop, set, length-append, length-take, length-drop}
 use lib.Seq.{drop-cons, take-suc-set}
 use borrow.Author.Tests.{lt-ltb, le-ltb, ltb-true, ltb-false, eq-eqb, ne_eqb}
 use Rattle.definition.specs.Answers.{absent}
@@ -31,9 +31,6 @@ then {a} {p} {xs} {b} {q} {ys} {c} {r} h k = record {
 pub record Left (old : List ℕ) (at : ℕ) (all : List ℕ) (now : List ℕ) (end : ℕ) (rest : List ℕ) : Type 0 where
   pub place : end + length rest ≡ at + length all
   pub text : take end now ++ rest ≡ take at old ++ all
-
-pub left_all : (l : List ℕ) (at : ℕ) (all : List ℕ) → Left l at all l at all
-left_all l at all = record { place = refl; text = refl }
 
 pub left_turn : {l : List ℕ} {at : ℕ} {all b : List ℕ} {q : ℕ} {xs rest c : List ℕ} {r : ℕ}
     → Left l at all b q (xs ++ rest) → Put b q xs c r → Left l at all c r rest
@@ -117,20 +114,6 @@ short_lines (a ∷ b ∷ c ∷ s) h = absurd (omega arith)
 pub lines_end : (s : List ℕ) (i : ℕ) → length s - i < 3 → lines (drop i s) ≡ []
 lines_end s i h = short_lines (drop i s) (simp length-drop h)
 
--- One byte of a list that is copied.
-pub left_byte : (l : List ℕ) (at : ℕ) (all out : List ℕ) (i : ℕ) → i < length all → at + i < length out
-    → Left l at all out (at + i) (drop i all) → Left l at all (set out (at + i) (get_or all i 0)) (at + (i + 1)) (drop (i + 1) all)
-left_byte l at all out i h k e =
-    let f : Left l at all out (at + i) ((get_or all i 0 ∷ []) ++ drop (suc i) all) = rw (drop-cons all i 0 h) at e in
-    let g : Left l at all (set out (at + i) (get_or all i 0)) (at + i + 1) (drop (suc i) all) = left_turn f (put_one out (at + i) (get_or all i 0) k) in
-    rw (add-one i, add-suc) (rw (add-one (at + i)) at g)
-
-pub left_bytes : (l : List ℕ) (at : ℕ) (all : List ℕ) → Left l at all l (at + 0) (drop 0 all)
-left_bytes l at all = rw add-zero (left_all l at all)
-
-pub left_end : (l : List ℕ) (at : ℕ) (all out : List ℕ) (i : ℕ) → length all ≤ i → Left l at all out (at + i) (drop i all) → Put l at all out (at + i)
-left_end l at all out i h e = left_none (rw (drop_of_length-le all {i = i} h) at e)
-
 pub part_short : (n : ℕ) (l r : List ℕ) → r ≡ take n l → length r ≤ length l
 part_short n l r e = rw (e, length-take) (omega arith)
 
@@ -142,14 +125,3 @@ pub listing_built : (d : Drawing) (rows errors : List ℕ) → d.number ≡ 0
     → listing d rows errors ≡ rows_shown d.rows rows ++ errors_shown d.reading_errors d.drawing_errors errors
 unfolding listing
 listing_built d rows errors h = rw (eq-eqb d.number 0 h)
-
--- What was put from the front on lies in the buffer.
-pub put_within : {a xs b : List ℕ} {r : ℕ} → Put a 0 xs b r → r ≤ length b
-put_within {a} {xs} {b} {r} h =
-    let e = ap length h.text in
-    let f = length-take r b in
-    let p = h.place in
-    omega arith
-
-pub take_within : (n k : ℕ) (l : List ℕ) → n ≤ k → length (take n l) ≤ k
-take_within n k l h = rw length-take (omega arith)

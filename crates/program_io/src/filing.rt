@@ -5,9 +5,10 @@ ghost use Rattle.program_io.specs.Input.{folder_capacity};
 use crate::input::buffers;
 use crate::input::documents::{Document, read_document};
 use definition::Answer;
+use std::rt::Files;
 
 // What came of a document: the answer of the call that files it, or why there was no call.
-#[derive(Drop)]
+#[derive(Clone, Copy)]
 pub enum Filed {
     Answered(Answer),
     // One of its two files is missing.
@@ -20,6 +21,7 @@ pub enum Filed {
 
 // Files document n of a folder, whose path is empty or ends with a slash: it opens the store, or is added to it.
 pub fn file_document(
+    rt: &(impl Files + Eprint),
     opens: bool,
     folder: &[u8],
     n: usize,
@@ -31,7 +33,7 @@ pub fn file_document(
     let mut lent = buffers::file_bytes();
     let mut bytes = buffers::file_bytes();
     let mut cards = buffers::card_words();
-    match read_document(folder, n, &mut lent, &mut bytes, &mut cards) {
+    match read_document(rt, folder, n, &mut lent, &mut bytes, &mut cards) {
         Document::Read {
             text: size,
             cards: count,

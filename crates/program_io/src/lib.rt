@@ -1,3 +1,5 @@
+#![tactic(auto)]
+
 pub mod filing;
 pub mod input;
 pub mod output;

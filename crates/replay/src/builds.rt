@@ -11,9 +11,11 @@ use replay_calls::calls::parse::read_numbers;
 use replay_calls::steps::buffers;
 use replay_calls::steps::slices::{copy_words, same_words};
 use replay_calls::steps::step::{Lent, Step, Verdict, asked, blamed};
+use std::rt::Files;
 
 // `build R E N K`
 pub fn run_build(
+    rt: &(impl Files + Eprint),
     folder: &[u8],
     line: &[u8],
     lent: Lent,
@@ -41,11 +43,11 @@ pub fn run_build(
         number: given[2],
         k: given[3],
     };
-    hold_build(folder, expected, lent, text, words, rows)
+    hold_build(rt, folder, expected, lent, text, words, rows)
 }
 
 // The numbers of the line: how many words of rows and errors are lent, the number of the answer, and of the listing.
-#[derive(Drop)]
+#[derive(Clone, Copy)]
 struct Expected {
     r: usize,
     e: usize,
@@ -54,6 +56,7 @@ struct Expected {
 }
 
 fn hold_build(
+    rt: &(impl Files + Eprint),
     folder: &[u8],
     expected: Expected,
     lent: Lent,
@@ -70,7 +73,15 @@ fn hold_build(
     let mut old_rows = buffers::rows();
     copy_words(rows, &mut old_rows);
     let drawing = draw(text, words, rows, expected.r, &mut errors, expected.e);
-    let verdict = hold_drawing(folder, drawing, expected.number, expected.k, rows, &errors);
+    let verdict = hold_drawing(
+        rt,
+        folder,
+        drawing,
+        expected.number,
+        expected.k,
+        rows,
+        &errors,
+    );
     asked(
         lend_built(lent, drawing),
         hold_rest(verdict, drawing, rows, &old_rows, &errors),

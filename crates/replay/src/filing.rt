@@ -12,9 +12,11 @@ use replay_calls::steps::command::{Filing, Switch};
 use replay_calls::steps::numbers::{Pair, read_pair};
 use replay_calls::steps::slices::{copy_bytes, copy_words, first_bytes, first_words, same_words};
 use replay_calls::steps::step::{Verdict, blamed};
+use std::rt::Files;
 
 // `open D N C` and `add_ast D N C`
 pub fn run_filing(
+    rt: &(impl Files + Eprint),
     filing: Filing,
     folder: &[u8],
     line: &[u8],
@@ -32,7 +34,7 @@ pub fn run_filing(
         number: given[1],
         card: given[2],
     };
-    hold_filing(opens(filing), folder, given[0], expected, text, words)
+    hold_filing(rt, opens(filing), folder, given[0], expected, text, words)
 }
 
 fn opens(filing: Filing) -> bool {
@@ -43,13 +45,14 @@ fn opens(filing: Filing) -> bool {
 }
 
 // The answer that is expected.
-#[derive(Drop)]
+#[derive(Clone, Copy)]
 struct Answered {
     number: usize,
     card: usize,
 }
 
 fn hold_filing(
+    rt: &(impl Files + Eprint),
     opens: bool,
     folder: &[u8],
     d: usize,
@@ -63,7 +66,7 @@ fn hold_filing(
     let mut old_words = buffers::words();
     copy_bytes(text, &mut old_text);
     copy_words(words, &mut old_words);
-    let Filed::Answered(answer) = file_document(opens, folder, d, text, words) else {
+    let Filed::Answered(answer) = file_document(rt, opens, folder, d, text, words) else {
         return Verdict::NoFile;
     };
     let verdict = hold_answer(answer, expected.number, expected.card);
@@ -81,7 +84,7 @@ fn hold_store(
     words: &[u32],
     old_words: &[u32],
 ) -> Verdict {
-    if !check::same(text, first_bytes(old_text, text.len())) {
+    if text != first_bytes(old_text, text.len()) {
         return blamed(verdict);
     }
     hold_words(verdict, words, old_words)

@@ -17,8 +17,14 @@ use replay_calls::steps::change::run_change;
 use replay_calls::steps::command::{Call, Command, command_of};
 use replay_calls::steps::slices::{first_words, least};
 use replay_calls::steps::step::{Lent, Step, Verdict, asked, told, whole};
+use std::rt::Files;
 
-pub fn run_lines(case: usize, folder: &[u8], calls: &[u8]) -> Tally
+pub fn run_lines(
+    rt: &(impl Files + Print + Eprint),
+    case: usize,
+    folder: &[u8],
+    calls: &[u8],
+) -> Tally
     requires { (length folder.now ≤ folder_capacity)
         × (length calls.now ≤ calls_capacity) }
     ensures { Few calls_capacity result }
@@ -39,10 +45,11 @@ pub fn run_lines(case: usize, folder: &[u8], calls: &[u8]) -> Tally
         let end = find_byte(calls, at, b'\n');
         number += 1;
         if end == calls.len() {
-            return count_unended(case, number, &calls[at..end], tally);
+            return count_unended(rt, case, number, &calls[at..end], tally);
         }
         let line = &calls[at..end];
         let step = run_line(
+            rt,
             folder,
             line,
             lent,
@@ -53,7 +60,7 @@ pub fn run_lines(case: usize, folder: &[u8], calls: &[u8]) -> Tally
             &mut kept_words,
         );
         lent = step.lent;
-        tally = count(case, number, line, step, tally);
+        tally = count(rt, case, number, line, step, tally);
         at = end + 1;
     }
     tally
@@ -61,6 +68,7 @@ pub fn run_lines(case: usize, folder: &[u8], calls: &[u8]) -> Tally
 
 // A line: a call, or what stands between calls.
 fn run_line(
+    rt: &(impl Files + Eprint),
     folder: &[u8],
     line: &[u8],
     lent: Lent,
@@ -79,6 +87,7 @@ fn run_line(
             let t = least(lent.text, text.len());
             let w = least(lent.words, words.len());
             run_call(
+                rt,
                 call,
                 folder,
                 line,
@@ -102,6 +111,7 @@ fn run_line(
 
 // A call of a public entry, over what is lent.
 fn run_call(
+    rt: &(impl Files + Eprint),
     call: Call,
     folder: &[u8],
     line: &[u8],
@@ -115,13 +125,13 @@ fn run_call(
         × (length rows.old ≡ rows_capacity) }
 {
     match call {
-        Call::File(filing) => asked(lent, run_filing(filing, folder, line, text, words)),
+        Call::File(filing) => asked(lent, run_filing(rt, filing, folder, line, text, words)),
         Call::TurnOn(switch) => asked(lent, run_switch(switch, line, text, words)),
-        Call::Build => run_build(folder, line, lent, text, words, rows),
+        Call::Build => run_build(rt, folder, line, lent, text, words, rows),
         Call::Look(lookup) => {
             let rows = first_words(rows, lent.rows);
             asked(lent, run_lookup(lookup, line, text, words, rows))
         }
-        Call::Parse => asked(lent, run_parse(folder, line)),
+        Call::Parse => asked(lent, run_parse(rt, folder, line)),
     }
 }

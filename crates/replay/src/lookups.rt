@@ -41,7 +41,7 @@ fn run_check_rows(line: &[u8], text: &[u8], words: &[u32], rows: &[u32]) -> Verd
 }
 
 // The operation of a number, or that there is none.
-#[derive(Drop)]
+#[derive(Clone, Copy)]
 enum Operation {
     Asked(OperationType),
     Malformed,

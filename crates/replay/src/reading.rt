@@ -11,9 +11,10 @@ use replay_calls::calls::parse::read_first_numbers;
 use replay_calls::steps::buffers;
 use replay_calls::steps::slices::{first_bytes, least};
 use replay_calls::steps::step::Verdict;
+use std::rt::Files;
 
 // The numbers of the line: where the text begins and ends in its file, how many words are lent, and the answer.
-#[derive(Drop)]
+#[derive(Clone, Copy)]
 struct Expected {
     start: usize,
     end: usize,
@@ -23,7 +24,7 @@ struct Expected {
 }
 
 // `parse D A B L N C W1 W2 ..`
-pub fn run_parse(folder: &[u8], line: &[u8]) -> Verdict
+pub fn run_parse(rt: &(impl Files + Eprint), folder: &[u8], line: &[u8]) -> Verdict
     requires { (length folder.now ≤ folder_capacity)
         × (length line.now ≤ calls_capacity) }
 {
@@ -39,20 +40,20 @@ pub fn run_parse(folder: &[u8], line: &[u8]) -> Verdict
         second: given[5],
     };
     let mut bytes = buffers::file_bytes();
-    let File::Whole(size) = read_text(folder, given[0], &mut bytes) else {
+    let File::Whole(size) = read_text(rt, folder, given[0], &mut bytes) else {
         return Verdict::NoFile;
     };
     hold_part(line, expected, first_bytes(&bytes, size))
 }
 
 // The text of a document alone: its cards are not asked for.
-fn read_text(folder: &[u8], d: usize, bytes: &mut [u8]) -> File
+fn read_text(rt: &(impl Files + Eprint), folder: &[u8], d: usize, bytes: &mut [u8]) -> File
     requires { length folder.now ≤ folder_capacity }
 {
     let mut name = [0u8; PATH_CAPACITY];
     let n = put_name(folder, b"d", d, b".txt", &mut name);
     let path = first_bytes(&name, n);
-    read_file(path, b" is larger than 262144 bytes", bytes)
+    read_file(rt, path, b" is larger than 262144 bytes", bytes)
 }
 
 // Cuts the text out of its file, where it must lie.

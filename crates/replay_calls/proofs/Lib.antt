@@ -1,3 +1,2 @@
--- LineWords: a line's words and numbers. Slices: slices that are copied and compared.
+-- A line's words and numbers.
 pub mod LineWords
-pub mod Slices

@@ -1,14 +1,13 @@
 -- Laws of a line's words and numbers, one for each turn of a loop.
-use mathlib.Core.Path.{◌≡◌, refl, sym, ap, ◌∙◌, subst}
-use mathlib.Core.Bool.{Bool, true, false}
+use mathlib.Core.Path.{◌≡◌, refl, sym, ap, ◌∙◌}
 use mathlib.Core.List.{List, [], ◌∷◌}
 use Prim.Native.Nat.{ℕ, zero, suc, ◌+◌, ◌*◌, ◌-◌, ◌<◌, ◌≤◌}
 use native.Mathlib.Numerals.{add-one}
 use native.Mathlib.Omega.{arith}
-use lib.Dec.{eqb, ltb}
-use lib.ListN.{length, take, drop, get_or, set, drop_of_length-le}
-use lib.Seq.{drop-cons, drop-drop, get_or-set_same, get_or-set_other}
-use borrow.Author.Tests.{eq-eqb, ne_eqb, lt-ltb, le-ltb, ltb-true, ltb-false}
+use lib.Dec.{eqb}
+use lib.ListN.{length, take, drop, get_or, drop_of_length-le}
+use lib.Seq.{drop-cons, drop-drop}
+use borrow.Author.Tests.{eq-eqb, ne_eqb, lt-ltb, le-ltb}
 use Rattle.definition.specs.Lists.{choose}
 use Rattle.definition.specs.Answers.{absent}
 use Rattle.replay_calls.specs.LineWords.{length_before, word_length, after_words, word_of, spaces, digits_from, number_of}
@@ -109,17 +108,3 @@ unfolding number_of
 number_one [] h e = absurd (omega arith)
 number_one (b ∷ []) h e = rw (ne_eqb b 45 e)
 number_one (b ∷ c ∷ s) h e = absurd (omega arith)
-
--- What holds of each number before a place still holds when the one at the place is set.
-pub set_below : (P : ℕ → ℕ → Type 0) (l : List ℕ) (i n : ℕ) → i < length l → ((j : ℕ) → j < i → P j (get_or l j 0)) → P i n
-    → (j : ℕ) → j < i + 1 → P j (get_or (set l i n) j 0)
-set_below P l i n h below at j k = go (ltb j i) refl
-  where
-    go : (b : Bool) → ltb j i ≡ b → P j (get_or (set l i n) j 0)
-    go true e =
-        let m = ltb-true j i e in
-        subst (P j) (sym (get_or-set_other l i j n 0 (λ q. omega arith))) (below j m)
-    go false e =
-        let m = ltb-false j i e in
-        let q : i ≡ j = omega arith in
-        subst (λ (x : ℕ). P x (get_or (set l i n) x 0)) q (subst (P i) (sym (get_or-set_same l i n 0 h)) at)

@@ -1,2 +1,4 @@
+#![tactic(auto)]
+
 pub mod calls;
 pub mod steps;

@@ -5,8 +5,9 @@ ghost use Rattle.program_io.specs.Input.{folder_capacity, path_capacity, Lies, l
 
 use crate::input::files::{File, PATH_CAPACITY, is_missing, read_file};
 use crate::output::put::put_name;
+use std::rt::Files;
 
-#[derive(Drop)]
+#[derive(Clone, Copy)]
 pub enum Document {
     // Its text and its card words stand at the front of their buffers.
     Read { text: usize, cards: usize },
@@ -20,6 +21,7 @@ pub enum Document {
 
 // Document n of a folder, whose path is empty or ends with a slash, read by way of a buffer for the bytes of its cards.
 pub fn read_document(
+    rt: &(impl Files + Eprint),
     folder: &[u8],
     n: usize,
     text: &mut [u8],
@@ -36,16 +38,17 @@ pub fn read_document(
     let b = put_name(folder, b"d", n, b".crd", &mut crd_name);
     let txt = &txt_name[..a];
     let crd = &crd_name[..b];
-    if is_missing(txt) {
+    if is_missing(rt, txt) {
         return Document::Missing;
     }
-    if is_missing(crd) {
+    if is_missing(rt, crd) {
         return Document::Missing;
     }
-    read_both(txt, crd, text, bytes, cards)
+    read_both(rt, txt, crd, text, bytes, cards)
 }
 
 fn read_both(
+    rt: &(impl Files + Eprint),
     txt: &[u8],
     crd: &[u8],
     text: &mut [u8],
@@ -58,10 +61,10 @@ fn read_both(
     ensures { Lies result (length text.old) (length cards.old) }
 {
     let larger = b" is larger than 1048576 bytes";
-    let File::Whole(size) = read_file(txt, larger, text) else {
+    let File::Whole(size) = read_file(rt, txt, larger, text) else {
         return Document::Told;
     };
-    let File::Whole(n) = read_file(crd, larger, bytes) else {
+    let File::Whole(n) = read_file(rt, crd, larger, bytes) else {
         return Document::Told;
     };
     if n % 4 != 0 {

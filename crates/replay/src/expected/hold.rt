@@ -3,7 +3,7 @@ ghost use Rattle.std.specs.Prelude.{◌≡◌, ◌≤◌, length};
 ghost use Rattle.definition.specs.Refusals.{rows_capacity, errors_capacity};
 ghost use Rattle.program_io.specs.Input.{folder_capacity};
 ghost use Rattle.replay_calls.specs.LineWords.{calls_capacity};
-ghost use Rattle.definition.specs.Answers.{fieldRefusal, fieldNumber, fieldMeta, fieldCard};
+ghost use Rattle.definition.specs.Answers.{field_refusal, field_number, field_meta, field_card};
 
 use api::answers::{field_card, field_meta, field_number, field_refusal};
 use definition::build_error::ERROR_NUMBERS;
@@ -14,6 +14,7 @@ use replay_calls::calls::parse::{are_numbers, count_words, word_place};
 use replay_calls::steps::buffers;
 use replay_calls::steps::slices::{first_bytes, same_words};
 use replay_calls::steps::step::Verdict;
+use std::rt::Files;
 
 // Holds an answer against the number and the card that are expected.
 pub fn hold_answer(answer: Answer, number: usize, card: usize) -> Verdict
@@ -44,10 +45,10 @@ pub fn hold_field(
     card: usize,
 ) -> Verdict
     ensures { result ≡ Verdict.Passed →
-        (fieldRefusal answer ≡ refusal)
-        × (fieldNumber answer ≡ kind)
-        × (fieldMeta answer ≡ meta)
-        × (fieldCard answer ≡ card) }
+        (field_refusal answer ≡ refusal)
+        × (field_number answer ≡ kind)
+        × (field_meta answer ≡ meta)
+        × (field_card answer ≡ card) }
 {
     let came_refusal = field_refusal(answer) as usize;
     let came_kind = field_number(answer) as usize;
@@ -83,7 +84,7 @@ pub fn hold_name(name: &[u8], expected: &[u8]) -> Verdict {
 }
 
 fn hold_bytes(came: &[u8], expected: &[u8]) -> Verdict {
-    if check::same(came, expected) {
+    if came == expected {
         return Verdict::Passed;
     }
     Verdict::Other
@@ -113,6 +114,7 @@ pub fn hold_list(line: &[u8], from: usize, list: &[u32]) -> Verdict
 
 // Holds a drawing against the number that is expected and, where it is not refused, against a listing.
 pub fn hold_drawing(
+    rt: &(impl Files + Eprint),
     folder: &[u8],
     drawing: Drawing,
     number: usize,
@@ -136,17 +138,18 @@ pub fn hold_drawing(
     }
     let mut listing = program_io::input::buffers::output();
     let n = put_listing(drawing, rows, errors, &mut listing);
-    hold_listing(folder, k, first_bytes(&listing, n))
+    hold_listing(rt, folder, k, first_bytes(&listing, n))
 }
 
-fn hold_listing(folder: &[u8], k: usize, listing: &[u8]) -> Verdict
+fn hold_listing(rt: &(impl Files + Eprint), folder: &[u8], k: usize, listing: &[u8]) -> Verdict
     requires { length folder.now ≤ folder_capacity }
 {
     let mut name = [0u8; PATH_CAPACITY];
     let n = put_name(folder, b"listing", k, b"", &mut name);
     let mut expected = buffers::file_bytes();
     let path = first_bytes(&name, n);
-    let File::Whole(size) = read_file(path, b" is larger than 262144 bytes", &mut expected) else {
+    let File::Whole(size) = read_file(rt, path, b" is larger than 262144 bytes", &mut expected)
+    else {
         return Verdict::NoFile;
     };
     hold_bytes(listing, first_bytes(&expected, size))

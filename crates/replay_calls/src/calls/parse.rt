@@ -12,7 +12,7 @@ const MOST: usize = 100000000000000000;
 // The number that is written `-`.
 pub const DASH: usize = ABSENT as usize;
 
-#[derive(Drop)]
+#[derive(Clone, Copy)]
 pub enum Number {
     Value(usize),
     Malformed,

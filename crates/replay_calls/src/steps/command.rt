@@ -5,14 +5,14 @@ ghost use Rattle.replay_calls.specs.LineWords.{calls_capacity};
 use crate::calls::parse::{count_words, word};
 
 // The lookups that fill a slice.
-#[derive(Drop)]
+#[derive(Clone, Copy)]
 pub enum Filling {
     IterOrigins,
     Extensions,
     ImplementersMap,
 }
 
-#[derive(Drop)]
+#[derive(Clone, Copy)]
 pub enum Lookup {
     CheckRows,
     RootOperation,
@@ -22,19 +22,19 @@ pub enum Lookup {
 }
 
 // The calls that file a document, and those that turn a switch on.
-#[derive(Drop)]
+#[derive(Clone, Copy)]
 pub enum Filing {
     Open,
     AddAst,
 }
 
-#[derive(Drop)]
+#[derive(Clone, Copy)]
 pub enum Switch {
     AdoptOrphanExtensions,
     IgnoreBuiltinRedefinitions,
 }
 
-#[derive(Drop)]
+#[derive(Clone, Copy)]
 pub enum Call {
     File(Filing),
     TurnOn(Switch),
@@ -45,7 +45,7 @@ pub enum Call {
 }
 
 // The changes of what is lent.
-#[derive(Drop)]
+#[derive(Clone, Copy)]
 pub enum Change {
     Store,
     Rows,
@@ -56,7 +56,7 @@ pub enum Change {
     Restore,
 }
 
-#[derive(Drop)]
+#[derive(Clone, Copy)]
 pub enum Command {
     Call(Call),
     // The tallies of the last drawing.
@@ -74,7 +74,7 @@ fn place_of(name: &[u8], names: &[u8]) -> usize
     let n = count_words(names);
     let mut k = 0;
     while k < n {
-        if check::same(name, word(names, k)) {
+        if name == word(names, k) {
             return k;
         }
         k += 1;

@@ -4,7 +4,7 @@ ghost use Rattle.replay_calls.specs.LineWords.{calls_capacity};
 
 use crate::calls::parse::read_numbers;
 
-#[derive(Drop)]
+#[derive(Clone, Copy)]
 pub enum Pair {
     Numbers { first: usize, second: usize },
     Malformed,

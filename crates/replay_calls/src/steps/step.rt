@@ -4,7 +4,7 @@ use definition::build_error::ERROR_NUMBERS;
 use definition::layout::{TEXT_CAPACITY, WORDS_CAPACITY};
 
 // How much of the store and of the rows is lent, and the tallies of the last drawing.
-#[derive(Drop)]
+#[derive(Clone, Copy)]
 pub struct Lent {
     pub text: usize,
     pub words: usize,
@@ -27,7 +27,7 @@ pub fn whole() -> Lent {
 }
 
 // How a line went. What was expected stands in the line itself, so a failure says what came.
-#[derive(Drop)]
+#[derive(Clone, Copy)]
 pub enum Verdict {
     Passed,
     // The line is none of the calls, or has other words than it must have.
@@ -51,7 +51,7 @@ pub enum Verdict {
     Changed,
 }
 
-#[derive(Drop)]
+#[derive(Clone, Copy)]
 pub struct Step {
     pub lent: Lent,
     pub verdict: Verdict,
