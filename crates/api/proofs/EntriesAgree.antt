@@ -1,12 +1,10 @@
 -- Demand 3 of the entries: a call that an entry did is a step over the store, so the replies to a list of them are the account's.
 use mathlib.Core.Path.{◌≡◌, refl, sym, ◌∙◌, ap}
 use mathlib.Core.List.{List, [], ◌∷◌}
-use Prim.Native.Nat.{ℕ}
-use Rattle.definition.specs.declared.OperationType.{OperationType}
 use Rattle.definition.specs.Answers.{answer}
 use Rattle.definition.specs.Outcomes.{StoreOutcome}
 use Rattle.definition.specs.Calls.{Call, opening, filing, adopting, ignoring, building, checking, root_asked, field_asked, subtype_asked, origins_asked}
-use Rattle.definition.specs.Calls.{extensions_asked, implementers_asked, parsing, Reply, answered, named, Store, store, leaves, step_store, run_store}
+use Rattle.definition.specs.Calls.{extensions_asked, implementers_asked, parsing, Reply, Store, store, leaves, step_store, run_store}
 use Rattle.definition.specs.Runs.{Start, first_store, Ran}
 use Rattle.definition.proofs.Demand3.{runs_agree_lem}
 use Rattle.api.specs.Statements.{open_steps, add_ast_steps, adopt_orphan_extensions_steps, ignore_builtin_redefinitions_steps, build_steps}

@@ -13,13 +13,13 @@ use Rattle.definition.specs.declared.SubtypeLookup.{SubtypeLookup}
 use Rattle.definition.specs.declared.SubtypeLookup.TheVariants.{Subtype, NotSubtype, Refused as SubtypeRefused}
 use Rattle.definition.specs.Lists.{choose, flat_map}
 use Rattle.definition.specs.Names.{bytes_at}
-use Rattle.definition.specs.Answers.{answer, fieldRefusal, fieldNumber, fieldMeta, fieldCard, subtypeRefusal, subtypeNumber}
+use Rattle.definition.specs.Answers.{answer, field_refusal, field_number, field_meta, field_card, subtype_refusal, subtype_number}
 use Rattle.definition.specs.Refusals.{groups_capacity, origins_capacity}
 use Rattle.definition.specs.Store.{account_in, store_refusal}
 use Rattle.definition.specs.LentRows.{held, lent_rows, rows_refusal}
-use Rattle.definition.specs.Lookups.{Span, span, root_span, field_named, is_subtype, origin_list, extension_list, groups, group_words}
+use Rattle.definition.specs.Lookups.{Span, span, root_span, field_named, is_subtype_of, origin_list, extension_list, groups, group_words}
 use Rattle.definition.specs.Outcomes.{check_of, check_rows, no_root, root_bytes, part_of, root_of, root_operation, field_of_type, type_field}
-use Rattle.definition.specs.Outcomes.{subtype_answer, is_subtype_lem, unlisted, listed_in, is_short, unless_refused, origins_of, extensions_in}
+use Rattle.definition.specs.Outcomes.{subtype_answer, is_subtype, unlisted, listed_in, is_short, unless_refused, origins_of, extensions_in}
 use Rattle.definition.specs.Outcomes.{implementers_of, iter_origins, extensions, implementers_map}
 use Rattle.api.specs.LookupRefusal.{lookup_refusal}
 use Rattle.api.specs.Promised.{SameField, SameSubtype}
@@ -78,11 +78,11 @@ module _ (text words rows : List ℕ) where
   type_field_by type field = one_number (store_refusal text words) (rows_refusal (account_in text words).documents rows) _ Refused
 
   pub is_subtype_by : (general other : List ℕ) →
-      is_subtype_lem text words rows general other ≡
+      is_subtype text words rows general other ≡
       choose (eqb (lookup_refusal text words rows) 0)
-      (choose (is_subtype (held (account_in text words).documents) (lent_rows rows) general other) Subtype NotSubtype)
+      (choose (is_subtype_of (held (account_in text words).documents) (lent_rows rows) general other) Subtype NotSubtype)
       (SubtypeRefused (lookup_refusal text words rows))
-  unfolding is_subtype_lem subtype_answer lookup_refusal
+  unfolding is_subtype subtype_answer lookup_refusal
   is_subtype_by general other = one_number (store_refusal text words) (rows_refusal (account_in text words).documents rows) _ SubtypeRefused
 
   -- The lookups that fill a slice: 7 after the others.
@@ -125,7 +125,7 @@ module _ {A : Type 0} (n r : ℕ) (e : r ≡ n) (done : A) (refused : ℕ → A)
 -- ---- An answer that is the outcome has its numbers.
 
 pub finds_field : (r outcome : FieldLookup) → r ≡ outcome → (r ≡ outcome) × SameField r outcome
-finds_field r outcome e = (e, (ap fieldRefusal e, ap fieldNumber e, ap fieldMeta e, ap fieldCard e))
+finds_field r outcome e = (e, (ap field_refusal e, ap field_number e, ap field_meta e, ap field_card e))
 
 pub tells_subtype : (r outcome : SubtypeLookup) → r ≡ outcome → (r ≡ outcome) × SameSubtype r outcome
-tells_subtype r outcome e = (e, (ap subtypeRefusal e, ap subtypeNumber e))
+tells_subtype r outcome e = (e, (ap subtype_refusal e, ap subtype_number e))

@@ -1,5 +1,5 @@
 -- The outcome of `root_operation`, return by return. n is the refusal that was computed.
-use mathlib.Core.Path.{◌≡◌, refl, sym, ◌∙◌, ap}
+use mathlib.Core.Path.{◌≡◌, sym, ◌∙◌, ap}
 use mathlib.Core.List.{List, []}
 use Prim.Native.Nat.{ℕ, ◌+◌, ◌-◌}
 use native.Mathlib.Omega.{arith}
@@ -24,7 +24,7 @@ module _ (text part : Bor (List ℕ)) where
       (λ i. record { bytes = e i; part = record { at = at i; size = s.size i } }, (s.block, omega arith))
 
   module _ (words rows : List ℕ) (op : OperationType) (n : ℕ) (e : n ≡ lookup_refusal text.now words rows) where
-    pub root_refused : (n ≡ 0 → ⊥) → part.ref_ptr.0 ≡ text.ptr.0 → part.ref_ptr.1 ≡ text.ptr.1 + 0 → part.now ≡ [] →
+    pub root_refused : (n ≡ 0 → ⊥) → part.ref_ptr.0 ≡ text.ref_ptr.0 → part.ref_ptr.1 ≡ text.ref_ptr.1 + 0 → part.now ≡ [] →
         NamesRoot text.now words rows op (part_in text part) × LiesIn text part
     unfolding no_root span
     root_refused z b p f =

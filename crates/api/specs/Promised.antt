@@ -7,11 +7,11 @@ use Rattle.definition.specs.declared.Drawing.{Drawing}
 use Rattle.definition.specs.declared.OperationType.{OperationType}
 use Rattle.definition.specs.declared.FieldLookup.{FieldLookup}
 use Rattle.definition.specs.declared.SubtypeLookup.{SubtypeLookup}
-use Rattle.definition.specs.Answers.{fieldRefusal, fieldNumber, fieldMeta, fieldCard, subtypeRefusal, subtypeNumber}
+use Rattle.definition.specs.Answers.{field_refusal, field_number, field_meta, field_card, subtype_refusal, subtype_number}
 use Rattle.definition.specs.Lookups.{span}
 use Rattle.definition.specs.Outcomes.{StoreOutcome, BuildOutcome, RootName, ListOutcome, open_store, add_ast, adopt_orphan_extensions}
 use Rattle.definition.specs.Outcomes.{ignore_builtin_redefinitions, build}
-use Rattle.definition.specs.Outcomes.{check_rows, root_operation, type_field, is_subtype_lem, iter_origins, extensions, implementers_map, parse}
+use Rattle.definition.specs.Outcomes.{check_rows, root_operation, type_field, is_subtype, iter_origins, extensions, implementers_map, parse}
 
 -- ---- The calls that write the store.
 
@@ -39,11 +39,11 @@ ChecksRows text words rows r = r ≡ check_rows text words rows
 
 -- `root_operation` hands back a slice. Which part of the text it is: its bytes, where it begins, counted from the text's first byte, and its length.
 abbrev pub part_in : Bor (List ℕ) → Bor (List ℕ) → RootName
-part_in text part = record { bytes = part.now; part = span (part.ref_ptr.1 - text.ptr.1) (length part.now) }
+part_in text part = record { bytes = part.now; part = span (part.ref_ptr.1 - text.ref_ptr.1) (length part.now) }
 
 -- It lies in the text's own memory, and not before the text.
 abbrev pub LiesIn : Bor (List ℕ) → Bor (List ℕ) → Type 0
-LiesIn text part = (part.ptr.0 ≡ text.ptr.0) × (text.ptr.1 ≤ part.ptr.1)
+LiesIn text part = (part.ref_ptr.0 ≡ text.ref_ptr.0) × (text.ref_ptr.1 ≤ part.ref_ptr.1)
 
 abbrev pub NamesRoot : List ℕ → List ℕ → List ℕ → OperationType → RootName → Type 0
 NamesRoot text words rows op name = name ≡ root_operation text words rows op
@@ -52,20 +52,20 @@ NamesRoot text words rows op name = name ≡ root_operation text words rows op
 -- one answer.
 abbrev pub SameField : FieldLookup → FieldLookup → Type 0
 SameField r outcome =
-    (fieldRefusal r ≡ fieldRefusal outcome) ×
-    (fieldNumber r ≡ fieldNumber outcome) ×
-    (fieldMeta r ≡ fieldMeta outcome) ×
-    (fieldCard r ≡ fieldCard outcome)
+    (field_refusal r ≡ field_refusal outcome) ×
+    (field_number r ≡ field_number outcome) ×
+    (field_meta r ≡ field_meta outcome) ×
+    (field_card r ≡ field_card outcome)
 
 abbrev pub SameSubtype : SubtypeLookup → SubtypeLookup → Type 0
-SameSubtype r outcome = (subtypeRefusal r ≡ subtypeRefusal outcome) × (subtypeNumber r ≡ subtypeNumber outcome)
+SameSubtype r outcome = (subtype_refusal r ≡ subtype_refusal outcome) × (subtype_number r ≡ subtype_number outcome)
 
 abbrev pub FindsField : List ℕ → List ℕ → List ℕ → List ℕ → List ℕ → FieldLookup → Type 0
 FindsField text words rows type field r = (r ≡ type_field text words rows type field) × SameField r (type_field text words rows type field)
 
 abbrev pub TellsSubtype : List ℕ → List ℕ → List ℕ → List ℕ → List ℕ → SubtypeLookup → Type 0
 TellsSubtype text words rows general other r =
-    (r ≡ is_subtype_lem text words rows general other) × SameSubtype r (is_subtype_lem text words rows general other)
+    (r ≡ is_subtype text words rows general other) × SameSubtype r (is_subtype text words rows general other)
 
 -- ---- Lookups that fill a slice.
 

@@ -13,7 +13,7 @@ use Rattle.definition.specs.declared.FieldLookup.TheVariants.{Found, NoSuchType,
 use Rattle.definition.specs.declared.SubtypeLookup.{SubtypeLookup}
 use Rattle.definition.specs.declared.SubtypeLookup.TheVariants.{Subtype, NotSubtype, Refused as SubtypeRefused}
 use Rattle.definition.specs.Lists.{choose}
-use Rattle.definition.specs.Answers.{metaNumber, explicitCard, fieldRefusal, fieldNumber, fieldMeta, fieldCard, subtypeRefusal, subtypeNumber}
+use Rattle.definition.specs.Answers.{meta_number, explicit_card, field_refusal, field_number, field_meta, field_card, subtype_refusal, subtype_number}
 use Rattle.definition.specs.Outcomes.{BuildOutcome, RootName, ListOutcome}
 use Rattle.definition.specs.Calls.{Call, opening, filing, adopting, ignoring, building, checking, root_asked, field_asked, subtype_asked, origins_asked}
 use Rattle.definition.specs.Calls.{extensions_asked, implementers_asked, parsing}
@@ -35,13 +35,13 @@ field_of refusal number meta card =
 abbrev subtype_of : ℕ → ℕ → SubtypeLookup
 subtype_of refusal number = choose (eqb refusal 0) (choose (eqb number 1) Subtype NotSubtype) (SubtypeRefused refusal)
 
-found_told : (f : FieldFound) → found_of (metaNumber f) (explicitCard f) ≡ f
+found_told : (f : FieldFound) → found_of (meta_number f) (explicit_card f) ≡ f
 found_told (Explicit c) = refl
 found_told Typename = refl
 found_told Schema = refl
 found_told MetaType = refl
 
-field_told : (r : FieldLookup) → field_of (fieldRefusal r) (fieldNumber r) (fieldMeta r) (fieldCard r) ≡ r
+field_told : (r : FieldLookup) → field_of (field_refusal r) (field_number r) (field_meta r) (field_card r) ≡ r
 field_told (Found f) = ap Found (found_told f)
 field_told NoSuchType = refl
 field_told (NoSuchField c) = refl
@@ -54,7 +54,7 @@ same_field r outcome e = sym (field_told r) ∙ (λ i. field_of (e.0 i) (e.1 i) 
 abbrev Numbered : SubtypeLookup → Type 0
 Numbered r = r ≡ SubtypeRefused 0 → ⊥
 
-subtype_told : (r : SubtypeLookup) → Numbered r → subtype_of (subtypeRefusal r) (subtypeNumber r) ≡ r
+subtype_told : (r : SubtypeLookup) → Numbered r → subtype_of (subtype_refusal r) (subtype_number r) ≡ r
 subtype_told Subtype h = refl
 subtype_told NotSubtype h = refl
 subtype_told (SubtypeRefused n) h = rw (ne_eqb n 0 (λ e. h (ap SubtypeRefused e)))

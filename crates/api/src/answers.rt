@@ -1,11 +1,11 @@
 // The numbers that 01 gives to an answer, for the entries of C and for the lines of calls.
 ghost use Rattle.std.specs.Prelude.{◌≡◌};
-ghost use Rattle.definition.specs.Answers.{metaNumber, explicitCard, fieldRefusal, fieldNumber, fieldMeta, fieldCard, subtypeRefusal, subtypeNumber};
+ghost use Rattle.definition.specs.Answers.{meta_number, explicit_card, field_refusal, field_number, field_meta, field_card, subtype_refusal, subtype_number};
 
 use definition::{ABSENT, FieldFound, FieldLookup, SubtypeLookup};
 
 fn meta_number(found: FieldFound) -> u32
-    ensures { result ≡ metaNumber found }
+    ensures { result ≡ meta_number found }
 {
     match found {
         FieldFound::Explicit(_) => 0,
@@ -16,7 +16,7 @@ fn meta_number(found: FieldFound) -> u32
 }
 
 fn explicit_card(found: FieldFound) -> u32
-    ensures { result ≡ explicitCard found }
+    ensures { result ≡ explicit_card found }
 {
     match found {
         FieldFound::Explicit(card) => card,
@@ -27,7 +27,7 @@ fn explicit_card(found: FieldFound) -> u32
 }
 
 pub fn field_refusal(answer: FieldLookup) -> u32
-    ensures { result ≡ fieldRefusal answer }
+    ensures { result ≡ field_refusal answer }
 {
     match answer {
         FieldLookup::Found(_) => 0,
@@ -38,7 +38,7 @@ pub fn field_refusal(answer: FieldLookup) -> u32
 }
 
 pub fn field_number(answer: FieldLookup) -> u32
-    ensures { result ≡ fieldNumber answer }
+    ensures { result ≡ field_number answer }
 {
     match answer {
         FieldLookup::Found(_) => 1,
@@ -49,7 +49,7 @@ pub fn field_number(answer: FieldLookup) -> u32
 }
 
 pub fn field_meta(answer: FieldLookup) -> u32
-    ensures { result ≡ fieldMeta answer }
+    ensures { result ≡ field_meta answer }
 {
     match answer {
         FieldLookup::Found(found) => meta_number(found),
@@ -60,7 +60,7 @@ pub fn field_meta(answer: FieldLookup) -> u32
 }
 
 pub fn field_card(answer: FieldLookup) -> u32
-    ensures { result ≡ fieldCard answer }
+    ensures { result ≡ field_card answer }
 {
     match answer {
         FieldLookup::Found(found) => explicit_card(found),
@@ -71,7 +71,7 @@ pub fn field_card(answer: FieldLookup) -> u32
 }
 
 pub fn subtype_refusal(answer: SubtypeLookup) -> u32
-    ensures { result ≡ subtypeRefusal answer }
+    ensures { result ≡ subtype_refusal answer }
 {
     match answer {
         SubtypeLookup::Subtype => 0,
@@ -81,7 +81,7 @@ pub fn subtype_refusal(answer: SubtypeLookup) -> u32
 }
 
 pub fn subtype_number(answer: SubtypeLookup) -> u32
-    ensures { result ≡ subtypeNumber answer }
+    ensures { result ≡ subtype_number answer }
 {
     match answer {
         SubtypeLookup::Subtype => 1,

@@ -1,5 +1,7 @@
 // The public entries: SchemaBuilder's calls and the schema's lookups over a store that the caller lends. Each refuses in the fixed order and else does
 // what the crates below do; none asks anything of its caller.
+#![tactic(auto)]
+
 ghost use Rattle.api.specs.Promised.{Opens, Files, Adopts, Ignores, Builds};
 ghost use Rattle.api.specs.Promised.{ChecksRows, part_in, LiesIn, NamesRoot, FindsField, TellsSubtype, ListsOrigins, ListsExtensions, MapsImplementers};
 ghost use Rattle.api.specs.Promised.{Parses};

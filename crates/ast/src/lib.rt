@@ -1,4 +1,6 @@
 // ast/: cards and their kinds. A card is one parsed item, in `CARD_WORDS` words.
+#![tactic(auto)]
+
 ghost use Rattle.std.specs.Prelude.{◌≡◌, ◌*◌, get_or, drop};
 ghost use Rattle.definition.specs.Cards.{card_words, card_from};
 ghost use Rattle.ast.specs.Cards.{card_of};
@@ -19,7 +21,7 @@ pub const CARD_NAME_AT: usize = 3;
 pub const CARD_NAME_LEN: usize = 4;
 
 // A card's words. An item and a name are spans of the text.
-#[derive(Drop)]
+#[derive(Clone, Copy)]
 pub struct Card {
     pub kind: u32,
     pub item_at: u32,

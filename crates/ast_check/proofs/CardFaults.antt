@@ -1,6 +1,6 @@
 -- One law for each answer of each fault's test.
 use mathlib.Core.Path.{◌≡◌, refl, sym}
-use mathlib.Core.Bool.{Bool, true, false, ◌||◌, not, and_false}
+use mathlib.Core.Bool.{Bool, true, false, ◌||◌, not, and-false}
 use mathlib.Core.List.{List}
 use mathlib.Core.Option.{none, some}
 use Prim.Native.Nat.{ℕ, ◌+◌, ◌-◌, ◌<◌, ◌≤◌}
@@ -106,7 +106,7 @@ module _ (p : Place) (c : Card) where
 
   pub item_not_name : (c.kind ≡ 21 → ⊥) → (c.kind ≡ 23 → ⊥) → name_not_item p c ≡ false
   unfolding name_not_item
-  item_not_name n m = simp (ne_eqb c.kind 21 n, ne_eqb c.kind 23 m, and_false (not (is_unnamed c)))
+  item_not_name n m = simp (ne_eqb c.kind 21 n, ne_eqb c.kind 23 m, and-false (not (is_unnamed c)))
 
   pub interface_item : c.kind ≡ 21 → (eqb c.kind 21 || eqb c.kind 23) ≡ true
   interface_item e = simp e

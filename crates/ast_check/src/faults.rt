@@ -9,14 +9,14 @@ ghost use Rattle.ast_check.specs.Neighbours.{neighbour_of};
 use ast::{Card, kinds};
 
 // What may stand before a card: another card, or none.
-#[derive(Drop)]
+#[derive(Clone, Copy)]
 pub enum Neighbour {
     At(Card),
     Nothing,
 }
 
 // The heading that a part stands under, and the card before it among its siblings.
-#[derive(Drop)]
+#[derive(Clone, Copy)]
 pub struct Neighbours {
     pub heading: Neighbour,
     pub sibling: Neighbour,

@@ -1,4 +1,6 @@
 // The check of a document's cards: the lowest fault of each card among its neighbours, and the first faulty card.
+#![tactic(auto)]
+
 ghost use Rattle.std.specs.Prelude.{◌≡◌};
 ghost use Rattle.definition.specs.Cards.{faults, fault_among, cards_of, card_fault, document_fault};
 ghost use Rattle.ast.specs.Cards.{card_of};
@@ -12,7 +14,7 @@ use definition::{Answer, refusal};
 pub mod faults;
 
 // Whether cards are sound, or the refusal of the first faulty one.
-#[derive(Drop)]
+#[derive(Clone, Copy)]
 pub enum CardCheck {
     Sound,
     Faulty(Answer),
@@ -50,6 +52,7 @@ fn next_neighbours(before: Neighbours, card: Card) -> Neighbours
 }
 
 // The number of the first of a card's faults among its neighbours, 0 where it has none.
+#[tactic(auto, unfolding(definition::specs::Cards::faults, definition::specs::Cards::fault, definition::specs::Cards::fault_among))]
 fn fault_among(text: &[u8], base: usize, size: usize, near: Neighbours, card: Card) -> u32
     ensures { result ≡ fault_among (place_of text.now base size near) (card_of card) faults }
 {

@@ -1,5 +1,5 @@
 -- The rows of directive definitions by the numbers of cards are those of the definition.
-use mathlib.Core.Path.{◌≡◌, refl, sym, ap, ◌∙◌}
+use mathlib.Core.Path.{◌≡◌, refl, sym, ap, subst, ◌∙◌}
 use mathlib.Core.Bool.{Bool, true, false, ◌&&◌}
 use mathlib.Core.List.{List, [], ◌∷◌, ◌++◌, map, append_assoc}
 use mathlib.Core.Option.{Option, none, some}
@@ -53,7 +53,7 @@ unfolding is_named
 all_members gs [] = tt
 all_members gs (h ∷ hs) = (
   any_inside (is_named h.name) gs h hs (same_name_refl h.name),
-  rw (← append_assoc gs (h ∷ []) hs) (all_members (gs ++ (h ∷ [])) hs),
+  subst (λ (l : List Heading). All (λ k. any (is_named k.name) l ≡ true) hs) (append_assoc gs (h ∷ []) hs) (all_members (gs ++ (h ∷ [])) hs),
 )
 
 -- ---- The one that stands.

@@ -1,4 +1,6 @@
 // The components of a list, the first of a name staying: component.rs.
+#![tactic(auto)]
+
 ghost use Rattle.std.specs.Prelude.{◌≡◌, ◌∷◌, [], ◌+◌, ◌*◌, ◌≤◌, ◌<◌, length};
 ghost use Rattle.definition.specs.Lists.{written};
 ghost use Rattle.definition.specs.Catalogue.{row};

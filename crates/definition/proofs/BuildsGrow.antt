@@ -6,13 +6,13 @@ use mathlib.Core.Option.{some}
 use Prim.Native.Nat.{ℕ}
 use Rattle.definition.specs.Lists.{All, Prefix}
 use Rattle.definition.specs.Headings.{Document, Heading, headings}
-use Rattle.definition.specs.Catalogue.{rows, type_row}
+use Rattle.definition.specs.Catalogue.{type_row}
 use Rattle.definition.specs.Errors.{reading_errors}
 use Rattle.definition.specs.Merge.{merge}
 use Rattle.definition.specs.declared.FieldFound.TheVariants.{Explicit}
 use Rattle.definition.specs.declared.FieldLookup.TheVariants.{Found}
 use Rattle.definition.specs.LentRows.{held}
-use Rattle.definition.specs.Lookups.{Block, type_named, is_row_of, field_named, is_subtype}
+use Rattle.definition.specs.Lookups.{Block, type_named, is_row_of, field_named, is_subtype_of}
 use Rattle.definition.specs.Growth.{Brings, place_of, list_of}
 use Rattle.definition.proofs.AddedHeadings.{reading_grows, definition_stays}
 use Rattle.definition.proofs.DocumentHeadings.{Named}
@@ -63,14 +63,14 @@ module _ (a b : Bool) (ds es : List Document) where
 
     -- A subtype stays a subtype, if a definition brings it too; of a union, in any case.
     pub same_subtype : (s : List ℕ) (e : Heading) → Brings ds s e →
-        is_subtype (held ds) (merge a ds).rows n s ≡ true → is_subtype (held (ds ++ es)) (merge b (ds ++ es)).rows n s ≡ true
+        is_subtype_of (held ds) (merge a ds).rows n s ≡ true → is_subtype_of (held (ds ++ es)) (merge b (ds ++ es)).rows n s ≡ true
     unfolding merge
     same_subtype s e i y =
         let g = headings_grow ds es in
         rw g.1 (subtype_stays (held ds) (held (ds ++ es)) a b (headings ds) g.0 (headings_named ds) named_later n d h s e i y)
 
     pub same_member : (s : List ℕ) → is_row_of 7 (type_row d) ≡ false →
-        is_subtype (held ds) (merge a ds).rows n s ≡ true → is_subtype (held (ds ++ es)) (merge b (ds ++ es)).rows n s ≡ true
+        is_subtype_of (held ds) (merge a ds).rows n s ≡ true → is_subtype_of (held (ds ++ es)) (merge b (ds ++ es)).rows n s ≡ true
     unfolding merge
     same_member s i y =
         let g = headings_grow ds es in

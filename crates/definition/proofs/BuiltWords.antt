@@ -144,16 +144,16 @@ module _ (a : Account) (rows errors : List ℕ) (done : (build_of a rows errors)
         let es = c.reading_errors ++ c.drawing_errors in
         let read : error_rows (merged_into rows errors c) ≡ es = errors_into rows errors c in
         let count = built_errors a.adopt a.documents in
-        let rowsAre : lent_rows (rows_of (merged_into rows errors c)) ≡ c.rows = ap lent_rows (rows_into rows errors c) ∙ rows_back c.rows in
+        let rows_are : lent_rows (rows_of (merged_into rows errors c)) ≡ c.rows = ap lent_rows (rows_into rows errors c) ∙ rows_back c.rows in
         record {
-          row_count = rw rowsAre (omega (arith, built_rows_lem a.adopt a.documents, few));
+          row_count = rw rows_are (omega (arith, built_rows_lem a.adopt a.documents, few));
           error_count = rw read (omega (arith, count, few));
           rows_fit = length_written rows (flat_map words_of_row c.rows)
               (omega (arith, words_length c.rows, built_rows_lem a.adopt a.documents, few, rows_long));
           errors_fit = length_written errors (flat_map words_of_error es) (omega (arith, errors_length es, count, few, errors_long));
-          row_once = λ k n. rw rowsAre (built_row_once a.adopt a.documents k n);
+          row_once = λ k n. rw rows_are (built_row_once a.adopt a.documents k n);
           error_once = λ k. rw read (built_error_once a.adopt a.documents k);
-          counted = ap length (sym rowsAre);
+          counted = ap length (sym rows_are);
           tallied = ap tallies (sym read);
           total = ap length (sym read);
         }

@@ -4,8 +4,6 @@ use mathlib.Core.List.{List, [], ◌∷◌, ◌++◌, map, append_assoc, append-
 use mathlib.Core.Bool.{Bool, true, false, ◌&&◌, ◌||◌}
 use mathlib.Core.Option.{Option, none, some}
 use Prim.Native.Nat.{ℕ}
-use lib.Dec.{eqb}
-use borrow.Author.Tests.{eqb-true, eq-eqb}
 use Rattle.definition.specs.Lists.{Prefix, filter, any, find, take_until, flat_map, firsts, repeats}
 use Rattle.definition.specs.declared.NameOrder.{NameOrder}
 use Rattle.definition.specs.declared.NameOrder.TheVariants.{Before, Equal, After}

@@ -1,14 +1,14 @@
 -- A document's cards moved into the store, and back: they have the same faults in the store's text as in their own, and moving back undoes it.
 use mathlib.Core.Path.{◌≡◌, refl, sym, ◌∙◌, ap}
 use mathlib.Core.List.{List, [], ◌∷◌, map}
-use mathlib.Core.Bool.{Bool, true, false, ◌&&◌, and_false}
+use mathlib.Core.Bool.{Bool, true, false, ◌&&◌}
 use mathlib.Core.Option.{Option, none, some}
 use Prim.Native.Nat.{ℕ, zero, suc, ◌+◌, ◌-◌, ◌≤◌}
 use lib.Dec.{eqb, eqb-suc-zero}
 use lib.ListN.{length}
 use native.Mathlib.Nat.{suc-add}
 use native.Mathlib.Omega.{arith}
-use borrow.Author.Tests.{eqb-false, eqb-true, ne_eqb}
+use borrow.Author.Tests.{eqb-true}
 use Rattle.definition.specs.Lists.{choose}
 use Rattle.definition.specs.Names.{is_name, bytes_at}
 use Rattle.definition.specs.Cards.{Card, Place, is_part, is_unnamed, item_end, name_end, unknown_kind, empty_item, item_outside_text, item_before_sibling_end}

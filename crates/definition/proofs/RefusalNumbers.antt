@@ -13,7 +13,7 @@ use Rattle.definition.specs.declared.FieldFound.{FieldFound}
 use Rattle.definition.specs.declared.FieldLookup.TheVariants.{Found, NoSuchType, NoSuchField, Refused}
 use Rattle.definition.specs.declared.SubtypeLookup.TheVariants.{Subtype, NotSubtype, Refused as SubtypeRefused}
 use Rattle.definition.specs.Lists.{All, choose, found, first, all, find, or_else}
-use Rattle.definition.specs.Answers.{answer, fieldRefusal, subtypeRefusal}
+use Rattle.definition.specs.Answers.{answer, field_refusal, subtype_refusal}
 use Rattle.definition.specs.Cards.{Card, Place, Fault, is_part, fault, faults, fault_among, place_after, fault_from, card_fault, cards_of, broken_cards}
 use Rattle.definition.specs.Cards.{document_fault}
 use Rattle.definition.specs.Headings.{Document, NamedCard}
@@ -26,7 +26,7 @@ use Rattle.definition.specs.Refusals.{groups_capacity, is_barred, barred_from, e
 use Rattle.definition.specs.Refusals.{document}
 use Rattle.definition.specs.Store.{account_in, too_short, store_refusal, opened_text, opened_words, filed_text, filed_words}
 use Rattle.definition.specs.LentRows.{held, lent_rows, row_clauses, passes, rows_refusal}
-use Rattle.definition.specs.Lookups.{Block, type_named, is_part_named, meta_field, field_of, field_named, is_subtype}
+use Rattle.definition.specs.Lookups.{Block, type_named, is_part_named, meta_field, field_of, field_named, is_subtype_of}
 use Rattle.definition.specs.Outcomes.{open_store, add_ast, turned, unchanged, accepted, unbuilt, merged_into, is_short, build_of, check_of, field_of_type}
 use Rattle.definition.specs.Outcomes.{subtype_answer, parse, unlisted, listed_in, unless_refused, origins_of, extensions_in, implementers_of}
 use Rattle.definition.specs.Calls.{Call, opening, filing, adopting, ignoring, building, checking, root_asked, field_asked, subtype_asked, origins_asked}
@@ -201,34 +201,34 @@ drawing_own a rows errors = go (is_short rows_capacity rows || is_short errors_c
     go true = refl
     go false = refl
 
-field_zero : (cs : List NamedCard) (rs : List Row) (type field : List ℕ) → fieldRefusal (field_named cs rs type field) ≡ 0
+field_zero : (cs : List NamedCard) (rs : List Row) (type field : List ℕ) → field_refusal (field_named cs rs type field) ≡ 0
 unfolding field_named field_of
 field_zero cs rs type field = go (type_named cs rs type)
   where
     end : (o : Option Row) (m : Option FieldFound) (c : ℕ) →
-        fieldRefusal (found o (λ r. Found (FieldFound.Explicit r.card)) (found m (λ f. Found f) (NoSuchField c))) ≡ 0
+        field_refusal (found o (λ r. Found (FieldFound.Explicit r.card)) (found m (λ f. Found f) (NoSuchField c))) ≡ 0
     end (some r) m c = refl
     end none (some f) c = refl
     end none none c = refl
 
-    go : (o : Option Block) → fieldRefusal (found o (field_of cs rs type field) NoSuchType) ≡ 0
+    go : (o : Option Block) → field_refusal (found o (field_of cs rs type field) NoSuchType) ≡ 0
     go none = refl
     go (some b) = end (find (is_part_named cs 22 field) b.parts) (meta_field cs rs b.head.what type field) b.head.card
 
-field_own : (a : Account) (rows type field : List ℕ) → is_of_store (fieldRefusal (field_of_type a rows type field)) ≡ false
+field_own : (a : Account) (rows type field : List ℕ) → is_of_store (field_refusal (field_of_type a rows type field)) ≡ false
 unfolding field_of_type
 field_own a rows type field = go (eqb (rows_refusal a.documents rows) 0)
   where
-    go : (b : Bool) → is_of_store (fieldRefusal (choose b (field_named (held a.documents) (lent_rows rows) type field)
+    go : (b : Bool) → is_of_store (field_refusal (choose b (field_named (held a.documents) (lent_rows rows) type field)
         (Refused (rows_refusal a.documents rows)))) ≡ false
     go true = ap is_of_store (field_zero (held a.documents) (lent_rows rows) type field)
     go false = rows_number a.documents rows
 
-subtype_own : (a : Account) (rows general other : List ℕ) → is_of_store (subtypeRefusal (subtype_answer a rows general other)) ≡ false
+subtype_own : (a : Account) (rows general other : List ℕ) → is_of_store (subtype_refusal (subtype_answer a rows general other)) ≡ false
 unfolding subtype_answer
-subtype_own a rows general other = go (eqb (rows_refusal a.documents rows) 0) (is_subtype (held a.documents) (lent_rows rows) general other)
+subtype_own a rows general other = go (eqb (rows_refusal a.documents rows) 0) (is_subtype_of (held a.documents) (lent_rows rows) general other)
   where
-    go : (b c : Bool) → is_of_store (subtypeRefusal (choose b (choose c Subtype NotSubtype) (SubtypeRefused (rows_refusal a.documents rows)))) ≡ false
+    go : (b c : Bool) → is_of_store (subtype_refusal (choose b (choose c Subtype NotSubtype) (SubtypeRefused (rows_refusal a.documents rows)))) ≡ false
     go true true = refl
     go true false = refl
     go false c = rows_number a.documents rows

@@ -20,7 +20,7 @@ use Rattle.definition.specs.Refusals.{opening_refusal, text_capacity, rows_capac
 use Rattle.definition.specs.Store.{too_short, words_capacity}
 use Rattle.definition.specs.Lookups.{Group, groups}
 use Rattle.definition.specs.Outcomes.{BuildOutcome, open_store, accepted, build_of, type_field, check_rows}
-use Rattle.definition.specs.Calls.{Call, opening, filing, adopting, building, Reply, answered, built, opened_account as openedWith, step, run_account}
+use Rattle.definition.specs.Calls.{Call, opening, filing, adopting, building, Reply, answered, built, opened_account as opened_with, step, run_account}
 use Rattle.definition.specs.Calls.{account_after, run_store}
 use Rattle.definition.specs.Runs.{Accepted, Start, first_store, store_after, store_at, BuiltAt, NoneOpenedBetween}
 use Rattle.definition.specs.Growth.{Brings, list_in, list_of, Names, NamesBefore, ImplementedBy, rows_of, documents_in, cards_in, built_rows, Grown}
@@ -67,7 +67,7 @@ module _ (text words : List ℕ) (long_text : text_capacity ≤ length text) (lo
 
   -- Every reply is the account's.
   account : Account
-  account = openedWith scalar_int.text scalar_int.words
+  account = opened_with scalar_int.text scalar_int.words
 
   earlier : BuildOutcome
   earlier = build_of (account_after account (take 1 calls)) rows errors
@@ -170,7 +170,7 @@ abbrev adoptions : List Call
 adoptions = adopting ∷ filing adopters.text adopters.words ∷ building rows errors ∷ filing type_b.text type_b.words ∷ building rows errors ∷ []
 
 opened : Account
-opened = openedWith scalar_int.text scalar_int.words
+opened = opened_with scalar_int.text scalar_int.words
 
 undefined : BuildOutcome
 undefined = build_of (account_after opened (take 2 adoptions)) rows errors

@@ -3,8 +3,7 @@ use mathlib.Core.Path.{◌≡◌, refl}
 use mathlib.Core.Bool.{Bool, true, false, ◌&&◌, ◌||◌, not}
 use Prim.Native.Nat.{ℕ}
 use lib.Dec.{eqb}
-use borrow.Author.Tests.{eqb-true, ne_eqb}
-use native.Mathlib.Omega.{arith}
+use borrow.Author.Tests.{eqb-true}
 use Rattle.definition.specs.Lists.{choose}
 use Rattle.definition.specs.Cards.{Card, Place, is_unnamed, unknown_kind, empty_item, item_outside_text, item_before_sibling_end, item_outside_heading}
 use Rattle.definition.specs.Cards.{name_amiss, name_outside_item, name_no_name, name_not_item, misplaced, fault, faults, fault_among}

@@ -10,7 +10,7 @@ use Rattle.definition.specs.Account.{Account}
 use Rattle.definition.specs.Refusals.{opening_refusal, filing_refusal}
 use Rattle.definition.specs.Store.{account_in, too_short, store_refusal}
 use Rattle.definition.specs.Outcomes.{unchanged, accepted, open_store, add_ast, turned, adopt_orphan_extensions, ignore_builtin_redefinitions, build}
-use Rattle.definition.specs.Outcomes.{check_rows, root_operation, type_field, is_subtype_lem, iter_origins, extensions, implementers_map}
+use Rattle.definition.specs.Outcomes.{check_rows, root_operation, type_field, is_subtype, iter_origins, extensions, implementers_map}
 use Rattle.definition.specs.Calls.{Call, opening, filing, adopting, ignoring, building, checking, root_asked, field_asked, subtype_asked, origins_asked}
 use Rattle.definition.specs.Calls.{extensions_asked, implementers_asked, parsing, Reply, answered, built, named, fielded, subtyped, listed, opened_account}
 use Rattle.definition.specs.Calls.{joined}
@@ -60,7 +60,7 @@ module _ (s : Store) (a : Account) (h : HoldsIn s a) where
 
   kept_subtype : (rows general other : List ℕ) → Same (step_store s (subtype_asked rows general other)) (step a (subtype_asked rows general other))
   unfolding step_store step
-  kept_subtype rows general other = record { reply = ap subtyped (unfold is_subtype_lem in rw (sound, same)); holds = h }
+  kept_subtype rows general other = record { reply = ap subtyped (unfold is_subtype in rw (sound, same)); holds = h }
 
   kept_origins : (rows lent : List ℕ) → Same (step_store s (origins_asked rows lent)) (step a (origins_asked rows lent))
   unfolding step_store step

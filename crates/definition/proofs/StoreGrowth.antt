@@ -16,8 +16,8 @@ use Rattle.definition.specs.Catalogue.{type_row}
 use Rattle.definition.specs.Merge.{merge}
 use Rattle.definition.specs.Account.{Account}
 use Rattle.definition.specs.LentRows.{held, lent_rows, rows_refusal}
-use Rattle.definition.specs.Lookups.{is_row_of, field_named, is_subtype, groups}
-use Rattle.definition.specs.Outcomes.{BuildOutcome, words_of_error, check_of, check_rows, field_of_type, type_field, subtype_answer, is_subtype_lem}
+use Rattle.definition.specs.Lookups.{is_row_of, field_named, is_subtype_of, groups}
+use Rattle.definition.specs.Outcomes.{BuildOutcome, words_of_error, check_of, check_rows, field_of_type, type_field, subtype_answer, is_subtype}
 use Rattle.definition.specs.Calls.{Store}
 use Rattle.definition.specs.Growth.{Brings, card_of, place_of, list_of, Names, NamesBefore, ImplementedBy, rows_of, reading_errors_of, documents_in, TypeGrown}
 use Rattle.definition.specs.Growth.{Grown, OrderKept}
@@ -47,7 +47,7 @@ module _ (a : Account) (s : Admitted a.documents) where
   field_over n f = rw (unrefused_rows, rows_read a)
 
   subtype_over : (n m : List ℕ) → subtype_answer a (row_words_of a) n m ≡
-      choose (is_subtype (held a.documents) (merge a.adopt a.documents).rows n m) Subtype NotSubtype
+      choose (is_subtype_of (held a.documents) (merge a.adopt a.documents).rows n m) Subtype NotSubtype
   unfolding subtype_answer
   subtype_over n m = rw (unrefused_rows, rows_read a)
 
@@ -92,10 +92,10 @@ module _ (a b : Account) (s : Admitted a.documents) (t : Admitted b.documents) (
     field_grows f c e =
         field_over b t n f ∙ rw l.1 (same_field a.adopt b.adopt a.documents l.0 n d h f c (sym (field_over a s n f) ∙ e))
 
-    yes : (m : List ℕ) → subtype_answer a (row_words_of a) n m ≡ Subtype → is_subtype (held a.documents) (merge a.adopt a.documents).rows n m ≡ true
-    yes m e = is_subtyped (is_subtype (held a.documents) (merge a.adopt a.documents).rows n m) (sym (subtype_over a s n m) ∙ e)
+    yes : (m : List ℕ) → subtype_answer a (row_words_of a) n m ≡ Subtype → is_subtype_of (held a.documents) (merge a.adopt a.documents).rows n m ≡ true
+    yes m e = is_subtyped (is_subtype_of (held a.documents) (merge a.adopt a.documents).rows n m) (sym (subtype_over a s n m) ∙ e)
 
-    yes_again : (m : List ℕ) → is_subtype (held b.documents) (merge b.adopt b.documents).rows n m ≡ true → subtype_answer b (row_words_of b) n m ≡ Subtype
+    yes_again : (m : List ℕ) → is_subtype_of (held b.documents) (merge b.adopt b.documents).rows n m ≡ true → subtype_answer b (row_words_of b) n m ≡ Subtype
     yes_again m e = subtype_over b t n m ∙ ap (λ (q : Bool). choose q Subtype NotSubtype) e
 
     subtype_grows : (m : List ℕ) (e : Heading) → Brings a.documents m e →
@@ -122,8 +122,8 @@ module _ (s : Store) (a : Account) (h : HoldsIn s a) (rows : List ℕ) where
   unfolding type_field
   field_store n f = rw (sound s a h, same s a h)
 
-  subtype_store : (n m : List ℕ) → is_subtype_lem s.text s.words rows n m ≡ subtype_answer a rows n m
-  unfolding is_subtype_lem
+  subtype_store : (n m : List ℕ) → is_subtype s.text s.words rows n m ≡ subtype_answer a rows n m
+  unfolding is_subtype
   subtype_store n m = rw (sound s a h, same s a h)
 
   pub check_store : check_rows s.text s.words rows ≡ check_of a rows

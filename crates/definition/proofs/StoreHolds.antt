@@ -221,16 +221,16 @@ unfolding opened_text switches_rise zero_unignored
 opened_held text words lent cs long_text long_words admitted =
     let g : List ℕ = take opened_gap (drop opened_head words) in
     let q : List ℕ = drop opened_gap (drop opened_head words) in
-    let laidHere = opened_laid words lent cs long_words in
-    let textHere : written text 0 lent ≡ (lent ++ []) ++ drop (length lent) text =
+    let laid_here = opened_laid words lent cs long_words in
+    let text_here : written text 0 lent ≡ (lent ++ []) ++ drop (length lent) text =
     written_at [] text lent 0 refl ∙ ap (λ (l : List ℕ). l ++ drop (length lent) text) (sym (append-nil lent)) in
     let lg : length g ≡ opened_gap = length-take-le opened_gap (drop opened_head words) (omega (arith, length-drop opened_head words)) in
     record {
       gap = g;
       rest = drop (length (moved_words 0 cs)) q;
       after = drop (length lent) text;
-      text_laid = textHere;
-      words_laid = laidHere;
+      text_laid = text_here;
+      words_laid = laid_here;
       rows_fit = omega arith;
       text_long = let w = written_long text lent 0 (omega arith) in omega arith;
       words_long = opened_long words (doc false lent cs) long_words;
@@ -311,7 +311,7 @@ filed_held text words ds ad ig lent cs h few admitted =
     let fit = h.rows_fit in
     let capacity : document_words ≤ length h.gap = omega arith in
     let used : cards_used_of words ≤ card_capacity = rw (cards_held_lem text words ds ad ig h) h.admitted.cards in
-    let textHere : written text (text_used_of words) lent ≡ text_of (ds ++ (d ∷ [])) ++ drop (length lent) h.after =
+    let text_here : written text (text_used_of words) lent ≡ text_of (ds ++ (d ∷ [])) ++ drop (length lent) h.after =
     ap (λ (n : ℕ). written text n lent) (text_held_lem text words ds ad ig h)
     ∙ ap (λ (t : List ℕ). written t (text_held ds) lent) h.text_laid
     ∙ written_at (text_of ds) h.after lent (text_held ds) (length_text_of ds)
@@ -331,15 +331,15 @@ filed_held text words ds ad ig lent cs h few admitted =
     let l1 = length-append (r ++ row) (drop document_words h.gap) in
     let l2 = length-append r row in
     let l3 = length-drop document_words h.gap in
-    let fitNow : length ((r ++ row) ++ drop document_words h.gap) ≡ document_words * document_capacity = omega arith in
+    let fit_now : length ((r ++ row) ++ drop document_words h.gap) ≡ document_words * document_capacity = omega arith in
     record {
       gap = drop document_words h.gap;
       rest = drop (length mw) h.rest;
       after = drop (length lent) h.after;
-      text_laid = textHere;
+      text_laid = text_here;
       words_laid = e-filed ∙ (λ i. laid (e-count i) (bit ad) (bit ig) (e-text i) (e-cards i) (e-rows i ++ drop document_words h.gap)
           (e-stored i ++ drop (length mw) h.rest));
-      rows_fit = ap (λ (l : List ℕ). length (l ++ drop document_words h.gap)) (sym e-rows) ∙ fitNow;
+      rows_fit = ap (λ (l : List ℕ). length (l ++ drop document_words h.gap)) (sym e-rows) ∙ fit_now;
       text_long = let w = written_long text lent (text_used_of words) (rw (text_held_lem text words ds ad ig h) (omega (arith, h.admitted.text, h.text_long))) in
           omega (arith, h.text_long, w);
       words_long = filed_long words (doc false lent cs) h.words_long used;

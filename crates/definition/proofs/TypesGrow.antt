@@ -19,7 +19,7 @@ use Rattle.definition.specs.declared.FieldFound.TheVariants.{Explicit, Typename,
 use Rattle.definition.specs.declared.FieldLookup.TheVariants.{Found, NoSuchField}
 use Rattle.definition.specs.LentRows.{is_type_row, is_row_named, is_type_row_named, name_numbered}
 use Rattle.definition.specs.Lookups.{Block, is_block_named, type_named, is_row_of, is_part_named, is_query_root, meta_field, field_of, field_named, lists, subtype_of}
-use Rattle.definition.specs.Lookups.{is_subtype}
+use Rattle.definition.specs.Lookups.{is_subtype_of}
 use Rattle.definition.specs.Growth.{place_of, list_in, list_of}
 use Rattle.definition.proofs.Tests.{zero_one}
 use Rattle.definition.proofs.Tests.{and_true}
@@ -232,26 +232,26 @@ module _ (ps ps' : List NamedCard) (a b : Bool) (hs more : List Heading) (named 
     unfolding subtype_of type_block
     union_of s t qs rs js = rw t
 
-    earlier_is : (s : List ℕ) → is_subtype ps (rows a hs) x s ≡ subtype_of ps (rows a hs) x s (type_block hs d)
-    unfolding is_subtype
+    earlier_is : (s : List ℕ) → is_subtype_of ps (rows a hs) x s ≡ subtype_of ps (rows a hs) x s (type_block hs d)
+    unfolding is_subtype_of
     earlier_is s = rw (block_found ps x a hs named d h)
 
-    later_is : (s : List ℕ) → is_subtype ps' (rows b (hs ++ more)) x s ≡ subtype_of ps' (rows b (hs ++ more)) x s (type_block (hs ++ more) d)
-    unfolding is_subtype
+    later_is : (s : List ℕ) → is_subtype_of ps' (rows b (hs ++ more)) x s ≡ subtype_of ps' (rows b (hs ++ more)) x s (type_block (hs ++ more) d)
+    unfolding is_subtype_of
     later_is s = rw (block_found ps' x b (hs ++ more) named' d (later x d h))
 
     -- Of a union (or any type but an interface) the member need not be a type that a definition brings.
-    pub member_stays : (s : List ℕ) → is_row_of 7 (type_row d) ≡ false → is_subtype ps (rows a hs) x s ≡ true → is_subtype ps' (rows b (hs ++ more)) x s ≡ true
+    pub member_stays : (s : List ℕ) → is_row_of 7 (type_row d) ≡ false → is_subtype_of ps (rows a hs) x s ≡ true → is_subtype_of ps' (rows b (hs ++ more)) x s ≡ true
     member_stays s t y =
         let z = sym (union_of s t ps (rows a hs) hs) ∙ (sym (earlier_is s) ∙ y) in
         let (u, v) = and_true (is_row_of 8 (type_row d)) (lists ps 23 s (type_block hs d)) z in
         later_is s ∙ (union_of s t ps' (rows b (hs ++ more)) (hs ++ more) ∙ simp (u, any_stays x d h 23 s v))
 
     pub subtype_stays : (s : List ℕ) (e : Heading) → definition s hs ≡ some e →
-        is_subtype ps (rows a hs) x s ≡ true → is_subtype ps' (rows b (hs ++ more)) x s ≡ true
+        is_subtype_of ps (rows a hs) x s ≡ true → is_subtype_of ps' (rows b (hs ++ more)) x s ≡ true
     subtype_stays s e i y = go (is_row_of 7 (type_row d)) refl
       where
-        go : (t : Bool) → is_row_of 7 (type_row d) ≡ t → is_subtype ps' (rows b (hs ++ more)) x s ≡ true
+        go : (t : Bool) → is_row_of 7 (type_row d) ≡ t → is_subtype_of ps' (rows b (hs ++ more)) x s ≡ true
         go false t = member_stays s t y
         go true t =
             later_is s

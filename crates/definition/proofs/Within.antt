@@ -23,7 +23,7 @@ module _ {A : Type 0} where
   within_then p done = p
   within_then p (skip q) = skip (within_then p q)
   within_then (skip p) (keep q) = skip (within_then p q)
-  within_then (keep p) (keep q) = keep (within_then p q)
+  within_then (keep {xs = xs} p) (keep q) = keep (within_then {xs = xs} p q)
 
   pub within_append : {us vs xs ys : List A} → Within us vs → Within xs ys → Within (us ++ xs) (vs ++ ys)
   within_append done q = q
@@ -88,27 +88,29 @@ module _ {A : Type 0} where
   abbrev pub Once : A → List A → Type 0
   Once c xs = Within (c ∷ c ∷ []) xs → ⊥
 
-  first_of_lem : {c d : A} {xs : List A} → Within (c ∷ d ∷ []) xs → Within (c ∷ []) xs
-  first_of_lem p = within_then (keep (skip done)) p
+  first_of_two : {c d : A} {xs : List A} → Within (c ∷ d ∷ []) xs → Within (c ∷ []) xs
+  first_of_two p = within_then (keep (skip done)) p
 
-  second_of_lem : {c d : A} {xs : List A} → Within (c ∷ d ∷ []) xs → Within (d ∷ []) xs
-  second_of_lem p = within_then (skip (keep done)) p
+  second_of_two : {c d : A} {xs : List A} → Within (c ∷ d ∷ []) xs → Within (d ∷ []) xs
+  second_of_two p = within_then (skip (keep done)) p
 
   -- Two that stand in this order stand so in the left part, if the second is in it.
   pub in_left : {c d : A} (xs ys : List A) → Within (c ∷ d ∷ []) (xs ++ ys) → Within (d ∷ []) xs → Once d (xs ++ ys) → Within (c ∷ d ∷ []) xs
+  in_left [] ys _ p n = elim p [ ]
   in_left (x ∷ xs) ys (skip p) (skip q) n = skip (in_left xs ys p q (λ t. n (skip t)))
-  in_left (x ∷ xs) ys (skip p) (keep q) n = absurd (n (keep (second_of_lem p)))
+  in_left (x ∷ xs) ys (skip p) (keep q) n = absurd (n (keep (second_of_two p)))
   in_left (x ∷ xs) ys (keep p) (skip q) n = keep q
   in_left (x ∷ xs) ys (keep p) (keep q) n = absurd (n (keep p))
 
   -- And so they do where others are left out, if both are there.
   pub in_fewer : {c d : A} {xs ys : List A} → Within xs ys → Within (c ∷ d ∷ []) ys → Within (c ∷ []) xs → Within (d ∷ []) xs → Once c ys → Once d ys →
       Within (c ∷ d ∷ []) xs
+  in_fewer done p c d n m = elim p [ ]
   in_fewer (skip w) (skip p) c d n m = in_fewer w p c d (λ t. n (skip t)) (λ t. m (skip t))
   in_fewer (skip w) (keep p) c d n m = absurd (n (keep (within_then c w)))
   in_fewer (keep w) (skip p) (skip c) (skip d) n m = skip (in_fewer w p c d (λ t. n (skip t)) (λ t. m (skip t)))
-  in_fewer (keep w) (skip p) (skip c) (keep d) n m = absurd (m (keep (second_of_lem p)))
-  in_fewer (keep w) (skip p) (keep c) d n m = absurd (n (keep (first_of_lem p)))
+  in_fewer (keep w) (skip p) (skip c) (keep d) n m = absurd (m (keep (second_of_two p)))
+  in_fewer (keep w) (skip p) (keep c) d n m = absurd (n (keep (first_of_two p)))
   in_fewer (keep w) (keep p) c (skip d) n m = keep d
   in_fewer (keep w) (keep p) c (keep d) n m = absurd (m (keep p))
 

@@ -21,64 +21,64 @@ abbrev pub answer : ℕ → ℕ → Answer
 answer n c = record { number = n; card = c }
 
 -- How a name stands to another: 0 before, 1 equal, 2 after.
-abbrev pub orderNumber : NameOrder → ℕ
-orderNumber Before = 0
-orderNumber Equal = 1
-orderNumber After = 2
+abbrev pub order_number : NameOrder → ℕ
+order_number Before = 0
+order_number Equal = 1
+order_number After = 2
 
 -- "26 query, 27 mutation, 28 subscription"
-abbrev pub rootKind : OperationType → ℕ
-rootKind Query = 26
-rootKind Mutation = 27
-rootKind Subscription = 28
+abbrev pub root_kind : OperationType → ℕ
+root_kind Query = 26
+root_kind Mutation = 27
+root_kind Subscription = 28
 
 -- A found field's number: "1 `__typename`, 2 `__schema`, 3 `__type`"; 0 for an explicit one.
-abbrev pub metaNumber : FieldFound → ℕ
-metaNumber (Explicit c) = 0
-metaNumber Typename = 1
-metaNumber Schema = 2
-metaNumber MetaType = 3
+abbrev pub meta_number : FieldFound → ℕ
+meta_number (Explicit c) = 0
+meta_number Typename = 1
+meta_number Schema = 2
+meta_number MetaType = 3
 
 -- The card of an explicit field; a meta field has none.
-abbrev pub explicitCard : FieldFound → ℕ
-explicitCard (Explicit c) = c
-explicitCard Typename = absent
-explicitCard Schema = absent
-explicitCard MetaType = absent
+abbrev pub explicit_card : FieldFound → ℕ
+explicit_card (Explicit c) = c
+explicit_card Typename = absent
+explicit_card Schema = absent
+explicit_card MetaType = absent
 
 -- Four numbers for `type_field`'s answer: the refusal, or 0; then 1 found, 2 no such type, 3 no such field, 0 refused; then the found field's
 -- number, else `-`; and the card: the explicit field's, or with no such field the type's, else `-`.
-abbrev pub fieldRefusal : FieldLookup → ℕ
-fieldRefusal (Found f) = 0
-fieldRefusal NoSuchType = 0
-fieldRefusal (NoSuchField c) = 0
-fieldRefusal (Refused n) = n
+abbrev pub field_refusal : FieldLookup → ℕ
+field_refusal (Found f) = 0
+field_refusal NoSuchType = 0
+field_refusal (NoSuchField c) = 0
+field_refusal (Refused n) = n
 
-abbrev pub fieldNumber : FieldLookup → ℕ
-fieldNumber (Found f) = 1
-fieldNumber NoSuchType = 2
-fieldNumber (NoSuchField c) = 3
-fieldNumber (Refused n) = 0
+abbrev pub field_number : FieldLookup → ℕ
+field_number (Found f) = 1
+field_number NoSuchType = 2
+field_number (NoSuchField c) = 3
+field_number (Refused n) = 0
 
-abbrev pub fieldMeta : FieldLookup → ℕ
-fieldMeta (Found f) = metaNumber f
-fieldMeta NoSuchType = absent
-fieldMeta (NoSuchField c) = absent
-fieldMeta (Refused n) = absent
+abbrev pub field_meta : FieldLookup → ℕ
+field_meta (Found f) = meta_number f
+field_meta NoSuchType = absent
+field_meta (NoSuchField c) = absent
+field_meta (Refused n) = absent
 
-abbrev pub fieldCard : FieldLookup → ℕ
-fieldCard (Found f) = explicitCard f
-fieldCard NoSuchType = absent
-fieldCard (NoSuchField c) = c
-fieldCard (Refused n) = absent
+abbrev pub field_card : FieldLookup → ℕ
+field_card (Found f) = explicit_card f
+field_card NoSuchType = absent
+field_card (NoSuchField c) = c
+field_card (Refused n) = absent
 
 -- Two numbers for `is_subtype`'s answer: the refusal, or 0; then 1 for yes, else 0.
-abbrev pub subtypeRefusal : SubtypeLookup → ℕ
-subtypeRefusal Subtype = 0
-subtypeRefusal NotSubtype = 0
-subtypeRefusal (SubtypeRefused n) = n
+abbrev pub subtype_refusal : SubtypeLookup → ℕ
+subtype_refusal Subtype = 0
+subtype_refusal NotSubtype = 0
+subtype_refusal (SubtypeRefused n) = n
 
-abbrev pub subtypeNumber : SubtypeLookup → ℕ
-subtypeNumber Subtype = 1
-subtypeNumber NotSubtype = 0
-subtypeNumber (SubtypeRefused n) = 0
+abbrev pub subtype_number : SubtypeLookup → ℕ
+subtype_number Subtype = 1
+subtype_number NotSubtype = 0
+subtype_number (SubtypeRefused n) = 0

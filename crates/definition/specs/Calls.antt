@@ -10,7 +10,7 @@ use Rattle.definition.specs.Answers.{answer}
 use Rattle.definition.specs.Account.{Account}
 use Rattle.definition.specs.Refusals.{document, opening_refusal, filing_refusal}
 use Rattle.definition.specs.Outcomes.{StoreOutcome, BuildOutcome, RootName, ListOutcome, open_store, add_ast, adopt_orphan_extensions}
-use Rattle.definition.specs.Outcomes.{ignore_builtin_redefinitions, build, check_rows, root_operation, type_field, is_subtype_lem, iter_origins, extensions}
+use Rattle.definition.specs.Outcomes.{ignore_builtin_redefinitions, build, check_rows, root_operation, type_field, is_subtype, iter_origins, extensions}
 use Rattle.definition.specs.Outcomes.{implementers_map, parse, build_of, check_of, root_of, field_of_type, subtype_answer, origins_of, extensions_in}
 use Rattle.definition.specs.Outcomes.{implementers_of}
 
@@ -92,7 +92,7 @@ effect (checking rows) = reads (λ a. answered (check_of a rows)) (λ t w. answe
 effect (root_asked rows op) = reads (λ a. named (root_of a rows op)) (λ t w. named (root_operation t w rows op)) []
 effect (field_asked rows type field) = reads (λ a. fielded (field_of_type a rows type field)) (λ t w. fielded (type_field t w rows type field)) []
 effect (subtype_asked rows general other) =
-    reads (λ a. subtyped (subtype_answer a rows general other)) (λ t w. subtyped (is_subtype_lem t w rows general other)) []
+    reads (λ a. subtyped (subtype_answer a rows general other)) (λ t w. subtyped (is_subtype t w rows general other)) []
 effect (origins_asked rows lent) = reads (λ a. listed (origins_of a rows lent)) (λ t w. listed (iter_origins t w rows lent)) (lent ∷ [])
 effect (extensions_asked rows lent) = reads (λ a. listed (extensions_in a rows lent)) (λ t w. listed (extensions t w rows lent)) (lent ∷ [])
 effect (implementers_asked rows lent) =

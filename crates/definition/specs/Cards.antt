@@ -1,5 +1,5 @@
 -- 01, "Cards", and the refusals 1 to 5 of "Refused for what is lent".
-use Rattle.std.specs.Prelude.{List, [], ◌∷◌, Bool, true, false, ◌&&◌, ◌||◌, not, ℕ, zero, suc, ◌+◌, ◌-◌, ◌/◌, ◌%◌, eqb, leb, ltb, length, get_or}
+use Rattle.std.specs.Prelude.{List, [], ◌∷◌, Bool, true, false, ◌&&◌, ◌||◌, not, ℕ, suc, ◌+◌, ◌-◌, ◌/◌, ◌%◌, eqb, leb, ltb, length, get_or}
 use Rattle.std.proofs.Math.Option.{Option, none, some}
 use Rattle.definition.specs.declared.Answer.{Answer}
 use Rattle.definition.specs.Lists.{choose, found, any, chunks}
@@ -189,9 +189,9 @@ unfoldable pub fault_from : List ℕ → ℕ → ℕ → ℕ → Option Card →
 fault_from bytes base size i h s [] = none
 fault_from bytes base size i h s (c ∷ cs) =
     let n = fault_among (place_after bytes base size h s c) c faults in
-    let underHeading = fault_from bytes base size (i + 1) h (some c) cs in
-    let newHeading = fault_from bytes base size (i + 1) (some c) none cs in
-    let rest = choose (is_part c.kind) underHeading newHeading in
+    let under_heading = fault_from bytes base size (i + 1) h (some c) cs in
+    let new_heading = fault_from bytes base size (i + 1) (some c) none cs in
+    let rest = choose (is_part c.kind) under_heading new_heading in
     choose (eqb n 0) rest (some (answer n i))
 
 -- The first faulty card of a document whose text is the part of `size` bytes from `base` on.

@@ -1,6 +1,6 @@
 -- 01, "Catalogue": the rows. The marks R1 to R14 are the Rust's choices, listed in docs/DIFFERENCES.md beside what the specification says.
 use Rattle.std.specs.Prelude.{List, [], ◌∷◌, ◌++◌, map, Bool, true, false, ℕ, ◌+◌, ◌-◌, eqb}
-use Rattle.std.proofs.Math.Option.{Option, none, some}
+use Rattle.std.proofs.Math.Option.{Option}
 use Rattle.definition.specs.Lists.{choose, found, filter, any, is_empty, find, flat_map, firsts}
 use Rattle.definition.specs.Names.{bytes}
 use Rattle.definition.specs.Answers.{absent}

@@ -1,7 +1,6 @@
 -- 01, "Catalogue": the error rows, in the order in which the Rust pushes them (R12).
 -- Errors are told by what stands before: `errors_at before h` is what reading the heading h gives after the headings `before`.
-use Rattle.std.specs.Prelude.{List, [], ◌∷◌, ◌++◌, map, Bool, true, false, ℕ, ◌+◌, ◌-◌, eqb, leb, get_or}
-use Rattle.std.proofs.Math.Option.{Option, none, some}
+use Rattle.std.specs.Prelude.{List, [], ◌∷◌, ◌++◌, map, Bool, false, ℕ, ◌+◌, ◌-◌, eqb, leb, get_or}
 use Rattle.definition.specs.Lists.{choose, found, filter, is_empty, flat_map, firsts, repeats}
 use Rattle.definition.specs.Answers.{absent}
 use Rattle.definition.specs.Headings.{NamedCard, Heading, alike, parts_of, is_kind, is_type_definition, definition, extensions_of, same_named, orphans}
@@ -126,8 +125,8 @@ unfoldable pub redefinition_errors : Heading → Heading → List Error
 redefinition_errors h d =
     let again = heading_error type_definition_collision d.number h in
     let scalar = heading_error built_in_scalar_type_redefinition absent h in
-    let afterBuiltIn = choose h.ignored [] (choose (is_kind 5 h) scalar again) in
-    choose d.built_in afterBuiltIn again
+    let after_built_in = choose h.ignored [] (choose (is_kind 5 h) scalar again) in
+    choose d.built_in after_built_in again
 
 -- A first type definition is merged with the extensions of its kind filed before it; those of another kind are dropped with no error. (R3, R4)
 unfoldable pub type_errors : List Heading → Heading → List Error

@@ -1,13 +1,13 @@
 -- Closed examples beside the table: each refusal number, each lookup, and merges that the table does not touch.
-use Rattle.std.specs.Prelude.{◌≡◌, refl, List, [], ◌∷◌, true, false, ℕ, replicate}
+use Rattle.std.specs.Prelude.{◌≡◌, refl, List, [], ◌∷◌, true, false, replicate}
 use Rattle.std.proofs.Math.Option.{Option, none, some}
 use Rattle.definition.specs.declared.OperationType.TheVariants.{Query, Subscription}
 use Rattle.definition.specs.declared.FieldFound.TheVariants.{Explicit, Typename, Schema}
-use Rattle.definition.specs.declared.FieldLookup.TheVariants.{Found, NoSuchType, NoSuchField, Refused}
+use Rattle.definition.specs.declared.FieldLookup.TheVariants.{Found, NoSuchType, NoSuchField}
 use Rattle.definition.specs.declared.SubtypeLookup.TheVariants.{Subtype, NotSubtype}
 use Rattle.definition.specs.Names.{bytes}
 use Rattle.definition.specs.Answers.{answer}
-use Rattle.definition.specs.Cards.{document_fault, card_words}
+use Rattle.definition.specs.Cards.{document_fault}
 use Rattle.definition.specs.Headings.{Document}
 use Rattle.definition.specs.Catalogue.{row}
 use Rattle.definition.specs.Errors.{error}
@@ -15,9 +15,9 @@ use Rattle.definition.specs.Account.{Account}
 use Rattle.definition.specs.Refusals.{opening_refusal, filing_refusal, text_capacity, document_capacity, card_capacity, origins_capacity, groups_capacity}
 use Rattle.definition.specs.Store.{words_capacity}
 use Rattle.definition.specs.Lookups.{span}
-use Rattle.definition.specs.Outcomes.{RootName, unchanged, adopt_orphan_extensions, unbuilt, build, check_rows, check_of, no_root, root_of, field_of_type}
+use Rattle.definition.specs.Outcomes.{unchanged, adopt_orphan_extensions, unbuilt, build, check_of, no_root, root_of, field_of_type}
 use Rattle.definition.specs.Outcomes.{subtype_answer, origins_of, extensions_in, implementers_of, listed_in, unlisted}
-use Rattle.definition.specs.Calls.{opened_account as openedWith, filing, ignoring, account_after}
+use Rattle.definition.specs.Calls.{opened_account as opened_with, filing, ignoring, account_after}
 use Rattle.definition.specs.Unfolded.{unfolded}
 use Rattle.definition.specs.Shown.{∅, Source, source, shows, shown, collected, merged, asked, scalar_int}
 
@@ -135,7 +135,7 @@ refused_22 = refl
 -- ---- Merges.
 
 abbrev opened_int : Account
-opened_int = openedWith scalar_int.text scalar_int.words
+opened_int = opened_with scalar_int.text scalar_int.words
 
 -- The ignore switch does nothing for a document that was filed before it was turned on.
 late_ignore : merged (account_after opened_int (filing scalar_int.text scalar_int.words ∷ ignoring ∷ filing scalar_int.text scalar_int.words ∷ [])) ≡
@@ -144,10 +144,10 @@ unfolding unfolded
 late_ignore = refl
 
 -- A built-in directive that is replaced keeps its place.
-abbrev directives_dE : Source
-directives_dE = source "directive @d on FIELD directive @e on FIELD" (3 ∷ 0 ∷ 21 ∷ 11 ∷ 1 ∷ 3 ∷ 22 ∷ 21 ∷ 33 ∷ 1 ∷ [])
+abbrev directives_d_e : Source
+directives_d_e = source "directive @d on FIELD directive @e on FIELD" (3 ∷ 0 ∷ 21 ∷ 11 ∷ 1 ∷ 3 ∷ 22 ∷ 21 ∷ 33 ∷ 1 ∷ [])
 
-directive_place : shown false false directives_dE (source "directive @d on FIELD" (3 ∷ 0 ∷ 21 ∷ 11 ∷ 1 ∷ []) ∷ []) ≡
+directive_place : shown false false directives_d_e (source "directive @d on FIELD" (3 ∷ 0 ∷ 21 ∷ 11 ∷ 1 ∷ []) ∷ []) ≡
     shows (row 4 ∅ ∅ ∷ row 3 2 ∅ ∷ row 3 1 ∅ ∷ []) [] []
 unfolding unfolded
 directive_place = refl
@@ -172,18 +172,18 @@ unfolding unfolded
 types_by_first = refl
 
 -- Orphans go name by name, in the order of the first of each; adopted types come after defined ones.
-abbrev orphans_aBA : Source
-orphans_aBA =
+abbrev orphans_a_b_a : Source
+orphans_a_b_a =
     source "extend type A{a:Int}extend type B{b:Int}extend type A{c:Int}type C"
     (13 ∷ 0 ∷ 20 ∷ 12 ∷ 1 ∷ 22 ∷ 14 ∷ 5 ∷ 14 ∷ 1 ∷ 13 ∷ 20 ∷ 20 ∷ 32 ∷ 1 ∷ 22 ∷ 34 ∷ 5 ∷ 34 ∷ 1 ∷
     13 ∷ 40 ∷ 20 ∷ 52 ∷ 1 ∷ 22 ∷ 54 ∷ 5 ∷ 54 ∷ 1 ∷ 6 ∷ 60 ∷ 6 ∷ 65 ∷ 1 ∷ [])
 
-orphans_by_name : shown false false scalar_int (orphans_aBA ∷ []) ≡
+orphans_by_name : shown false false scalar_int (orphans_a_b_a ∷ []) ≡
     shows (row 4 ∅ ∅ ∷ row 5 0 ∅ ∷ row 6 7 ∅ ∷ []) [] (error 7 1 ∅ ∷ error 7 5 ∅ ∷ error 7 3 ∅ ∷ [])
 unfolding unfolded
 orphans_by_name = refl
 
-adopted_last : shown true false scalar_int (orphans_aBA ∷ []) ≡
+adopted_last : shown true false scalar_int (orphans_a_b_a ∷ []) ≡
     shows (row 4 ∅ ∅ ∷ row 5 0 ∅ ∷ row 6 7 ∅ ∷ row 6 1 1 ∷ row 22 2 1 ∷ row 22 6 5 ∷ row 6 3 3 ∷ row 22 4 3 ∷ []) [] []
 unfolding unfolded
 adopted_last = refl

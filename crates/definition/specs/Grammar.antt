@@ -2,7 +2,7 @@
 -- Each part of the grammar has its alternatives; an alternative is a list of symbols. Left out against the appendix are executable definitions.
 -- Optional and repeated parts, `X?` and `X*`, have a line of their own. What several definitions begin with alike stands once (a description, the
 -- word `extend`), and lists that the appendix grows to the left grow to the right. `[lookahead ≠ {]` needs no line: no definition begins with `{`.
-use Rattle.std.specs.Prelude.{List, [], ◌∷◌, Bool, true, false, ◌&&◌, ℕ, ◌+◌, leb}
+use Rattle.std.specs.Prelude.{List, [], ◌∷◌, Bool, ◌&&◌, ℕ, ◌+◌, leb}
 use Rattle.definition.specs.Lists.{choose}
 use Rattle.definition.specs.Names.{bytes, same_name}
 

@@ -1,12 +1,11 @@
 -- Written by tools/grammar_sets from Grammar.antt. Nothing need be believed of it: parser_laws checks it by computation.
 use Rattle.std.specs.Prelude.{List, [], ◌∷◌, Bool, true, false, ℕ}
-use Rattle.definition.specs.Grammar.{Part, Document, Definition*, Definition, Description?, Described, Extended, SchemaMore, ObjectMore, UnionMore}
-use Rattle.definition.specs.Grammar.{EnumMore, InputMore, Roots, Roots?, Root*, Root, Implements, Implements?, Amp?, Interface, AndInterface*, Fields}
-use Rattle.definition.specs.Grammar.{Fields?, Field*, Field, Members, Members?, Bar?, Member, OrMember*, EnumValues, EnumValues?, EnumValue*}
-use Rattle.definition.specs.Grammar.{EnumValue, InputFields, InputFields?, InputField*, InputField, ArgumentDefinitions?, ArgumentDefinition*}
-use Rattle.definition.specs.Grammar.{ArgumentDefinition, Repeatable?, Location, OrLocation*, TypeReference, Bang?, Default?, DirectiveUse*}
-use Rattle.definition.specs.Grammar.{DirectiveUse, Directive*, Directive, Arguments?, Argument*, Argument, Value, Value*, ObjectValue, ObjectField*}
-use Rattle.definition.specs.Grammar.{ObjectField}
+use Rattle.definition.specs.Grammar.{Part, Document, Definition*, Definition, Description?, Described, Extended, SchemaMore, ObjectMore, UnionMore, EnumMore}
+use Rattle.definition.specs.Grammar.{InputMore, Roots, Roots?, Root*, Root, Implements, Implements?, Amp?, Interface, AndInterface*, Fields, Fields?, Field*}
+use Rattle.definition.specs.Grammar.{Field, Members, Members?, Bar?, Member, OrMember*, EnumValues, EnumValues?, EnumValue*, EnumValue, InputFields}
+use Rattle.definition.specs.Grammar.{InputFields?, InputField*, InputField, ArgumentDefinitions?, ArgumentDefinition*, ArgumentDefinition, Repeatable?}
+use Rattle.definition.specs.Grammar.{Location, OrLocation*, TypeReference, Bang?, Default?, DirectiveUse*, DirectiveUse, Directive*, Directive, Arguments?}
+use Rattle.definition.specs.Grammar.{Argument*, Argument, Value, Value*, ObjectValue, ObjectField*, ObjectField}
 
 -- Every part.
 unfoldable pub parts : List Part

@@ -10,7 +10,7 @@ use Rattle.definition.specs.Catalogue.{Row}
 use Rattle.definition.specs.Store.{account_in}
 use Rattle.definition.specs.LentRows.{held, lent_rows, is_type_row, is_type_row_named}
 use Rattle.definition.specs.Lookups.{Block, type_named, is_row_of, Group, groups}
-use Rattle.definition.specs.Outcomes.{BuildOutcome, type_field, is_subtype_lem}
+use Rattle.definition.specs.Outcomes.{BuildOutcome, type_field, is_subtype}
 use Rattle.definition.specs.Calls.{Store}
 
 -- ---- A type.
@@ -82,10 +82,10 @@ pub record TypeGrown (s t : Store) (o p : BuildOutcome) (n : List ℕ) (d : Head
       type_field s.text s.words (rows_of o) n f ≡ Found (Explicit c) → type_field t.text t.words (rows_of p) n f ≡ Found (Explicit c)
   -- a subtype that a definition had brought too remains one,
   pub subtype : (m : List ℕ) (e : Heading) → Brings (documents_in s) m e →
-      is_subtype_lem s.text s.words (rows_of o) n m ≡ Subtype → is_subtype_lem t.text t.words (rows_of p) n m ≡ Subtype
+      is_subtype s.text s.words (rows_of o) n m ≡ Subtype → is_subtype t.text t.words (rows_of p) n m ≡ Subtype
   -- and a union's members remain, brought or not.
   pub member : (d.kind ≡ 8) → (m : List ℕ) →
-      is_subtype_lem s.text s.words (rows_of o) n m ≡ Subtype → is_subtype_lem t.text t.words (rows_of p) n m ≡ Subtype
+      is_subtype s.text s.words (rows_of o) n m ≡ Subtype → is_subtype t.text t.words (rows_of p) n m ≡ Subtype
 
 pub record Grown (s t : Store) (o p : BuildOutcome) : Type 0 where
   pub types : (n : List ℕ) (d : Heading) → Brings (documents_in s) n d → TypeGrown s t o p n d

@@ -1,6 +1,6 @@
 -- The cards of a text, from what its reading comes by: 01, "Cards", and 2.2: one card for each item, spanned from its first token (description
 -- included) to its last.
-use Rattle.std.specs.Prelude.{List, [], ◌∷◌, ◌++◌, Bool, true, false, ℕ, zero, suc, ◌+◌, ◌-◌, leb, length}
+use Rattle.std.specs.Prelude.{List, [], ◌∷◌, ◌++◌, ℕ, zero, suc, ◌+◌, ◌-◌, leb, length}
 use Rattle.std.proofs.Math.Option.{Option, none, some}
 use Rattle.definition.specs.Lists.{choose}
 use Rattle.definition.specs.Cards.{Card}

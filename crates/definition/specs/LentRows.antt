@@ -1,8 +1,8 @@
 -- Rows that are lent to a lookup, and refusal 26, which holds them against the documents held.
 use Rattle.std.specs.Prelude.{List, [], ◌∷◌, ◌++◌, Bool, true, false, ◌&&◌, ◌||◌, not, ℕ, ◌+◌, ◌/◌, ◌%◌, eqb, leb, ltb, length, get_or}
-use Rattle.std.proofs.Math.Option.{Option, none, some}
+use Rattle.std.proofs.Math.Option.{Option}
 use Rattle.std.proofs.Math.ListN.{get_elem?}
-use Rattle.definition.specs.Lists.{choose, found, first, any, all, is_empty, find, repeats, chunks}
+use Rattle.definition.specs.Lists.{choose, found, all, is_empty, find, repeats, chunks}
 use Rattle.definition.specs.Names.{same_name}
 use Rattle.definition.specs.Answers.{absent}
 use Rattle.definition.specs.Cards.{Card, is_root, is_type, is_extension, part_order, place_in}

@@ -1,7 +1,7 @@
 -- The tokens of a text: specification of October 2021, section 2.1 and the values of 2.9, over bytes of UTF-8.
 -- A function that measures what bytes begin with gives a number of bytes. Bytes that were measured and are to be passed over are counted down in
 -- the first argument of the functions that walk along a text.
-use Rattle.std.specs.Prelude.{List, [], ◌∷◌, Bool, true, false, ◌&&◌, ◌||◌, not, ℕ, zero, suc, ◌+◌, ◌-◌, eqb, leb, get_or, take, drop}
+use Rattle.std.specs.Prelude.{List, [], ◌∷◌, Bool, true, false, ◌&&◌, ◌||◌, ℕ, zero, suc, ◌+◌, ◌-◌, eqb, leb, get_or, take, drop}
 use Rattle.std.proofs.Math.Option.{Option, none, some}
 use Rattle.definition.specs.Lists.{choose, found, any}
 use Rattle.definition.specs.Names.{is_name_start, is_name_byte}

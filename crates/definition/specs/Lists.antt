@@ -1,7 +1,7 @@
 -- The list functions that all definitions are made of.
 -- A test goes through `choose`, an Option through `found`, so that a law can rewrite it. An argument is computed before a call, and what a
 -- `let` binds only when it is read: so a branch that goes on, or that costs much, is bound by a `let`.
-use Rattle.std.specs.Prelude.{◌≡◌, List, [], ◌∷◌, ◌++◌, Bool, true, false, ℕ, zero, suc, ◌+◌, length, drop}
+use Rattle.std.specs.Prelude.{◌≡◌, List, [], ◌∷◌, ◌++◌, Bool, true, false, ℕ, zero, suc, length, drop}
 use Rattle.std.proofs.Math.Option.{Option, none, some}
 use Rattle.std.proofs.Math.Seq.{paste}
 

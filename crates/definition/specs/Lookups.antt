@@ -1,6 +1,6 @@
 -- 01, "Lookups", over the documents held and rows that 26 does not refuse (schema/mod.rs): "the first type row of a name counts, and in a list the first
 -- part of a name".
-use Rattle.std.specs.Prelude.{List, [], ◌∷◌, ◌++◌, map, Bool, true, false, ◌&&◌, ◌||◌, not, ℕ, ◌+◌, ◌-◌, eqb, leb, ltb, length}
+use Rattle.std.specs.Prelude.{List, [], ◌∷◌, map, Bool, false, ◌&&◌, ◌||◌, not, ℕ, ◌+◌, ◌-◌, eqb, leb, length}
 use Rattle.std.proofs.Math.Option.{Option, none, some}
 use Rattle.std.proofs.Math.ListN.{get_elem?}
 use Rattle.definition.specs.declared.OperationType.{OperationType}
@@ -11,8 +11,8 @@ use Rattle.definition.specs.declared.FieldLookup.{FieldLookup}
 use Rattle.definition.specs.declared.FieldLookup.TheVariants.{Found, NoSuchType, NoSuchField}
 use Rattle.definition.specs.Lists.{choose, found, filter, any, find, flat_map, firsts}
 use Rattle.definition.specs.Names.{same_name, bytes}
-use Rattle.definition.specs.Answers.{absent, rootKind}
-use Rattle.definition.specs.Cards.{Card, is_root}
+use Rattle.definition.specs.Answers.{absent, root_kind}
+use Rattle.definition.specs.Cards.{is_root}
 use Rattle.definition.specs.Headings.{Document, NamedCard}
 use Rattle.definition.specs.Catalogue.{Row, default_name}
 use Rattle.definition.specs.LentRows.{name_numbered, is_row_named, is_type_row, first_type_row}
@@ -77,7 +77,7 @@ root_card cs rs r =
     choose (eqb r.card absent) object r.card
 
 unfoldable pub root_row : List Row → OperationType → Option Row
-root_row rs op = find (is_row_of (rootKind op)) rs
+root_row rs op = find (is_row_of (root_kind op)) rs
 
 -- The part of the store's text that a root's name is, empty if there is none.
 unfoldable pub root_span : List Document → List NamedCard → List Row → OperationType → Span
@@ -114,8 +114,8 @@ unfoldable pub subtype_of : List NamedCard → List Row → List ℕ → List �
 subtype_of cs rs general other b =
     choose (is_row_of 7 b.head) (found (type_named cs rs other) (lists cs 21 general) false) (is_row_of 8 b.head && lists cs 23 other b)
 
-unfoldable pub is_subtype : List NamedCard → List Row → List ℕ → List ℕ → Bool
-is_subtype cs rs general other = found (type_named cs rs general) (subtype_of cs rs general other) false
+unfoldable pub is_subtype_of : List NamedCard → List Row → List ℕ → List ℕ → Bool
+is_subtype_of cs rs general other = found (type_named cs rs general) (subtype_of cs rs general other) false
 
 -- ---- iter_origins and extensions of `SchemaDefinition`: an origin is one word.
 

@@ -1,8 +1,8 @@
 -- How a reading goes: a list of symbols that are still to come, and one token of foresight. Nothing here need be believed: parser_laws proves that
 -- it comes by just the texts of the grammar, and stops at the first token that no text of the grammar has there.
-use Rattle.std.specs.Prelude.{◌≡◌, List, [], ◌∷◌, ◌++◌, Bool, true, false, ◌&&◌, ◌||◌, not, ℕ, zero, suc, ◌+◌}
+use Rattle.std.specs.Prelude.{◌≡◌, List, [], ◌∷◌, ◌++◌, Bool, true, false, ℕ, zero, suc, ◌+◌}
 use Rattle.std.proofs.Math.Option.{Option, none, some}
-use Rattle.definition.specs.Lists.{choose, found, any}
+use Rattle.definition.specs.Lists.{choose, found}
 use Rattle.definition.specs.Grammar.{Mark, Symbol, one, part, mark, Part, rule, within}
 use Rattle.definition.specs.GrammarSets.{nullable, first, weight}
 use Rattle.definition.specs.Derivation.{Token, Seen, token, marked}
@@ -13,11 +13,11 @@ has [] s = false
 has (p ∷ ps) s = let r = has ps s in choose (within p.0 p.1 s) true r
 
 -- The sorts that a list of symbols can begin with, and whether it can come by no token.
-unfoldable pub first_of_lem : List Symbol → List (ℕ × ℕ)
-first_of_lem [] = []
-first_of_lem (one lo hi ∷ ss) = (lo, hi) ∷ []
-first_of_lem (mark m ∷ ss) = first_of_lem ss
-first_of_lem (part n ∷ ss) = let r = first_of_lem ss in first n ++ choose (nullable n) r []
+unfoldable pub first_set_of : List Symbol → List (ℕ × ℕ)
+first_set_of [] = []
+first_set_of (one lo hi ∷ ss) = (lo, hi) ∷ []
+first_set_of (mark m ∷ ss) = first_set_of ss
+first_set_of (part n ∷ ss) = let r = first_set_of ss in first n ++ choose (nullable n) r []
 
 unfoldable pub empties : List Symbol → Bool
 empties [] = true
@@ -28,7 +28,7 @@ empties (part n ∷ ss) = let r = empties ss in choose (nullable n) r false
 -- The alternative that begins with a sort, and the one that can be empty.
 unfoldable pub beginning : ℕ → List (List Symbol) → Option (List Symbol)
 beginning s [] = none
-beginning s (r ∷ rs) = let q = beginning s rs in choose (has (first_of_lem r) s) (some r) q
+beginning s (r ∷ rs) = let q = beginning s rs in choose (has (first_set_of r) s) (some r) q
 
 unfoldable pub emptied : List (List Symbol) → Option (List Symbol)
 emptied [] = none

@@ -1,5 +1,5 @@
 -- What a drawing is: rows and errors for the documents held and the adopt switch, and their tallies.
-use Rattle.std.specs.Prelude.{List, [], ◌∷◌, ◌++◌, map, Bool, true, false, ℕ, zero, suc, ◌+◌, eqb, length}
+use Rattle.std.specs.Prelude.{List, [], ◌∷◌, map, Bool, ℕ, zero, suc, ◌+◌, eqb, length}
 use Rattle.definition.specs.Lists.{filter}
 use Rattle.definition.specs.Headings.{Document, headings}
 use Rattle.definition.specs.Catalogue.{Row, rows}
@@ -15,9 +15,9 @@ unfoldable pub merge : Bool → List Document → Merged
 merge adopt ds =
     let hs = headings ds in
     let rs = rows adopt hs in
-    let readingOnes = reading_errors [] hs in
-    let drawingOnes = drawing_errors adopt hs in
-    record { rows = rs; reading_errors = readingOnes; drawing_errors = drawingOnes }
+    let reading_ones = reading_errors [] hs in
+    let drawing_ones = drawing_errors adopt hs in
+    record { rows = rs; reading_errors = reading_ones; drawing_errors = drawing_ones }
 
 -- How many error numbers there are, 1 to input_field_name_collision.
 abbrev pub error_numbers : ℕ

@@ -1,6 +1,6 @@
 -- 2.1 tells the faults of a name finer and moves no border: as before it, so after it a card has a fault or has none. What passed 22 passes, and the
 -- account that a store holds is the same.
-use Rattle.std.specs.Prelude.{◌≡◌, List, [], ◌∷◌, Bool, ◌&&◌, ◌||◌, not, ℕ, eqb}
+use Rattle.std.specs.Prelude.{◌≡◌, List, [], ◌∷◌, Bool, ◌&&◌, ◌||◌, not, eqb}
 use Rattle.definition.specs.Cards.{Card, Place, Fault, fault, unknown_kind, empty_item, item_outside_text, item_before_sibling_end, item_outside_heading}
 use Rattle.definition.specs.Cards.{name_amiss, name_outside_item, name_no_name, misplaced, faults, fault_among}
 

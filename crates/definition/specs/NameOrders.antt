@@ -1,5 +1,5 @@
 -- What is claimed of the comparison of names (2.4). `names_ordered` in proofs/NamesInOrder.antt is its proof.
-use Rattle.std.specs.Prelude.{◌≡◌, List, [], ◌∷◌, ◌++◌, ◌⊎◌, ℕ, ◌<◌}
+use Rattle.std.specs.Prelude.{◌≡◌, List, ◌∷◌, ◌++◌, ◌⊎◌, ℕ, ◌<◌}
 use Rattle.definition.specs.declared.NameOrder.{NameOrder}
 use Rattle.definition.specs.declared.NameOrder.TheVariants.{Before, Equal, After}
 use Rattle.definition.specs.Names.{compare_names}

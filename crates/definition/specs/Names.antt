@@ -1,6 +1,6 @@
 -- 01, "Names and spans"; specification, section 2.1.9.
 use Rattle.std.specs.Prelude.{List, [], ◌∷◌, Bool, true, false, ◌&&◌, ◌||◌, ℕ, eqb, leb, ltb, take, drop}
-use Prim.Native.Char.{Char, code}
+use Prim.Native.Char.{code}
 use Prim.Native.String.{String, [] as [·], ◌∷◌ as ◌∷·◌}
 use Rattle.definition.specs.declared.NameOrder.{NameOrder}
 use Rattle.definition.specs.declared.NameOrder.TheVariants.{Before, Equal, After}

@@ -3,8 +3,7 @@
 -- "Order: 21, 22, 26, 7, 1, then the first faulty card with its lowest of 2 to 5, 6, 23, 24, 25. Opening skips 22. 7 is asked of slices to be written, 26 of
 -- rows to be read, 23 of filing alone." 2.1 puts 27 and 28 straight after 4 for a card. A refused call changes
 -- nothing.
-use Rattle.std.specs.Prelude.{◌≡◌, List, [], ◌∷◌, ◌++◌, Bool, true, false, ◌||◌, ℕ, ◌+◌, eqb, ltb, length, replicate}
-use Rattle.std.proofs.Math.Option.{Option, none, some}
+use Rattle.std.specs.Prelude.{List, [], ◌∷◌, ◌++◌, Bool, false, ◌||◌, ℕ, eqb, ltb, length, replicate}
 use Rattle.definition.specs.declared.Answer.{Answer}
 use Rattle.definition.specs.declared.Drawing.{Drawing}
 use Rattle.definition.specs.declared.OperationType.{OperationType}
@@ -17,8 +16,8 @@ use Rattle.definition.specs.Names.{bytes_at}
 use Rattle.definition.specs.Answers.{answer}
 use Rattle.definition.specs.Cards.{words_of_card}
 use Rattle.definition.specs.ItemCards.{cards_read}
-use Rattle.definition.specs.Reading.{Reading, accepted as acceptedBy, refused, reading}
-use Rattle.definition.specs.Headings.{Document, NamedCard}
+use Rattle.definition.specs.Reading.{Reading, accepted as accepted_by, refused, reading}
+use Rattle.definition.specs.Headings.{NamedCard}
 use Rattle.definition.specs.Catalogue.{Row}
 use Rattle.definition.specs.Errors.{Error}
 use Rattle.definition.specs.Merge.{Merged, merge, error_numbers, tallies}
@@ -28,7 +27,7 @@ use Rattle.definition.specs.Refusals.{errors_capacity}
 use Rattle.definition.specs.Refusals.{groups_capacity, origins_capacity}
 use Rattle.definition.specs.Store.{account_in, too_short, store_refusal, opened_text, opened_words, filed_text, filed_words, adopting_words, ignoring_words}
 use Rattle.definition.specs.LentRows.{held, lent_rows, rows_refusal, name_numbered}
-use Rattle.definition.specs.Lookups.{Span, span, root_row, root_card, root_span, field_named, is_subtype, origin_list, extension_list, Group, groups, group_words}
+use Rattle.definition.specs.Lookups.{Span, span, root_row, root_card, root_span, field_named, is_subtype_of, origin_list, extension_list, groups, group_words}
 
 -- ---- Opening, filing, turning a switch on: the answer, and the store's text and words at exit.
 
@@ -190,11 +189,11 @@ type_field text words rows type field =
 unfoldable pub subtype_answer : Account → List ℕ → List ℕ → List ℕ → SubtypeLookup
 subtype_answer a rows general other =
     let n = rows_refusal a.documents rows in
-    let done = choose (is_subtype (held a.documents) (lent_rows rows) general other) Subtype NotSubtype in
+    let done = choose (is_subtype_of (held a.documents) (lent_rows rows) general other) Subtype NotSubtype in
     choose (eqb n 0) done (SubtypeRefused n)
 
-unfoldable pub is_subtype_lem : List ℕ → List ℕ → List ℕ → List ℕ → List ℕ → SubtypeLookup
-is_subtype_lem text words rows general other =
+unfoldable pub is_subtype : List ℕ → List ℕ → List ℕ → List ℕ → List ℕ → SubtypeLookup
+is_subtype text words rows general other =
     let n = store_refusal text words in
     let done = subtype_answer (account_in text words) rows general other in
     choose (eqb n 0) done (SubtypeRefused n)
@@ -215,7 +214,7 @@ listed_in lent count ws = record { answer = answer 0 count; list = written lent 
 
 -- "Accepted, it returns 0 and the card count": the slice begins with the cards' words. 29 and 30 return their place in the text; 25 is asked last.
 abbrev pub parsed : List ℕ → Reading → ListOutcome
-parsed lent (acceptedBy es) =
+parsed lent (accepted_by es) =
     let cs = cards_read es in
     let done = listed_in lent (length cs) (flat_map words_of_card cs) in
     choose (ltb card_capacity (length cs)) (unlisted lent 25) done

@@ -1,12 +1,11 @@
 -- The room that there is, and the refusals 6, 23, 24 and 25. (1 to 5: Cards; 7: Outcomes; 21 and 22: Store; 26: LentRows.)
-use Rattle.std.specs.Prelude.{List, [], ◌∷◌, ◌++◌, Bool, true, false, ◌||◌, ℕ, ◌+◌, ◌*◌, eqb, leb, ltb, length}
+use Rattle.std.specs.Prelude.{List, [], ◌∷◌, ◌++◌, Bool, false, ◌||◌, ℕ, ◌+◌, ◌*◌, eqb, leb, ltb, length}
 use Rattle.std.proofs.Math.Option.{Option, none, some}
 use Rattle.definition.specs.declared.Answer.{Answer}
 use Rattle.definition.specs.Lists.{choose, found, first, or_else}
 use Rattle.definition.specs.Answers.{answer}
 use Rattle.definition.specs.Cards.{Card, card_words, cards_of, document_fault, is_extension}
 use Rattle.definition.specs.Headings.{Document}
-use Rattle.definition.specs.Errors.{Error}
 use Rattle.definition.specs.Merge.{merge}
 use Rattle.definition.specs.Account.{Account}
 

@@ -1,8 +1,8 @@
 -- What demand 3 says of runs: where a run starts, the store between its calls, and what stands at a place of its list of calls.
 use Rattle.std.specs.Prelude.{◌≡◌, List, [], ◌∷◌, false, ℕ, suc, ◌<◌, take}
-use Rattle.std.proofs.Math.Option.{none, some}
+use Rattle.std.proofs.Math.Option.{some}
 use Rattle.std.proofs.Math.ListN.{get_elem?}
-use Rattle.definition.specs.Answers.{answer, fieldRefusal, subtypeRefusal}
+use Rattle.definition.specs.Answers.{answer, field_refusal, subtype_refusal}
 use Rattle.definition.specs.Account.{Account}
 use Rattle.definition.specs.Store.{too_short, decode}
 use Rattle.definition.specs.Outcomes.{StoreOutcome, BuildOutcome, open_store}
@@ -81,8 +81,8 @@ abbrev pub refusal : Reply → ℕ
 refusal (answered a) = a.number
 refusal (built o) = o.drawing.number
 refusal (named r) = 0
-refusal (fielded f) = fieldRefusal f
-refusal (subtyped b) = subtypeRefusal b
+refusal (fielded f) = field_refusal f
+refusal (subtyped b) = subtype_refusal b
 refusal (listed l) = l.answer.number
 
 -- What a reply says of the slices that its call was lent to write into, at exit.

@@ -1,5 +1,5 @@
 -- How the examples of Table and Examples are written down: documents as quoted texts with card words, drawn as 01's listing draws them.
-use Rattle.std.specs.Prelude.{List, [], ◌∷◌, ◌++◌, Bool, true, false, ℕ}
+use Rattle.std.specs.Prelude.{List, [], ◌∷◌, Bool, ℕ}
 use Rattle.std.proofs.Math.Option.{Option, none, some}
 use Prim.Native.String.{String}
 use Rattle.definition.specs.Lists.{choose, found, flat_map}

@@ -1,4 +1,5 @@
 // The answers of the public entries. Contracts and definitions share these types; specs/ says what each case stands for.
+#![tactic(auto)]
 
 pub mod build_error;
 pub mod layout;
@@ -10,7 +11,7 @@ pub const ABSENT: u32 = 4294967295;
 // A refusal and, for 2 to 6, 27 and 28, the number of the card in its document, for 29 and 30 the place in the text, else 0. An accepted call answers 0 and
 // 0; a call that fills a slice answers 0 and how many things it wrote. A lent document may have more cards than 32 bits count, so the card's number is a usize.
 #[repr(C)]
-#[derive(Drop)]
+#[derive(Clone, Copy)]
 pub struct Answer {
     pub number: u32,
     pub card: usize,
@@ -18,14 +19,14 @@ pub struct Answer {
 
 // One tally for each error number, 1 to 16, and how many errors there are in all.
 #[repr(C)]
-#[derive(Drop)]
+#[derive(Clone, Copy)]
 pub struct Tallies {
     pub counts: [u32; build_error::ERROR_NUMBERS],
     pub total: u32,
 }
 
 // How a name stands to another by the order of their bytes.
-#[derive(Drop)]
+#[derive(Clone, Copy)]
 pub enum NameOrder {
     Before,
     Equal,
@@ -34,7 +35,7 @@ pub enum NameOrder {
 
 // What `build` answers: the refusal or 0, how many rows it wrote, and how many errors arose while reading documents and while drawing.
 #[repr(C)]
-#[derive(Drop)]
+#[derive(Clone, Copy)]
 pub struct Drawing {
     pub number: u32,
     pub rows: u32,
@@ -44,7 +45,7 @@ pub struct Drawing {
 }
 
 // The three root operations, as in ast/mod.rs.
-#[derive(Drop)]
+#[derive(Clone, Copy)]
 pub enum OperationType {
     Query,
     Mutation,
@@ -52,7 +53,7 @@ pub enum OperationType {
 }
 
 // The field that `type_field` found: the card of a field that the type has, or a meta field.
-#[derive(Drop)]
+#[derive(Clone, Copy)]
 pub enum FieldFound {
     Explicit(u32),
     Typename,
@@ -61,7 +62,7 @@ pub enum FieldFound {
 }
 
 // What `type_field` answers. `NoSuchField` has the card of the type's row.
-#[derive(Drop)]
+#[derive(Clone, Copy)]
 pub enum FieldLookup {
     Found(FieldFound),
     NoSuchType,
@@ -70,7 +71,7 @@ pub enum FieldLookup {
 }
 
 // What `is_subtype` answers.
-#[derive(Drop)]
+#[derive(Clone, Copy)]
 pub enum SubtypeLookup {
     Subtype,
     NotSubtype,

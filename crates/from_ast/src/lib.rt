@@ -1,4 +1,6 @@
 // `SchemaBuilder::build_inner` of schema/from_ast.rs: a store is indexed and built over local arrays of one of three sizes.
+#![tactic(auto)]
+
 ghost use Rattle.std.specs.Prelude.{◌≡◌, ◌≤◌, length, take};
 ghost use Rattle.definition.specs.Refusals.{card_capacity};
 ghost use Rattle.definition.specs.Store.{cards_used_of};

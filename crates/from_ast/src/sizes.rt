@@ -16,7 +16,7 @@ pub const MEDIUM_BUCKETS: usize = 1024;
 
 pub const LARGE_BUCKETS: usize = 8192;
 
-#[derive(Drop)]
+#[derive(Clone, Copy)]
 pub enum Size {
     Small,
     Medium,

@@ -1,5 +1,5 @@
 -- The errors of a heading branch by branch, as the code tells them.
-use mathlib.Core.Path.{◌≡◌, refl, sym, ◌∙◌, ap, ap₂, subst}
+use mathlib.Core.Path.{◌≡◌, refl, sym, ◌∙◌, ap, ap₂}
 use mathlib.Core.List.{List, [], ◌∷◌, ◌++◌, append-nil}
 use mathlib.Core.Bool.{Bool, true, false}
 use mathlib.Core.Option.{none, some}
@@ -16,7 +16,6 @@ use Rattle.definition.specs.Answers.{absent}
 use Rattle.definition.specs.Cards.{is_type, definition_of}
 use Rattle.definition.specs.Errors.{Error, error}
 use Rattle.store_reader.specs.Stored.{card_kind, card_name, built_in_at, ignored_at}
-use Rattle.from_ast_collisions.specs.Pushing.{Ledger, push_all, Capacity}
 use Rattle.from_ast_collisions.specs.Earlier.{View, stands_for, collision_under, merge_errors}
 use Rattle.from_ast_collisions.specs.ErrorsByCards.{collides, directive_errors_at, schema_merge_errors, schema_errors_at, schema_extension_errors_at}
 use Rattle.from_ast_collisions.specs.ErrorsByCards.{redefinition_errors_at, is_early, early_errors, type_errors_at, late_errors_at}

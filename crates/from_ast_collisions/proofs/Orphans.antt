@@ -11,7 +11,7 @@ use Rattle.definition.specs.Lists.{All, choose, filter, any, flat_map, firsts}
 use Rattle.definition.specs.Names.{same_name}
 use Rattle.definition.specs.Answers.{absent}
 use Rattle.definition.specs.Headings.{NamedCard, Heading, is_kind, is_type_definition, is_type_extension, is_named, same_named, defines_type, definition}
-use Rattle.definition.specs.Headings.{is_missing, is_orphan, orphans, is_of, extensions_of, parts_of, parts}
+use Rattle.definition.specs.Headings.{is_missing, is_orphan, orphans, is_of, extensions_of, parts_of}
 use Rattle.definition.specs.Catalogue.{of_extensions, part_in, under_type, rows}
 use Rattle.definition.specs.Errors.{Error, heading_error, collisions, adoption_errors, orphan_errors}
 use Rattle.from_ast_collisions.specs.Earlier.{View, collision_under}

@@ -195,8 +195,8 @@ schema_kinds h o t =
 
 -- ---- All of it.
 
-module _ (text words headings_of hashes owners typeCards orphanCards extensionCards : List ℕ) (m t o e : ℕ) (ok : sound text words ≡ true)
-    (x : Indexed text words headings_of hashes owners typeCards orphanCards extensionCards m t o e) where
+module _ (text words headings_of hashes owners type_cards orphan_cards extension_cards : List ℕ) (m t o e : ℕ) (ok : sound text words ≡ true)
+    (x : Indexed text words headings_of hashes owners type_cards orphan_cards extension_cards m t o e) where
   abbrev v : View
   v = view_of text words owners
 

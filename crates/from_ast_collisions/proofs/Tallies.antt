@@ -8,7 +8,6 @@ use lib.Dec.{eqb}
 use lib.ListN.{length, take, drop, get_or, set, replicate, length-set, length-append, get_or-replicate}
 use lib.Seq.{take-length, take-paste, drop-paste, length-paste, paste-zero, drop-drop, get_or-set_same, get_or-set_other, ext_get_or}
 use borrow.Author.Tests.{eqb-true, eqb-false, eq-eqb, ne_eqb}
-use Rattle.definition.specs.declared.Tallies.{Tallies}
 use Rattle.definition.specs.Lists.{All, flat_map, written}
 use Rattle.definition.specs.Errors.{Error}
 use Rattle.definition.specs.Merge.{error_numbers, numbers_from, is_numbered, tally, tallies}

@@ -33,8 +33,8 @@ schema_extension_errors_at v rows schema h = let merged = merge_errors v rows 4 
 unfoldable pub redefinition_errors_at : View → ℕ → List Error
 redefinition_errors_at v h =
     let collision = error 4 h (v.owner h) ∷ [] in
-    let afterBuiltIn = choose (v.ignored h) [] (choose (eqb (v.kind h) 5) (error 5 h absent ∷ []) collision) in
-    choose (v.built_in (v.owner h)) afterBuiltIn collision
+    let after_built_in = choose (v.ignored h) [] (choose (eqb (v.kind h) 5) (error 5 h absent ∷ []) collision) in
+    choose (v.built_in (v.owner h)) after_built_in collision
 
 -- An extension before its definition h, of the kind that h has.
 unfoldable pub is_early : View → ℕ → ℕ → Bool
@@ -61,9 +61,9 @@ errors_at_card v rows schema extensions before h =
     let directive = directive_errors_at v before h in
     let schema_definition = schema_errors_at v rows schema before h in
     let type = type_errors_at v rows extensions h in
-    let schemaExtension = schema_extension_errors_at v rows schema h in
-    let typeExtension = type_extension_errors_at v rows h in
-    let from11 = choose (eqb (v.kind h) 11) schemaExtension typeExtension in
+    let schema_extension = schema_extension_errors_at v rows schema h in
+    let type_extension = type_extension_errors_at v rows h in
+    let from11 = choose (eqb (v.kind h) 11) schema_extension type_extension in
     let from5 = choose (is_type (v.kind h)) type from11 in
     let from4 = choose (eqb (v.kind h) 4) schema_definition from5 in
     let from3 = choose (eqb (v.kind h) 3) directive from4 in

@@ -17,7 +17,7 @@ use ast::kinds;
 use definition::{Tallies, build_error, layout};
 
 // The card that stands for a part, where a list has one of its name.
-#[derive(Drop)]
+#[derive(Clone, Copy)]
 pub enum Earlier {
     Card(u32),
     Nothing,
@@ -66,7 +66,7 @@ pub fn seek_row(rows: &[u32], from: usize, what: u32, card: u32) -> usize
     i
 }
 
-// The same for the row of a heading: the search_lem begins at its card's place.
+// The same for the row of a heading: the search begins at its card's place.
 pub fn row_at(rows: &[u32], places: &[u32], what: u32, card: u32) -> usize
     requires { Placed rows.now places.now
         × (what < 20) }

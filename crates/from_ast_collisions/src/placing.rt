@@ -1,4 +1,4 @@
-// Where the rows of headings begin, by their cards: the search_lem for a heading's row need not pass over all rows before it.
+// Where the rows of headings begin, by their cards: the search for a heading's row need not pass over all rows before it.
 ghost use Rattle.std.specs.Prelude.{◌≡◌, ℕ, ◌+◌, ◌<◌, length, get_or};
 ghost use Rattle.from_ast_collisions.specs.Placing.{word_values, PlacedFrom, Placed};
 

@@ -78,9 +78,9 @@ ascending : (es : List Heading) → Rising es → Ascending (map number_in es)
 ascending [] r = tt
 ascending (e ∷ es) r = (all_picture number_in (λ n. e.number < n) es r.0, ascending es r.1)
 
-module _ {text words headingCards hashes owners orphanCards extensionCards starts ends : List ℕ} {counts : Counts} {adopt : Bool}
+module _ {text words heading_cards hashes owners orphan_cards extension_cards starts ends : List ℕ} {counts : Counts} {adopt : Bool}
     {built : List ℕ} {n : ℕ} {errors : List ℕ}
-    (q : ErrorsAsked text words headingCards hashes owners orphanCards extensionCards starts ends counts adopt built n errors) where
+    (q : ErrorsAsked text words heading_cards hashes owners orphan_cards extension_cards starts ends counts adopt built n errors) where
   abbrev hs : List Heading
   hs = stored_headings text words
 
@@ -92,23 +92,23 @@ module _ {text words headingCards hashes owners orphanCards extensionCards start
 
   known : Known v hs
   known =
-      known_stored text words headingCards hashes owners q.types orphanCards extensionCards m counts.types counts.orphans
+      known_stored text words heading_cards hashes owners q.types orphan_cards extension_cards m counts.types counts.orphans
       counts.extensions q.store_sound q.indexed
 
   -- ---- What the arrays hold.
 
-  headings_taken : take m headingCards ≡ map number_in hs
+  headings_taken : take m heading_cards ≡ map number_in hs
   headings_taken =
-      taken_front m headingCards (map heading_number hs) (cards_used_of words) q.indexed.headings_are (numbers_length ∙ q.indexed.headings_count)
+      taken_front m heading_cards (map heading_number hs) (cards_used_of words) q.indexed.headings_are (numbers_length ∙ q.indexed.headings_count)
       ∙ numbers_map hs
     where
       numbers_length : length (map heading_number hs) ≡ length hs
       numbers_length = length-map hs heading_number
 
-  extensions_taken : take counts.extensions extensionCards ≡ map number_in (filter is_type_extension hs)
+  extensions_taken : take counts.extensions extension_cards ≡ map number_in (filter is_type_extension hs)
   extensions_taken = q.indexed.extensions_are ∙ numbers_map (filter is_type_extension hs)
 
-  orphans_taken : take counts.orphans orphanCards ≡ map number_in (firsts same_named [] (orphans hs))
+  orphans_taken : take counts.orphans orphan_cards ≡ map number_in (firsts same_named [] (orphans hs))
   orphans_taken = q.indexed.orphans_are ∙ numbers_map (firsts same_named [] (orphans hs))
 
   -- A heading's card has its kind.
@@ -117,23 +117,23 @@ module _ {text words headingCards hashes owners orphanCards extensionCards start
       all_with (HeadingTold (heading_of v)) (λ h. h.kind ≤ 17) (λ h. card_kind words h.number ≤ 17) (λ h t l. let e = kind_told v h t in
       omega arith) hs known.told known.most
 
-  headings_held : HeldHeadings words (take m headingCards)
+  headings_held : HeldHeadings words (take m heading_cards)
   headings_held =
       subst (HeldHeadings words) (sym headings_taken)
       (all_picture number_in (λ c. (c < cards_used_of words) × (card_kind words c ≤ 17)) hs
       (all_with (λ h. h.number < cards_used_of words) (λ h. card_kind words h.number ≤ 17)
       (λ h. (h.number < cards_used_of words) × (card_kind words h.number ≤ 17)) (λ h l k. (l, k)) hs known.held kinds_most))
 
-  extensions_held : Held words (take counts.extensions extensionCards)
+  extensions_held : Held words (take counts.extensions extension_cards)
   extensions_held =
       subst (Held words) (sym extensions_taken)
       (all_picture number_in (λ c. c < cards_used_of words) (filter is_type_extension hs) (all_filter (λ h. h.number < cards_used_of words) is_type_extension hs
       known.held))
 
-  extensions_ascend : Ascending (take counts.extensions extensionCards)
+  extensions_ascend : Ascending (take counts.extensions extension_cards)
   extensions_ascend = subst Ascending (sym extensions_taken) (ascending (filter is_type_extension hs) (rising_filter is_type_extension hs known.rising))
 
-  orphans_held : HeldExtensions words (take counts.orphans orphanCards)
+  orphans_held : HeldExtensions words (take counts.orphans orphan_cards)
   unfolding orphans
   orphans_held =
       subst (HeldExtensions words) (sym orphans_taken)
@@ -148,11 +148,11 @@ module _ {text words headingCards hashes owners orphanCards extensionCards start
 
   pub rows_inside : 3 * n ≤ length built
   rows_inside =
-      let l : length (take (3 * n) built) ≡ 3 * n = ap length q.rows_are ∙ (words_length (rows adopt hs) ∙ omega (arith, q.row_count_lem)) in
+      let l : length (take (3 * n) built) ≡ 3 * n = ap length q.rows_are ∙ (words_length (rows adopt hs) ∙ omega (arith, q.row_count)) in
       omega (arith, length-take (3 * n) built)
 
   pub rows_few : 3 * n < word_values
-  rows_few = omega (arith, q.row_count_lem, rows_fit_lem text words q.store_sound adopt)
+  rows_few = omega (arith, q.row_count, rows_fit_lem text words q.store_sound adopt)
 
   schema_is : get_or (take (3 * n) built) 1 0 ≡ number_of (schema_definition hs)
   schema_is =
@@ -162,25 +162,25 @@ module _ {text words headingCards hashes owners orphanCards extensionCards start
 
   -- Both lists, as the code pushes them.
   abbrev reading_pushed : List Error
-  reading_pushed = reading_errors_in text words owners (take (3 * n) built) (take counts.extensions extensionCards) (take m headingCards)
+  reading_pushed = reading_errors_in text words owners (take (3 * n) built) (take counts.extensions extension_cards) (take m heading_cards)
 
   abbrev drawing_pushed : List Error
   drawing_pushed =
-      drawing_errors_in adopt text words owners (take (3 * n) built) (take counts.extensions extensionCards) (take counts.orphans orphanCards)
-      (take m headingCards)
+      drawing_errors_in adopt text words owners (take (3 * n) built) (take counts.extensions extension_cards) (take counts.orphans orphan_cards)
+      (take m heading_cards)
 
   reading_is : reading_pushed ≡ reading_errors [] hs
   reading_is =
-      ap₂ (λ r s. reading_errors_at v r s (take counts.extensions extensionCards) [] (take m headingCards)) q.rows_are schema_is
+      ap₂ (λ r s. reading_errors_at v r s (take counts.extensions extension_cards) [] (take m heading_cards)) q.rows_are schema_is
       ∙ (ap₂ (λ e h. reading_errors_at v (flat_map words_of_row (rows adopt hs)) (number_of (schema_definition hs)) e [] h) extensions_taken headings_taken
       ∙ reading_found v adopt hs known)
 
   drawing_is : drawing_pushed ≡ drawing_errors adopt hs
   drawing_is =
-      ap₂ (λ r s. drawing_errors_at adopt v r s (take counts.extensions extensionCards) (take counts.orphans orphanCards) (take m headingCards))
+      ap₂ (λ r s. drawing_errors_at adopt v r s (take counts.extensions extension_cards) (take counts.orphans orphan_cards) (take m heading_cards))
       q.rows_are schema_is
       ∙ (ap₂ (λ e h. drawing_errors_at adopt v (flat_map words_of_row (rows adopt hs)) (number_of (schema_definition hs)) e
-      (take counts.orphans orphanCards) h) extensions_taken headings_taken
+      (take counts.orphans orphan_cards) h) extensions_taken headings_taken
       ∙ (ap (λ o. drawing_errors_at adopt v (flat_map words_of_row (rows adopt hs)) (number_of (schema_definition hs))
       (map number_in (filter is_type_extension hs)) o (map number_in hs)) orphans_taken
       ∙ drawing_found v adopt hs known))
@@ -188,7 +188,7 @@ module _ {text words headingCards hashes owners orphanCards extensionCards start
   legal : All Legal (all_errors adopt hs)
   unfolding all_errors
   legal =
-      let l = legal_known text words headingCards hashes owners q.types orphanCards extensionCards m counts.types counts.orphans
+      let l = legal_known text words heading_cards hashes owners q.types orphan_cards extension_cards m counts.types counts.orphans
       counts.extensions q.store_sound q.indexed in
       all_append Legal (reading_errors [] hs) (drawing_errors adopt hs) (legal_reading [] hs tt l known.most) (legal_drawing adopt hs l)
 
@@ -203,10 +203,10 @@ module _ {text words headingCards hashes owners orphanCards extensionCards start
 
   -- All that pushing them asks.
   pub push_asked : (places : List ℕ) → Placed (take (3 * n) built) places →
-      Searching text words hashes (take (3 * n) built) places × HeldHeadings words (take m headingCards) × Held words (take counts.extensions
-      extensionCards)
-      × Ascending (take counts.extensions extensionCards) × Spanned words owners (take counts.extensions extensionCards) starts ends
-      × HeldExtensions words (take counts.orphans orphanCards) × ErrorsFit errors no_errors (reading_pushed ++ drawing_pushed)
+      Searching text words hashes (take (3 * n) built) places × HeldHeadings words (take m heading_cards) × Held words (take counts.extensions
+      extension_cards)
+      × Ascending (take counts.extensions extension_cards) × Spanned words owners (take counts.extensions extension_cards) starts ends
+      × HeldExtensions words (take counts.orphans orphan_cards) × ErrorsFit errors no_errors (reading_pushed ++ drawing_pushed)
   push_asked places placed = (
     record { hashed = q.indexed.hashed; placed = placed },
     headings_held,

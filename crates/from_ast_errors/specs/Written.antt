@@ -49,7 +49,7 @@ pub record ErrorsAsked (text words headings hashes owners orphans extensions sta
       Indexed text words headings hashes owners types orphans extensions
       counts.headings counts.types counts.orphans counts.extensions
   pub spanned : Spanned words owners (take counts.extensions extensions) starts ends
-  pub row_count_lem : n ≡ length (rows adopt (stored_headings text words))
+  pub row_count : n ≡ length (rows adopt (stored_headings text words))
   pub rows_are : take (3 * n) built ≡ flat_map words_of_row (rows adopt (stored_headings text words))
   pub errors_most : length (all_errors adopt (stored_headings text words)) ≤ card_capacity
   pub errors_capacity_lem : 3 * length (all_errors adopt (stored_headings text words)) ≤ length errors

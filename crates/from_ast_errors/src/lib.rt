@@ -1,4 +1,6 @@
 // from_ast.rs: the errors of a build, in the order in which the Rust pushes them. The finished rows tell which card stands for a name.
+#![tactic(auto)]
+
 ghost use Rattle.std.specs.Prelude.{◌++◌};
 ghost use Rattle.store_reader.specs.Stored.{stored_headings};
 ghost use Rattle.from_ast_index.specs.Index.{Spanned};
@@ -19,7 +21,7 @@ pub mod reading;
 pub mod redefinitions;
 
 // How many errors arose while reading documents and while building, and the tallies of all.
-#[derive(Drop)]
+#[derive(Clone, Copy)]
 pub struct ErrorCounts {
     pub reading: u32,
     pub drawing: u32,
@@ -85,19 +87,19 @@ pub fn write_errors(
     counts: Counts,
     adopt: bool,
     rows: &[u32],
-    row_count_lem: usize,
+    row_count: usize,
     places: &mut [u32],
     errors: &mut [u32],
 ) -> ErrorCounts
     requires { ErrorsAsked text.now words.now headings.now hashes.now owners.now orphans.now extensions.now
-        starts.now ends.now counts adopt rows.now row_count_lem errors.old }
+        starts.now ends.now counts adopt rows.now row_count errors.old }
     ensures { ErrorsWritten adopt (stored_headings text.now words.now) errors.old
         errors.new result }
 {
     let m = counts.headings;
     let o = counts.orphans;
     let e = counts.extensions;
-    let end = layout::ROW_WORDS * row_count_lem;
+    let end = layout::ROW_WORDS * row_count;
     let extensions = &extensions[0..e];
     let rows = &rows[0..end];
     let orphans = &orphans[0..o];

@@ -3,7 +3,7 @@ use mathlib.Core.Path.{◌≡◌, sym, ◌∙◌, ap}
 use mathlib.Core.List.{List, [], map}
 use mathlib.Core.Bool.{Bool}
 use mathlib.Core.Option.{some}
-use Prim.Native.Nat.{ℕ, ◌-◌, ◌<◌}
+use Prim.Native.Nat.{ℕ, ◌<◌}
 use native.Mathlib.Omega.{arith}
 use lib.ListN.{length, take, get_or, get_elem?}
 use lib.Seq.{get_or-take}
@@ -42,17 +42,17 @@ module _ (text words : List ℕ) where
       ∙ ap some (all_get (Standing text words) hs a k g.0 g.1).1
       ∙ ap (λ (c : ℕ). some (heading_at text words c)) (sym number)
 
-module _ (text words headings hashes owners typeCards orphanCards extensionCards : List ℕ) (m t o e : ℕ)
-    (x : Indexed text words headings hashes owners typeCards orphanCards extensionCards m t o e) where
-  pub type_here : (k : ℕ) → k < t → get_elem? (defined_types (stored_headings text words)) k ≡ some (heading_at text words (get_or typeCards k 0))
+module _ (text words headings hashes owners type_cards orphan_cards extension_cards : List ℕ) (m t o e : ℕ)
+    (x : Indexed text words headings hashes owners type_cards orphan_cards extension_cards m t o e) where
+  pub type_here : (k : ℕ) → k < t → get_elem? (defined_types (stored_headings text words)) k ≡ some (heading_at text words (get_or type_cards k 0))
   unfolding defined_types
   type_here =
       entry_is text words (defined_types (stored_headings text words))
-      (all_firsts (Standing text words) same_named [] (filter _ (stored_headings text words)) (kept_stand text words _)) typeCards t x.types_are
+      (all_firsts (Standing text words) same_named [] (filter _ (stored_headings text words)) (kept_stand text words _)) type_cards t x.types_are
       x.types_count
 
   pub extension_here : (k : ℕ) → k < e →
-      get_elem? (filter is_type_extension (stored_headings text words)) k ≡ some (heading_at text words (get_or extensionCards k 0))
+      get_elem? (filter is_type_extension (stored_headings text words)) k ≡ some (heading_at text words (get_or extension_cards k 0))
   extension_here =
-      entry_is text words (filter is_type_extension (stored_headings text words)) (kept_stand text words is_type_extension) extensionCards e x.extensions_are
+      entry_is text words (filter is_type_extension (stored_headings text words)) (kept_stand text words is_type_extension) extension_cards e x.extensions_are
       x.extensions_count

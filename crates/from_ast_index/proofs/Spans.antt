@@ -155,8 +155,8 @@ type_defines hs k h e =
     ∙ sym (first_firsts same_named (same_named h) (named_fair h) [] (filter is_type_definition hs) (any_nil (same_named h)))
     ∙ (first_itself same_named named_self [] (filter is_type_definition hs) k h e).1
 
-module _ (text words headings hashes owners typeCards orphanCards extensionCards : List ℕ) (m t o e : ℕ)
-    (x : Indexed text words headings hashes owners typeCards orphanCards extensionCards m t o e) where
+module _ (text words headings hashes owners type_cards orphan_cards extension_cards : List ℕ) (m t o e : ℕ)
+    (x : Indexed text words headings hashes owners type_cards orphan_cards extension_cards m t o e) where
   extends_typed : (h : Heading) → is_type_extension h ≡ true → is_typed h ≡ true
   unfolding is_typed
   extends_typed h y = rw y (or_true (is_type_definition h))
@@ -173,30 +173,30 @@ module _ (text words headings hashes owners typeCards orphanCards extensionCards
       (stored_headings text words)
       (λ k h at y. x.owners_are k h at (extends_typed h y)))
 
-  module _ (k i : ℕ) (k-t : k < t) (i-e : i < e) (same : same_cards text words (get_or typeCards k 0) (get_or extensionCards i 0) ≡ true) where
-    pub owner_is_type : get_or owners (get_or extensionCards i 0) 0 ≡ get_or typeCards k 0
+  module _ (k i : ℕ) (k-t : k < t) (i-e : i < e) (same : same_cards text words (get_or type_cards k 0) (get_or extension_cards i 0) ≡ true) where
+    pub owner_is_type : get_or owners (get_or extension_cards i 0) 0 ≡ get_or type_cards k 0
     unfolding same_cards number_of
     owner_is_type =
-        let c : Heading = heading_at text words (get_or typeCards k 0) in
-        let d : Heading = heading_at text words (get_or extensionCards i 0) in
-        let here = type_here text words headings hashes owners typeCards orphanCards extensionCards m t o e x k k-t in
-        let there = extension_here text words headings hashes owners typeCards orphanCards extensionCards m t o e x i i-e in
-        let named : c.name ≡ d.name = same_name_eq (card_name text words (get_or typeCards k 0)) (card_name text words (get_or extensionCards i 0)) same in
+        let c : Heading = heading_at text words (get_or type_cards k 0) in
+        let d : Heading = heading_at text words (get_or extension_cards i 0) in
+        let here = type_here text words headings hashes owners type_cards orphan_cards extension_cards m t o e x k k-t in
+        let there = extension_here text words headings hashes owners type_cards orphan_cards extension_cards m t o e x i i-e in
+        let named : c.name ≡ d.name = same_name_eq (card_name text words (get_or type_cards k 0)) (card_name text words (get_or extension_cards i 0)) same in
         all_get (λ h. get_or owners h.number 0 ≡ number_of (definition h.name (stored_headings text words)))
         (filter is_type_extension (stored_headings text words)) extension_owners i d there
         ∙ ap (λ (n : List ℕ). number_of (definition n (stored_headings text words))) (sym named)
         ∙ ap number_of (type_defines (stored_headings text words) k c here)
 
-  module _ (starts ends : List ℕ) (s : Spanned words owners (take e extensionCards) starts ends) where
-    extensions_length : length (take e extensionCards) ≡ e
-    extensions_length = length-take-le e extensionCards (omega (arith, x.extensions_most, x.headings_most, x.extensions_length))
+  module _ (starts ends : List ℕ) (s : Spanned words owners (take e extension_cards) starts ends) where
+    extensions_length : length (take e extension_cards) ≡ e
+    extensions_length = length-take-le e extension_cards (omega (arith, x.extensions_most, x.headings_most, x.extensions_length))
 
     -- The extensions of a type's name stand in its part.
-    pub of_type_spanned : (k i : ℕ) → k < t → i < e → same_cards text words (get_or typeCards k 0) (get_or extensionCards i 0) ≡ true →
-        (get_or starts (get_or typeCards k 0) 0 ≤ i) × (i < get_or ends (get_or typeCards k 0) 0)
+    pub of_type_spanned : (k i : ℕ) → k < t → i < e → same_cards text words (get_or type_cards k 0) (get_or extension_cards i 0) ≡ true →
+        (get_or starts (get_or type_cards k 0) 0 ≤ i) × (i < get_or ends (get_or type_cards k 0) 0)
     of_type_spanned k i k-t i-e same =
-        let at : owner_at owners (take e extensionCards) i ≡ get_or typeCards k 0 =
-        ap (λ (c : ℕ). get_or owners c 0) (get_or-take e extensionCards i 0 i-e) ∙ owner_is_type k i k-t i-e same in
+        let at : owner_at owners (take e extension_cards) i ≡ get_or type_cards k 0 =
+        ap (λ (c : ℕ). get_or owners c 0) (get_or-take e extension_cards i 0 i-e) ∙ owner_is_type k i k-t i-e same in
         let stored = x.types_stored k k-t in
         let n = extensions_length in (
           rw at at (s.starts_are.at_or_after i (omega arith) (omega arith) (omega (arith, at, s.starts_length))),
@@ -204,15 +204,15 @@ module _ (text words headings hashes owners typeCards orphanCards extensionCards
         )
 
     -- Whatever asks for the name of a type keeps of all extensions what it keeps of the type's part.
-    pub kept_spanned : (k : ℕ) → k < t → (p : ℕ → Bool) → ((d : ℕ) → p d ≡ true → same_cards text words (get_or typeCards k 0) d ≡ true) →
-        filter p (take e extensionCards) ≡ filter p (own_extensions (take e extensionCards) starts ends (get_or typeCards k 0))
+    pub kept_spanned : (k : ℕ) → k < t → (p : ℕ → Bool) → ((d : ℕ) → p d ≡ true → same_cards text words (get_or type_cards k 0) d ≡ true) →
+        filter p (take e extension_cards) ≡ filter p (own_extensions (take e extension_cards) starts ends (get_or type_cards k 0))
     unfolding own_extensions
     kept_spanned k k-t p asks =
-        filter_part p (take e extensionCards) (get_or starts (get_or typeCards k 0) 0) (get_or ends (get_or typeCards k 0) 0) (λ i l y. within i l y)
+        filter_part p (take e extension_cards) (get_or starts (get_or type_cards k 0) 0) (get_or ends (get_or type_cards k 0) 0) (λ i l y. within i l y)
       where
-        within : (i : ℕ) → i < length (take e extensionCards) → p (get_or (take e extensionCards) i 0) ≡ true →
-            (get_or starts (get_or typeCards k 0) 0 ≤ i) × (i < get_or ends (get_or typeCards k 0) 0)
+        within : (i : ℕ) → i < length (take e extension_cards) → p (get_or (take e extension_cards) i 0) ≡ true →
+            (get_or starts (get_or type_cards k 0) 0 ≤ i) × (i < get_or ends (get_or type_cards k 0) 0)
         within i l y =
             let n = extensions_length in
             let i-e : i < e = omega arith in
-            of_type_spanned k i k-t i-e (asks (get_or extensionCards i 0) (ap p (sym (get_or-take e extensionCards i 0 i-e)) ∙ y))
+            of_type_spanned k i k-t i-e (asks (get_or extension_cards i 0) (ap p (sym (get_or-take e extension_cards i 0 i-e)) ∙ y))

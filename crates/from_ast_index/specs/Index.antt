@@ -62,7 +62,7 @@ pub record Cards (text words hashes cards : List ℕ) : Type 0 where
   pub few : length cards ≤ cards_used_of words
 
 -- The counts say how far each array is used.
-pub record Indexed (text words headings hashes owners typeCards orphanCards extensionCards : List ℕ)
+pub record Indexed (text words headings hashes owners type_cards orphan_cards extension_cards : List ℕ)
     (heading_count type_count orphan_count extension_count : ℕ) : Type 0 where
   -- The headings' cards in order, then the number of cards: the parts of heading k are the cards between the entries k and k + 1.
   pub headings_are : take (heading_count + 1) headings ≡ map heading_number (stored_headings text words) ++ (cards_used_of words ∷ [])
@@ -72,9 +72,9 @@ pub record Indexed (text words headings hashes owners typeCards orphanCards exte
       (k : ℕ) (h : Heading) → get_elem? (stored_headings text words) k ≡ some h → is_typed h ≡ true →
       get_or owners h.number 0 ≡ number_of (definition h.name (stored_headings text words))
   -- The first definition of each type, the first orphan of each name, and all type extensions.
-  pub types_are : take type_count typeCards ≡ map heading_number (defined_types (stored_headings text words))
-  pub orphans_are : take orphan_count orphanCards ≡ map heading_number (firsts same_named [] (orphans (stored_headings text words)))
-  pub extensions_are : take extension_count extensionCards ≡ map heading_number (filter is_type_extension (stored_headings text words))
+  pub types_are : take type_count type_cards ≡ map heading_number (defined_types (stored_headings text words))
+  pub orphans_are : take orphan_count orphan_cards ≡ map heading_number (firsts same_named [] (orphans (stored_headings text words)))
+  pub extensions_are : take extension_count extension_cards ≡ map heading_number (filter is_type_extension (stored_headings text words))
   -- Counts.
   pub headings_count : length (stored_headings text words) ≡ heading_count
   pub types_count : length (defined_types (stored_headings text words)) ≡ type_count
@@ -87,13 +87,13 @@ pub record Indexed (text words headings hashes owners typeCards orphanCards exte
   pub extensions_most : extension_count ≤ heading_count
   pub headings_length : cards_used_of words < length headings
   pub owners_length : cards_used_of words ≤ length owners
-  pub types_length : cards_used_of words ≤ length typeCards
-  pub orphans_length : cards_used_of words ≤ length orphanCards
-  pub extensions_length : cards_used_of words ≤ length extensionCards
+  pub types_length : cards_used_of words ≤ length type_cards
+  pub orphans_length : cards_used_of words ≤ length orphan_cards
+  pub extensions_length : cards_used_of words ≤ length extension_cards
   pub headings_stored : (k : ℕ) → k < heading_count → get_or headings k 0 < cards_used_of words
-  pub types_stored : (k : ℕ) → k < type_count → get_or typeCards k 0 < cards_used_of words
-  pub orphans_stored : (k : ℕ) → k < orphan_count → get_or orphanCards k 0 < cards_used_of words
-  pub extensions_stored : (k : ℕ) → k < extension_count → get_or extensionCards k 0 < cards_used_of words
+  pub types_stored : (k : ℕ) → k < type_count → get_or type_cards k 0 < cards_used_of words
+  pub orphans_stored : (k : ℕ) → k < orphan_count → get_or orphan_cards k 0 < cards_used_of words
+  pub extensions_stored : (k : ℕ) → k < extension_count → get_or extension_cards k 0 < cards_used_of words
 
 -- ---- Where the extensions of a type stand among all extensions.
 

@@ -1,4 +1,6 @@
 // The arrays that build reads: how many there are of what, and the reads of them that several walks share. Crate `from_ast_indexing` fills them.
+#![tactic(auto)]
+
 ghost use Rattle.std.specs.Prelude.{◌≡◌, ◌<◌, length};
 ghost use Rattle.definition.specs.Store.{cards_used_of};
 ghost use Rattle.from_ast_index.specs.Index.{same_cards, Hashed, own_extensions};
@@ -6,7 +8,7 @@ ghost use Rattle.from_ast_index.specs.Index.{same_cards, Hashed, own_extensions}
 use definition::NameOrder;
 
 // How many headings, types, orphaned names and type extensions there are.
-#[derive(Drop)]
+#[derive(Clone, Copy)]
 pub struct Counts {
     pub headings: usize,
     pub types: usize,

@@ -31,29 +31,29 @@ use Rattle.from_ast_indexing.specs.Extensions.{OrphanTurn, OrphansAre}
 rest_is : (n : ℕ) (xs : List ℕ) → take (length xs - n) (drop n xs) ≡ drop n xs
 rest_is n xs = take_all (length xs - n) (drop n xs) (omega (arith, length-drop n xs))
 
-module _ (text words hashes types typeHashes owners extensions : List ℕ) (card count : ℕ)
-    (a : ExtensionAsked text words hashes types typeHashes owners extensions card count) where
-  extension_searched : Searched text words types typeHashes card (get_or hashes card 0)
+module _ (text words hashes types type_hashes owners extensions : List ℕ) (card count : ℕ)
+    (a : ExtensionAsked text words hashes types type_hashes owners extensions card count) where
+  extension_searched : Searched text words types type_hashes card (get_or hashes card 0)
   extension_searched = record { hashes_are = a.hashes_are; hash_is = hash_at text words hashes a.hashed card a.stored }
 
   pub extension_asks : (from : ℕ) →
-      Searched text words (take (length types - from) (drop from types)) (take (length typeHashes - from) (drop from typeHashes)) card (get_or hashes card 0)
+      Searched text words (take (length types - from) (drop from types)) (take (length type_hashes - from) (drop from type_hashes)) card (get_or hashes card 0)
   extension_asks from =
-      rw (rest_is from types, rest_is from typeHashes)
-      (searched_from text words types typeHashes card (get_or hashes card 0) extension_searched from)
+      rw (rest_is from types, rest_is from type_hashes)
+      (searched_from text words types type_hashes card (get_or hashes card 0) extension_searched from)
 
-  pub same_lengths : length typeHashes ≡ length types
-  same_lengths = search_length text words types typeHashes card (get_or hashes card 0) extension_searched
+  pub same_lengths : length type_hashes ≡ length types
+  same_lengths = search_length text words types type_hashes card (get_or hashes card 0) extension_searched
 
-  pub extension_found : (buckets : List ℕ) → Hinted typeHashes buckets → (from : ℕ) → from ≤ length typeHashes →
+  pub extension_found : (buckets : List ℕ) → Hinted type_hashes buckets → (from : ℕ) → from ≤ length type_hashes →
       from ≤ get_or buckets (get_or hashes card 0 % length buckets) 0 →
       entry_of (find (same_cards text words card) types) ≡ entry_of (find (same_cards text words card) (take (length types - from) (drop from types)))
   extension_found buckets h from m l = rw (rest_is from types) found_from
     where
       found_from : entry_of (find (same_cards text words card) types) ≡ entry_of (find (same_cards text words card) (drop from types))
       found_from =
-          search_from text words types typeHashes card (get_or hashes card 0) extension_searched from (omega (arith, same_lengths))
-          (λ j k. hint_passed typeHashes buckets h (get_or hashes card 0) from l j k (omega arith))
+          search_from text words types type_hashes card (get_or hashes card 0) extension_searched from (omega (arith, same_lengths))
+          (λ j k. hint_passed type_hashes buckets h (get_or hashes card 0) from l j k (omega arith))
 
   module _ (kind : ℕ) (b : Bool) (k : kind ≡ card_kind words card) (q : b ≡ (leb 12 kind && leb kind 17)) where
     kind_is : is_type_extension_kind (card_kind words card) ≡ b
@@ -156,9 +156,9 @@ module _ (text words hashes headings : List ℕ) (cs : Cards text words hashes h
 
 -- ---- An extension and the orphans.
 
-module _ (text words hashes owners orphans orphanHashes : List ℕ) (card count : ℕ)
-    (a : OrphanAsked text words hashes owners orphans orphanHashes card count) where
-  pub orphan_skipped : (get_or owners card 0 ≡ absent → ⊥) → OrphanTurn text words owners card count count orphans orphans orphanHashes
+module _ (text words hashes owners orphans orphan_hashes : List ℕ) (card count : ℕ)
+    (a : OrphanAsked text words hashes owners orphans orphan_hashes card count) where
+  pub orphan_skipped : (get_or owners card 0 ≡ absent → ⊥) → OrphanTurn text words owners card count count orphans orphans orphan_hashes
   unfolding is_unowned
   orphan_skipped d = record {
     orphans_are = rw (ne_eqb (get_or owners card 0) absent d);
@@ -166,7 +166,7 @@ module _ (text words hashes owners orphans orphanHashes : List ℕ) (card count 
     count_most = omega arith;
   }
 
-  pub orphan_asks : Entering text words orphans orphanHashes 0 count card (get_or hashes card 0)
+  pub orphan_asks : Entering text words orphans orphan_hashes 0 count card (get_or hashes card 0)
   orphan_asks = record {
     searched = record { hashes_are = a.hashes_are; hash_is = hash_at text words hashes a.hashed card a.stored };
     from_most = omega arith;
@@ -185,12 +185,12 @@ module _ (text words hashes owners orphans orphanHashes : List ℕ) (card count 
     count_most = w.count_most;
   }
 
-pub orphans_none : (text words owners extensions orphans orphanHashes : List ℕ) → OrphansAre text words owners extensions orphans orphanHashes 0 0
+pub orphans_none : (text words owners extensions orphans orphan_hashes : List ℕ) → OrphansAre text words owners extensions orphans orphan_hashes 0 0
 unfolding filter firsts
-orphans_none text words owners extensions orphans orphanHashes = record { orphans_are = refl; hashes_are = refl; orphans_most = omega arith }
+orphans_none text words owners extensions orphans orphan_hashes = record { orphans_are = refl; hashes_are = refl; orphans_most = omega arith }
 
 module _ (text words owners extensions : List ℕ) (k : ℕ) (h : k < length extensions) where
-  module _ (orphans orphanHashes : List ℕ) (o : ℕ) (i : OrphansAre text words owners extensions orphans orphanHashes k o)
+  module _ (orphans orphan_hashes : List ℕ) (o : ℕ) (i : OrphansAre text words owners extensions orphans orphan_hashes k o)
       (orphans' orphan_hashes' : List ℕ) (r : ℕ) (w : OrphanTurn text words owners (get_or extensions k 0) o r orphans orphans' orphan_hashes') where
     orphans_more : (b : Bool) → is_unowned owners (get_or extensions k 0) ≡ b →
         take r orphans' ≡ firsts (same_cards text words) [] (filter (is_unowned owners) (take (k + 1) extensions))

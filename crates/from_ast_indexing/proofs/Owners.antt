@@ -41,9 +41,9 @@ module _ (text words hashes cards owners₀ types₀ orphans₀ extensions₀ sc
   all_stored : All (λ c. c < cards_used_of words) cards
   all_stored = all_places (λ c. c < cards_used_of words) cards a.all_cards.stored
 
-  module _ (owners₁ types₁ typeHashes₁ : List ℕ) (t : ℕ) (ty : TypesAre text words cards owners₁ types₁ typeHashes₁ (length cards) t)
+  module _ (owners₁ types₁ type_hashes₁ : List ℕ) (t : ℕ) (ty : TypesAre text words cards owners₁ types₁ type_hashes₁ (length cards) t)
       (kept : length owners₁ ≡ length owners₀) where
-    pub extensions_ready : ExtensionsAsked text words hashes cards (take t types₁) (take t typeHashes₁) owners₁ extensions₀
+    pub extensions_ready : ExtensionsAsked text words hashes cards (take t types₁) (take t type_hashes₁) owners₁ extensions₀
     extensions_ready = record {
       cards = a.all_cards;
       hashes_are = ty.hashes_are;
@@ -60,8 +60,8 @@ module _ (text words hashes cards owners₀ types₀ orphans₀ extensions₀ sc
       extension_stored =
           rw extended (all_filter (λ c. c < cards_used_of words) (is_extension_card words) cards all_stored)
 
-      pub orphans_ready : length owners₂ ≡ length owners₁ → length typeHashes₁ ≡ length scratch₀ →
-          OrphansAsked text words hashes owners₂ (take e extensions₂) orphans₀ typeHashes₁
+      pub orphans_ready : length owners₂ ≡ length owners₁ → length type_hashes₁ ≡ length scratch₀ →
+          OrphansAsked text words hashes owners₂ (take e extensions₂) orphans₀ type_hashes₁
       orphans_ready l s = record {
         hashed = a.all_cards.hashed;
         stored = all_at (λ c. c < cards_used_of words) (take e extensions₂) extension_stored;
@@ -74,10 +74,10 @@ module _ (text words hashes cards owners₀ types₀ orphans₀ extensions₀ sc
       typed : take t types₁ ≡ firsts (same_cards text words) [] (filter (is_type_card words) cards)
       typed = ty.types_are ∙ ap (λ (l : List ℕ). firsts (same_cards text words) [] (filter (is_type_card words) l)) (take-length cards)
 
-      pub owners_done : t' ≡ t → (e' : ℕ) (orphans₃ orphanHashes₃ : List ℕ) (o : ℕ) → e' ≡ e →
-          OrphansAre text words owners₂ (take e' extensions₂) orphans₃ orphanHashes₃ (length (take e' extensions₂)) o →
+      pub owners_done : t' ≡ t → (e' : ℕ) (orphans₃ orphan_hashes₃ : List ℕ) (o : ℕ) → e' ≡ e →
+          OrphansAre text words owners₂ (take e' extensions₂) orphans₃ orphan_hashes₃ (length (take e' extensions₂)) o →
           OwnersAre text words cards owners₂ types₁ orphans₃ extensions₂ (record { headings = length cards; types = t; orphans = o; extensions = e })
-      owners_done same e' orphans₃ orphanHashes₃ o x r = record {
+      owners_done same e' orphans₃ orphan_hashes₃ o x r = record {
         headings_are = refl;
         types_are = typed;
         extensions_are = extended;

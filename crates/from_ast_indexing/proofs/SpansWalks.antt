@@ -2,7 +2,7 @@
 use mathlib.Core.Path.{◌≡◌, refl, ap}
 use mathlib.Core.List.{List}
 use mathlib.Core.Bool.{Bool, true, false}
-use Prim.Native.Nat.{ℕ, ◌+◌, ◌-◌, ◌≤◌, ◌<◌}
+use Prim.Native.Nat.{ℕ, ◌+◌, ◌≤◌, ◌<◌}
 use native.Mathlib.Omega.{arith}
 use lib.Dec.{eqb}
 use lib.ListN.{length, take, get_or, set, length-set}
@@ -64,13 +64,13 @@ module _ (owners extensions : List ℕ) where
       StartsAre owners extensions (set starts (owner_at owners extensions k) k) k
   starts_turn starts k s = record { at_or_after = earlier_starts (owner_at owners extensions) starts k (length extensions) s.at_or_after }
 
-module _ (text words headings hashes owners typeCards orphanCards extensionCards : List ℕ) (m t o e : ℕ)
-    (x : Indexed text words headings hashes owners typeCards orphanCards extensionCards m t o e) where
-  pub spans_ready : SpansAsked owners (take e extensionCards)
+module _ (text words headings hashes owners type_cards orphan_cards extension_cards : List ℕ) (m t o e : ℕ)
+    (x : Indexed text words headings hashes owners type_cards orphan_cards extension_cards m t o e) where
+  pub spans_ready : SpansAsked owners (take e extension_cards)
   spans_ready = record {
-    stored = λ j h. in_owners j (omega (arith, h, taken_most e extensionCards));
-    few = omega (arith, taken_most e extensionCards, x.extensions_most, x.headings_most, x.hashed.cards_most);
+    stored = λ j h. in_owners j (omega (arith, h, taken_most e extension_cards));
+    few = omega (arith, taken_most e extension_cards, x.extensions_most, x.headings_most, x.hashed.cards_most);
   }
     where
-      in_owners : (j : ℕ) → j < e → get_or (take e extensionCards) j 0 < length owners
-      in_owners j h = omega (arith, get_or-take e extensionCards j 0 h, x.extensions_stored j h, x.owners_length)
+      in_owners : (j : ℕ) → j < e → get_or (take e extension_cards) j 0 < length owners
+      in_owners j h = omega (arith, get_or-take e extension_cards j 0 h, x.extensions_stored j h, x.owners_length)

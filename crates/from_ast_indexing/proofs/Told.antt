@@ -169,11 +169,11 @@ module _ (text words headings : List ℕ) (m : ℕ) (capacity : cards_used_of wo
   count_of : (hs : List Heading) (cards : List ℕ) (n : ℕ) → take n cards ≡ map heading_number hs → n ≤ length cards → length hs ≡ n
   count_of hs cards n e l = sym (length-map hs heading_number) ∙ ap length (sym e) ∙ length-take-le n cards l
 
-  module _ (hashes owners typeCards orphanCards extensionCards : List ℕ) (p : Hashed text words hashes) (r : Counts)
-      (w : OwnersAre text words (take m headings) owners typeCards orphanCards extensionCards r)
-      (owners_length : cards_used_of words ≤ length owners) (types_length : cards_used_of words ≤ length typeCards)
-      (orphans_length : cards_used_of words ≤ length orphanCards)
-      (extensions_length : cards_used_of words ≤ length extensionCards) where
+  module _ (hashes owners type_cards orphan_cards extension_cards : List ℕ) (p : Hashed text words hashes) (r : Counts)
+      (w : OwnersAre text words (take m headings) owners type_cards orphan_cards extension_cards r)
+      (owners_length : cards_used_of words ≤ length owners) (types_length : cards_used_of words ≤ length type_cards)
+      (orphans_length : cards_used_of words ≤ length orphan_cards)
+      (extensions_length : cards_used_of words ≤ length extension_cards) where
     hs : List Heading
     hs = stored_headings text words
 
@@ -190,11 +190,11 @@ module _ (text words headings : List ℕ) (m : ℕ) (capacity : cards_used_of wo
     e_most : r.extensions ≤ m
     e_most = omega (arith, w.extensions_most, taken_length)
 
-    types_are : take r.types typeCards ≡ map heading_number (defined_types hs)
+    types_are : take r.types type_cards ≡ map heading_number (defined_types hs)
     unfolding hs
     types_are = w.types_are ∙ ap (λ (l : List ℕ). firsts (same_cards text words) [] (filter (is_type_card words) l)) taken ∙ types_told text words hs all_told
 
-    extensions_are : take r.extensions extensionCards ≡ map heading_number (filter is_type_extension hs)
+    extensions_are : take r.extensions extension_cards ≡ map heading_number (filter is_type_extension hs)
     unfolding hs
     extensions_are = w.extensions_are ∙ ap (filter (is_extension_card words)) taken ∙ kept_extensions text words hs all_told
 
@@ -246,7 +246,7 @@ module _ (text words headings : List ℕ) (m : ℕ) (capacity : cards_used_of wo
         go false true d x z = extension_owner k h e x
         go false false d x z = never (sym z)
 
-    orphans_are : take r.orphans orphanCards ≡ map heading_number (firsts same_named [] (orphans hs))
+    orphans_are : take r.orphans orphan_cards ≡ map heading_number (firsts same_named [] (orphans hs))
     unfolding hs
     orphans_are =
         w.orphans_are
@@ -265,7 +265,7 @@ module _ (text words headings : List ℕ) (m : ℕ) (capacity : cards_used_of wo
     unfolding orphans
     told_orphans = told_firsts (filter (is_orphan hs) hs) (told_kept text words (is_orphan hs) hs all_told)
 
-    pub indexed : Indexed text words headings hashes owners typeCards orphanCards extensionCards r.headings r.types r.orphans r.extensions
+    pub indexed : Indexed text words headings hashes owners type_cards orphan_cards extension_cards r.headings r.types r.orphans r.extensions
     unfolding hs
     indexed = rw r_headings (record {
       headings_are = is.headings_are text;
@@ -275,10 +275,10 @@ module _ (text words headings : List ℕ) (m : ℕ) (capacity : cards_used_of wo
       orphans_are = orphans_are;
       extensions_are = extensions_are;
       headings_count = is.headings_count text;
-      types_count = count_of (defined_types hs) typeCards r.types types_are (omega (arith, t_most, is.headings_most));
-      orphans_count = count_of (firsts same_named [] (orphans hs)) orphanCards r.orphans orphans_are
+      types_count = count_of (defined_types hs) type_cards r.types types_are (omega (arith, t_most, is.headings_most));
+      orphans_count = count_of (firsts same_named [] (orphans hs)) orphan_cards r.orphans orphans_are
           (omega (arith, w.orphans_most, e_most, is.headings_most));
-      extensions_count = count_of (filter is_type_extension hs) extensionCards r.extensions extensions_are (omega (arith, e_most, is.headings_most));
+      extensions_count = count_of (filter is_type_extension hs) extension_cards r.extensions extensions_are (omega (arith, e_most, is.headings_most));
       headings_most = is.headings_most;
       types_most = t_most;
       orphans_most = w.orphans_most;
@@ -289,12 +289,12 @@ module _ (text words headings : List ℕ) (m : ℕ) (capacity : cards_used_of wo
       orphans_length = orphans_length;
       extensions_length = extensions_length;
       headings_stored = stored_of_lem hs all_told headings m taken (omega (arith, is.headings_most));
-      types_stored = stored_of_lem (defined_types hs) told_types typeCards r.types types_are (omega (arith, t_most, is.headings_most));
+      types_stored = stored_of_lem (defined_types hs) told_types type_cards r.types types_are (omega (arith, t_most, is.headings_most));
       orphans_stored =
-          stored_of_lem (firsts same_named [] (orphans hs)) told_orphans orphanCards r.orphans orphans_are
+          stored_of_lem (firsts same_named [] (orphans hs)) told_orphans orphan_cards r.orphans orphans_are
           (omega (arith, w.orphans_most, e_most, is.headings_most));
       extensions_stored =
-          stored_of_lem (filter is_type_extension hs) (told_kept text words is_type_extension hs all_told) extensionCards r.extensions extensions_are
+          stored_of_lem (filter is_type_extension hs) (told_kept text words is_type_extension hs all_told) extension_cards r.extensions extensions_are
           (omega (arith, e_most, is.headings_most));
     })
 

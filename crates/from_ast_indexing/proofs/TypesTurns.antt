@@ -3,7 +3,7 @@ use mathlib.Core.Path.{◌≡◌, refl, sym, ◌∙◌, ap}
 use mathlib.Core.List.{List, [], ◌∷◌, ◌++◌, map}
 use mathlib.Core.Bool.{Bool, true, false}
 use mathlib.Core.Option.{Option, none, some}
-use Prim.Native.Nat.{ℕ, suc, ◌+◌, ◌-◌, ◌%◌, ◌≤◌, ◌<◌}
+use Prim.Native.Nat.{ℕ, suc, ◌+◌, ◌%◌, ◌≤◌, ◌<◌}
 use native.Mathlib.Omega.{arith}
 use lib.Dec.{ltb}
 use lib.ListN.{length, take, drop, get_or, set}
@@ -22,22 +22,22 @@ use Rattle.from_ast_indexing.proofs.Hints.{hint_passed, hint_kept, hint_more}
 use Rattle.from_ast_indexing.proofs.EntryNames.{apart, kept_yes, kept_no, kept_split, firsts_entered, owner_entered}
 use Rattle.from_ast_indexing.specs.Types.{is_type_card, TypeAsked, TypeTurn, TypesAre}
 
-module _ (text words hashes owners types typeHashes : List ℕ) (card count : ℕ) (a : TypeAsked text words hashes owners types typeHashes card count) where
+module _ (text words hashes owners types type_hashes : List ℕ) (card count : ℕ) (a : TypeAsked text words hashes owners types type_hashes card count) where
   pub type_skipped : (kind : ℕ) (b : Bool) → kind ≡ card_kind words card → b ≡ is_type kind → b ≡ false →
-      TypeTurn text words card count count owners owners types types typeHashes
+      TypeTurn text words card count count owners owners types types type_hashes
   unfolding is_type_card
   type_skipped kind b k q e =
       let n : is_type (card_kind words card) ≡ false = sym (ap is_type k) ∙ sym q ∙ e in
       record { owners_are = rw n; types_are = rw n; hashes_are = a.hashes_are; count_most = omega arith }
 
-  pub type_asks : (buckets : List ℕ) → Hinted (take count typeHashes) buckets → (from : ℕ) → from ≤ count →
-      from ≤ get_or buckets (get_or hashes card 0 % length buckets) 0 → Entering text words types typeHashes from count card (get_or hashes card 0)
+  pub type_asks : (buckets : List ℕ) → Hinted (take count type_hashes) buckets → (from : ℕ) → from ≤ count →
+      from ≤ get_or buckets (get_or hashes card 0 % length buckets) 0 → Entering text words types type_hashes from count card (get_or hashes card 0)
   type_asks buckets h from m l = record {
     searched = record { hashes_are = a.hashes_are; hash_is = hash_at text words hashes a.hashed card a.stored };
     from_most = m;
     passed = λ j k.
-        let capacity : j < length (take count typeHashes) = omega (arith, length-take-le count typeHashes (omega (arith, a.hashes_capacity))) in
-        hint_passed (take count typeHashes) buckets h (get_or hashes card 0) from l j k capacity;
+        let capacity : j < length (take count type_hashes) = omega (arith, length-take-le count type_hashes (omega (arith, a.hashes_capacity))) in
+        hint_passed (take count type_hashes) buckets h (get_or hashes card 0) from l j k capacity;
     cards_capacity = a.types_capacity;
     hashes_capacity = a.hashes_capacity;
   }
@@ -56,7 +56,7 @@ module _ (text words hashes owners types typeHashes : List ℕ) (card count : �
       }
 
   -- The types' hashes then are those before, or one more.
-  pub type_hinted : (buckets : List ℕ) → Hinted (take count typeHashes) buckets → (from : ℕ) → from ≤ count →
+  pub type_hinted : (buckets : List ℕ) → Hinted (take count type_hashes) buckets → (from : ℕ) → from ≤ count →
       from ≤ get_or buckets (get_or hashes card 0 % length buckets) 0 →
       (r : First) (types' type_hashes' : List ℕ) → Entered text words card count r types types' type_hashes' →
       Hinted (take r.count type_hashes') (set buckets (get_or hashes card 0 % length buckets) from)
@@ -69,22 +69,22 @@ module _ (text words hashes owners types typeHashes : List ℕ) (card count : �
       go : (o : Option ℕ) → find (same_cards text words card) (take count types) ≡ o →
           Hinted (take r.count type_hashes') (set buckets (get_or hashes card 0 % length buckets) from)
       go (some d) e =
-          let same : take r.count type_hashes' ≡ take count typeHashes =
+          let same : take r.count type_hashes' ≡ take count type_hashes =
           w.hashes_are ∙ ap (map (card_hash text words)) (rw e at w.cards_are) ∙ sym a.hashes_are in
-          rw same (hint_kept (take count typeHashes) buckets h (get_or hashes card 0) from l)
+          rw same (hint_kept (take count type_hashes) buckets h (get_or hashes card 0) from l)
       go none e =
-          let more : take r.count type_hashes' ≡ take count typeHashes ++ (get_or hashes card 0 ∷ []) =
+          let more : take r.count type_hashes' ≡ take count type_hashes ++ (get_or hashes card 0 ∷ []) =
           w.hashes_are
           ∙ ap (map (card_hash text words)) (rw e at w.cards_are)
           ∙ map_append (card_hash text words) (take count types) (card ∷ [])
           ∙ ap (λ (l : List ℕ). l ++ (card_hash text words card ∷ [])) (sym a.hashes_are)
-          ∙ ap (λ (p : ℕ). take count typeHashes ++ (p ∷ [])) (sym own) in
-          let capacity : from ≤ length (take count typeHashes) = omega (arith, length-take-le count typeHashes (omega (arith, a.hashes_capacity))) in
-          rw more (hint_more (take count typeHashes) buckets h (get_or hashes card 0) from l capacity)
+          ∙ ap (λ (p : ℕ). take count type_hashes ++ (p ∷ [])) (sym own) in
+          let capacity : from ≤ length (take count type_hashes) = omega (arith, length-take-le count type_hashes (omega (arith, a.hashes_capacity))) in
+          rw more (hint_more (take count type_hashes) buckets h (get_or hashes card 0) from l capacity)
 
-pub types_none : (text words headings owners types typeHashes : List ℕ) → TypesAre text words headings owners types typeHashes 0 0
+pub types_none : (text words headings owners types type_hashes : List ℕ) → TypesAre text words headings owners types type_hashes 0 0
 unfolding filter firsts
-types_none text words headings owners types typeHashes = record {
+types_none text words headings owners types type_hashes = record {
   types_are = refl;
   hashes_are = refl;
   owners_are = λ j h e. absurd (omega arith);
@@ -92,7 +92,7 @@ types_none text words headings owners types typeHashes = record {
 }
 
 module _ (text words hashes headings : List ℕ) (cs : Cards text words hashes headings) (k : ℕ) (h : k < length headings) where
-  module _ (owners types typeHashes : List ℕ) (t : ℕ) (i : TypesAre text words headings owners types typeHashes k t)
+  module _ (owners types type_hashes : List ℕ) (t : ℕ) (i : TypesAre text words headings owners types type_hashes k t)
       (owners' types' type_hashes' : List ℕ) (r : ℕ) (capacity : cards_used_of words ≤ length owners)
       (w : TypeTurn text words (get_or headings k 0) t r owners owners' types types' type_hashes') where
     types_more : (b : Bool) → is_type_card words (get_or headings k 0) ≡ b →

@@ -17,10 +17,10 @@ is_unowned owners c = eqb (get_or owners c 0) absent
 -- ---- Extensions.
 
 -- A stored card, and arrays that hold an owner for each card and one extension more.
-pub record ExtensionAsked (text words hashes types typeHashes owners extensions : List ℕ) (card count : ℕ) : Type 0 where
+pub record ExtensionAsked (text words hashes types type_hashes owners extensions : List ℕ) (card count : ℕ) : Type 0 where
   pub hashed : Hashed text words hashes
   pub stored : card < cards_used_of words
-  pub hashes_are : typeHashes ≡ map (card_hash text words) types
+  pub hashes_are : type_hashes ≡ map (card_hash text words) types
   pub owners_capacity : cards_used_of words ≤ length owners
   pub extensions_capacity : count < length extensions
 
@@ -30,9 +30,9 @@ pub record ExtensionTurn (text words types : List ℕ) (card count r : ℕ) (own
   pub extensions_are : take r extensions ≡ choose (is_extension_card words card) (take count extensions₀ ++ (card ∷ [])) (take count extensions₀)
   pub count_most : r ≤ count + 1
 
-pub record ExtensionsAsked (text words hashes headings types typeHashes owners extensions : List ℕ) : Type 0 where
+pub record ExtensionsAsked (text words hashes headings types type_hashes owners extensions : List ℕ) : Type 0 where
   pub cards : Cards text words hashes headings
-  pub hashes_are : typeHashes ≡ map (card_hash text words) types
+  pub hashes_are : type_hashes ≡ map (card_hash text words) types
   pub owners_capacity : cards_used_of words ≤ length owners
   pub extensions_capacity : cards_used_of words ≤ length extensions
 
@@ -47,30 +47,30 @@ pub record ExtensionsAre (text words headings types owners₀ owners extensions 
 
 -- ---- Orphans.
 
-pub record OrphanAsked (text words hashes owners orphans orphanHashes : List ℕ) (card count : ℕ) : Type 0 where
+pub record OrphanAsked (text words hashes owners orphans orphan_hashes : List ℕ) (card count : ℕ) : Type 0 where
   pub hashed : Hashed text words hashes
   pub stored : card < cards_used_of words
   pub owners_capacity : cards_used_of words ≤ length owners
   pub orphans_capacity : count < length orphans
-  pub hashes_capacity : count < length orphanHashes
-  pub hashes_are : take count orphanHashes ≡ map (card_hash text words) (take count orphans)
+  pub hashes_capacity : count < length orphan_hashes
+  pub hashes_are : take count orphan_hashes ≡ map (card_hash text words) (take count orphans)
 
 -- What one extension does to them.
-pub record OrphanTurn (text words owners : List ℕ) (card count r : ℕ) (orphans₀ orphans orphanHashes : List ℕ) : Type 0 where
+pub record OrphanTurn (text words owners : List ℕ) (card count r : ℕ) (orphans₀ orphans orphan_hashes : List ℕ) : Type 0 where
   pub orphans_are : take r orphans ≡ choose (is_unowned owners card) (entered_in (same_cards text words) card (take count orphans₀)) (take count orphans₀)
-  pub hashes_are : take r orphanHashes ≡ map (card_hash text words) (take r orphans)
+  pub hashes_are : take r orphan_hashes ≡ map (card_hash text words) (take r orphans)
   pub count_most : r ≤ count + 1
 
-pub record OrphansAsked (text words hashes owners extensions orphans orphanHashes : List ℕ) : Type 0 where
+pub record OrphansAsked (text words hashes owners extensions orphans orphan_hashes : List ℕ) : Type 0 where
   pub hashed : Hashed text words hashes
   pub stored : (j : ℕ) → j < length extensions → get_or extensions j 0 < cards_used_of words
   pub few : length extensions ≤ cards_used_of words
   pub owners_capacity : cards_used_of words ≤ length owners
   pub orphans_capacity : cards_used_of words ≤ length orphans
-  pub hashes_capacity : cards_used_of words ≤ length orphanHashes
+  pub hashes_capacity : cards_used_of words ≤ length orphan_hashes
 
 -- What the first k extensions did.
-pub record OrphansAre (text words owners extensions orphans orphanHashes : List ℕ) (k o : ℕ) : Type 0 where
+pub record OrphansAre (text words owners extensions orphans orphan_hashes : List ℕ) (k o : ℕ) : Type 0 where
   pub orphans_are : take o orphans ≡ firsts (same_cards text words) [] (filter (is_unowned owners) (take k extensions))
-  pub hashes_are : take o orphanHashes ≡ map (card_hash text words) (take o orphans)
+  pub hashes_are : take o orphan_hashes ≡ map (card_hash text words) (take o orphans)
   pub orphans_most : o ≤ k

@@ -1,18 +1,18 @@
-// `Entry` of the hash maps in from_ast.rs: the search_lem for a card's name among cards, and the card that is added where none has it.
+// `Entry` of the hash maps in from_ast.rs: the search for a card's name among cards, and the card that is added where none has it.
 ghost use Rattle.std.specs.Prelude.{◌≡◌, ◌%◌, ◌≤◌, ◌<◌, length, get_or};
 ghost use Rattle.definition.specs.Lists.{find};
 ghost use Rattle.from_ast_index.specs.Index.{same_cards};
 ghost use Rattle.from_ast_indexing.specs.Entering.{entry_of, Searched, Entering, Entered};
 
-// What a search_lem for a name finds: the first card that has it.
-#[derive(Drop)]
+// What a search for a name finds: the first card that has it.
+#[derive(Clone, Copy)]
 pub enum Entry {
     Occupied(u32),
     Vacant,
 }
 
 // The first card of a name, and how many names there are now.
-#[derive(Drop)]
+#[derive(Clone, Copy)]
 pub struct First {
     pub card: u32,
     pub count: usize,
@@ -76,8 +76,8 @@ pub fn enter(
     First { card: first, count }
 }
 
-// Where the search_lem for a hash among the first `count` types begins: none before has it. A word of `buckets` is the place of the first
-// type whose hash falls on it; where none does, any word will do, and a large one spares the search_lem.
+// Where the search for a hash among the first `count` types begins: none before has it. A word of `buckets` is the place of the first
+// type whose hash falls on it; where none does, any word will do, and a large one spares the search.
 pub fn hint(buckets: &[u32], hash: u32, count: usize) -> usize
     requires { 0 < length buckets.now }
     ensures { (result ≤ count)

@@ -1,4 +1,6 @@
 // The arrays that build reads are filled once, from the stored cards.
+#![tactic(auto)]
+
 ghost use Rattle.std.specs.Prelude.{◌≡◌, ◌≤◌, ◌<◌, length, take};
 ghost use Rattle.definition.specs.Refusals.{card_capacity};
 ghost use Rattle.definition.specs.Store.{cards_used_of, words_capacity};

@@ -2,7 +2,7 @@
 use mathlib.Core.Path.{◌≡◌, sym, ap, ◌∙◌}
 use mathlib.Core.Bool.{Bool, true, false}
 use mathlib.Core.List.{List, [], ◌++◌, map, append-nil}
-use Prim.Native.Nat.{ℕ, ◌+◌, ◌-◌, ◌*◌, ◌≤◌, ◌<◌}
+use Prim.Native.Nat.{ℕ, ◌-◌, ◌*◌, ◌≤◌, ◌<◌}
 use native.Mathlib.Nat.{zero-add, sub-zero}
 use native.Mathlib.Omega.{arith}
 use lib.ListN.{length, take, get_or, length-map}
@@ -35,14 +35,14 @@ front_used words cards count inside stored = record {
   };
 }
 
-module _ (text words headings hashes owners typeCards orphanCards extensionCards : List ℕ) (m t o e : ℕ)
-    (x : Indexed text words headings hashes owners typeCards orphanCards extensionCards m t o e) where
+module _ (text words headings hashes owners type_cards orphan_cards extension_cards : List ℕ) (m t o e : ℕ)
+    (x : Indexed text words headings hashes owners type_cards orphan_cards extension_cards m t o e) where
   headings_before : take m headings ≡ map heading_number (stored_headings text words)
   headings_before =
       let n : length (map heading_number (stored_headings text words)) ≡ m = length-map (stored_headings text words) heading_number ∙ x.headings_count in
       taken_front m headings (map heading_number (stored_headings text words)) (cards_used_of words) x.headings_are n
 
-  pub indexed_arrays : Arrays text words headings hashes typeCards orphanCards extensionCards m t o e
+  pub indexed_arrays : Arrays text words headings hashes type_cards orphan_cards extension_cards m t o e
   indexed_arrays =
       let most = x.hashed.cards_most in
       let a = x.headings_most in
@@ -56,9 +56,9 @@ module _ (text words headings hashes owners typeCards orphanCards extensionCards
       record {
         hashed = x.hashed;
         headings_used = front_used words headings m (omega arith) x.headings_stored;
-        types_used = front_used words typeCards t (omega arith) x.types_stored;
-        orphans_used = front_used words orphanCards o (omega arith) x.orphans_stored;
-        extensions_used = front_used words extensionCards e (omega arith) x.extensions_stored;
+        types_used = front_used words type_cards t (omega arith) x.types_stored;
+        orphans_used = front_used words orphan_cards o (omega arith) x.orphans_stored;
+        extensions_used = front_used words extension_cards e (omega arith) x.extensions_stored;
         headings_are = headings_before;
         types_are = x.types_are;
         orphans_are = x.orphans_are;
@@ -71,14 +71,14 @@ first_capacity : (ws : List ℕ) (rs : List Row) → 3 * length rs ≤ length ws
 unfolding pushed
 first_capacity ws rs h = omega arith
 
-module _ (text words headings hashes typeCards orphanCards extensionCards : List ℕ) (m t o e : ℕ)
-    (x : Arrays text words headings hashes typeCards orphanCards extensionCards m t o e) (adopt : Bool) where
-  types_built : types_rows_at text words (take t typeCards) (take e extensionCards)
+module _ (text words headings hashes type_cards orphan_cards extension_cards : List ℕ) (m t o e : ℕ)
+    (x : Arrays text words headings hashes type_cards orphan_cards extension_cards m t o e) (adopt : Bool) where
+  types_built : types_rows_at text words (take t type_cards) (take e extension_cards)
       ≡ flat_map (type_rows (stored_headings text words)) (defined_types (stored_headings text words))
   types_built =
       (λ i. flat_map (type_rows_at text words (x.extensions_are i)) (x.types_are i)) ∙ types_rows text words (stored_headings text words) (headings_at text words)
 
-  orphans_built : types_rows_at text words (take o orphanCards) (take e extensionCards)
+  orphans_built : types_rows_at text words (take o orphan_cards) (take e extension_cards)
       ≡ flat_map (adopted_rows (stored_headings text words)) (firsts same_named [] (orphans (stored_headings text words)))
   orphans_built =
       (λ i. flat_map (type_rows_at text words (x.extensions_are i)) (x.orphans_are i))
@@ -87,7 +87,7 @@ module _ (text words headings hashes typeCards orphanCards extensionCards : List
   built_cut : rows adopt (stored_headings text words) ≡
       schema_rows_at text words adopt (take m headings)
       ++ (directive_rows_at text words (take m headings)
-      ++ all_types_rows_at text words adopt (take t typeCards) (take o orphanCards) (take e extensionCards))
+      ++ all_types_rows_at text words adopt (take t type_cards) (take o orphan_cards) (take e extension_cards))
   unfolding rows adopted
   built_cut =
       sym (λ i.
@@ -101,7 +101,7 @@ module _ (text words headings hashes typeCards orphanCards extensionCards : List
   pub built_rest : (ws : List ℕ) → 3 * length (rows adopt (stored_headings text words)) ≤ length ws → Rest
       (schema_rows_at text words adopt (take (m - 0) headings)
       ++ (directive_rows_at text words (take (m - 0) headings)
-      ++ all_types_rows_at text words adopt (take (t - 0) typeCards) (take (o - 0) orphanCards) (take (e - 0) extensionCards)))
+      ++ all_types_rows_at text words adopt (take (t - 0) type_cards) (take (o - 0) orphan_cards) (take (e - 0) extension_cards)))
       (filled ws 0) (pushed (rows adopt (stored_headings text words)) (filled ws 0))
   built_rest ws h =
       rw (sub-zero m, sub-zero t, sub-zero o, sub-zero e)

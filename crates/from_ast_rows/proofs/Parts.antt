@@ -20,30 +20,30 @@ matching_named text words ext owner n h = go (same_cards text words owner n) ref
     go true e = e
     go false e = let q : true ≡ false = sym h ∙ matching_unlike text words ext owner n e in cc
 
-module _ (text words headings hashes owners typeCards orphanCards extensionCards : List ℕ) (m t o e : ℕ)
-    (x : Indexed text words headings hashes owners typeCards orphanCards extensionCards m t o e)
-    (starts ends : List ℕ) (s : Spanned words owners (take e extensionCards) starts ends) where
+module _ (text words headings hashes owners type_cards orphan_cards extension_cards : List ℕ) (m t o e : ℕ)
+    (x : Indexed text words headings hashes owners type_cards orphan_cards extension_cards m t o e)
+    (starts ends : List ℕ) (s : Spanned words owners (take e extension_cards) starts ends) where
   part_matching : (k : ℕ) → k < t →
-      matching text words (own_extensions (take e extensionCards) starts ends (get_or typeCards k 0)) (get_or typeCards k 0)
-      ≡ matching text words (take e extensionCards) (get_or typeCards k 0)
+      matching text words (own_extensions (take e extension_cards) starts ends (get_or type_cards k 0)) (get_or type_cards k 0)
+      ≡ matching text words (take e extension_cards) (get_or type_cards k 0)
   unfolding matching
   part_matching k k-t =
-      let c = get_or typeCards k 0 in
-      sym (kept_spanned text words headings hashes owners typeCards orphanCards extensionCards m t o e x starts ends s k k-t
+      let c = get_or type_cards k 0 in
+      sym (kept_spanned text words headings hashes owners type_cards orphan_cards extension_cards m t o e x starts ends s k k-t
       (is_matching text words (extension_kind words c) c) (λ d h. matching_named text words (extension_kind words c) c d h))
 
   part_built : (k : ℕ) → k < t →
-      type_rows_at text words (own_extensions (take e extensionCards) starts ends (get_or typeCards k 0)) (get_or typeCards k 0)
-      ≡ type_rows_at text words (take e extensionCards) (get_or typeCards k 0)
+      type_rows_at text words (own_extensions (take e extension_cards) starts ends (get_or type_cards k 0)) (get_or type_cards k 0)
+      ≡ type_rows_at text words (take e extension_cards) (get_or type_cards k 0)
   unfolding type_rows_at
   part_built k k-t =
-      let c = get_or typeCards k 0 in
+      let c = get_or type_cards k 0 in
       ap (λ (l : List ℕ). type_row_at words c ∷ lists_at text words l c) (part_matching k k-t)
 
-  part_here : (k : ℕ) → k < length (take t typeCards) →
-      type_rows_at text words (own_extensions (take e extensionCards) starts ends (get_or (take t typeCards) k 0)) (get_or (take t typeCards) k 0)
-      ≡ type_rows_at text words (take e extensionCards) (get_or (take t typeCards) k 0)
-  part_here k l = let h : k < t = omega (arith, taken_most t typeCards) in rw (get_or-take t typeCards k 0 h) (part_built k h)
+  part_here : (k : ℕ) → k < length (take t type_cards) →
+      type_rows_at text words (own_extensions (take e extension_cards) starts ends (get_or (take t type_cards) k 0)) (get_or (take t type_cards) k 0)
+      ≡ type_rows_at text words (take e extension_cards) (get_or (take t type_cards) k 0)
+  part_here k l = let h : k < t = omega (arith, taken_most t type_cards) in rw (get_or-take t type_cards k 0 h) (part_built k h)
 
-  pub spanned_parted : Parted text words (take t typeCards) (take e extensionCards) starts ends
+  pub spanned_parted : Parted text words (take t type_cards) (take e extension_cards) starts ends
   spanned_parted = record { starts_length = s.starts_length; ends_length = s.ends_length; part_builds = part_here }

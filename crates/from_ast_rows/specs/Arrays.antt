@@ -12,14 +12,14 @@ pub record Used (words cards : List ℕ) (count : ℕ) : Type 0 where
   pub inside : count ≤ length cards
   pub stored : Stored words (take count cards)
 
-pub record Arrays (text words headings hashes typeCards orphanCards extensionCards : List ℕ)
+pub record Arrays (text words headings hashes type_cards orphan_cards extension_cards : List ℕ)
     (heading_count type_count orphan_count extension_count : ℕ) : Type 0 where
   pub hashed : Hashed text words hashes
   pub headings_used : Used words headings heading_count
-  pub types_used : Used words typeCards type_count
-  pub orphans_used : Used words orphanCards orphan_count
-  pub extensions_used : Used words extensionCards extension_count
+  pub types_used : Used words type_cards type_count
+  pub orphans_used : Used words orphan_cards orphan_count
+  pub extensions_used : Used words extension_cards extension_count
   pub headings_are : take heading_count headings ≡ map heading_number (stored_headings text words)
-  pub types_are : take type_count typeCards ≡ map heading_number (defined_types (stored_headings text words))
-  pub orphans_are : take orphan_count orphanCards ≡ map heading_number (firsts same_named [] (orphans (stored_headings text words)))
-  pub extensions_are : take extension_count extensionCards ≡ map heading_number (filter is_type_extension (stored_headings text words))
+  pub types_are : take type_count type_cards ≡ map heading_number (defined_types (stored_headings text words))
+  pub orphans_are : take orphan_count orphan_cards ≡ map heading_number (firsts same_named [] (orphans (stored_headings text words)))
+  pub extensions_are : take extension_count extension_cards ≡ map heading_number (filter is_type_extension (stored_headings text words))

@@ -1,7 +1,9 @@
 // The catalogue's rows: what schema/from_ast.rs collects.
+#![tactic(auto)]
+
 ghost use Rattle.std.specs.Prelude.{◌≡◌, ◌*◌, ◌≤◌, length, take};
 ghost use Rattle.definition.specs.Lists.{flat_map, written};
-ghost use Rattle.definition.specs.Catalogue.{rows as catalogueRows};
+ghost use Rattle.definition.specs.Catalogue.{rows as catalogue_rows};
 ghost use Rattle.definition.specs.Outcomes.{words_of_row};
 ghost use Rattle.store_reader.specs.Stored.{stored_headings};
 ghost use Rattle.from_ast_rows.specs.Arrays.{Arrays};
@@ -36,11 +38,11 @@ pub fn write_rows(
         × Parted text.now words.now (take counts.types types.now) (take counts.extensions extensions.now)
         starts.now ends.now
         × (counts.extensions ≤ length mine.old)
-        × (3 * length (catalogueRows adopt (stored_headings text.now words.now)) ≤ length rows.old) }
+        × (3 * length (catalogue_rows adopt (stored_headings text.now words.now)) ≤ length rows.old) }
     ensures { (rows.new
         ≡ written rows.old 0
-        (flat_map words_of_row (catalogueRows adopt (stored_headings text.now words.now))))
-        × (result ≡ length (catalogueRows adopt (stored_headings text.now words.now))) }
+        (flat_map words_of_row (catalogue_rows adopt (stored_headings text.now words.now))))
+        × (result ≡ length (catalogue_rows adopt (stored_headings text.now words.now))) }
 {
     let heading_count = counts.headings;
     let type_count = counts.types;

@@ -29,7 +29,7 @@ use ast::kinds;
 use definition::{ABSENT, NameOrder};
 
 // How the schema is made: the card of its definition, or `-`; whether orphans are adopted; and whether default roots belong to it.
-#[derive(Drop)]
+#[derive(Clone, Copy)]
 pub struct Schema {
     pub card: u32,
     pub adopt: bool,

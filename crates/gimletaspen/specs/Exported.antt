@@ -6,7 +6,7 @@ use Rattle.definition.specs.declared.OperationType.TheVariants.{Query, Mutation,
 use Rattle.gimletaspen.specs.declared.FieldAnswer.{FieldAnswer}
 use Rattle.gimletaspen.specs.declared.SubtypeAnswer.{SubtypeAnswer}
 use Rattle.definition.specs.Lists.{choose, written}
-use Rattle.definition.specs.Answers.{fieldRefusal, fieldNumber, fieldMeta, fieldCard, subtypeRefusal, subtypeNumber}
+use Rattle.definition.specs.Answers.{field_refusal, field_number, field_meta, field_card, subtype_refusal, subtype_number}
 use Rattle.definition.specs.Outcomes.{root_operation}
 
 -- The name of the root of a kind, 26 query, 27 mutation, 28 subscription; of any other number none.
@@ -24,10 +24,10 @@ copied_name lent name = choose (ltb (length lent) (length name)) lent (written l
 -- The four numbers of `type_field`'s answer, and the two of `is_subtype`'s, are Answers' numbers of the outcome.
 abbrev pub FieldNumbers : FieldLookup → FieldAnswer → Type 0
 FieldNumbers a r =
-    (r.refusal ≡ fieldRefusal a) ×
-    (r.number ≡ fieldNumber a) ×
-    (r.meta ≡ fieldMeta a) ×
-    (r.card ≡ fieldCard a)
+    (r.refusal ≡ field_refusal a) ×
+    (r.number ≡ field_number a) ×
+    (r.meta ≡ field_meta a) ×
+    (r.card ≡ field_card a)
 
 abbrev pub SubtypeNumbers : SubtypeLookup → SubtypeAnswer → Type 0
-SubtypeNumbers a r = (r.refusal ≡ subtypeRefusal a) × (r.yes ≡ subtypeNumber a)
+SubtypeNumbers a r = (r.refusal ≡ subtype_refusal a) × (r.yes ≡ subtype_number a)

@@ -1,7 +1,9 @@
 // The public entries for C: a slice is a pointer and a length, an enum's answer a struct of its numbers, handed back by value, so that a refused lookup has
 // nothing that it could write. Where the answer has a C form of its own, the promise is the entry's in crate api.
+#![tactic(auto)]
+
 ghost use Rattle.std.specs.Prelude.{◌≡◌, length};
-ghost use Rattle.definition.specs.Outcomes.{type-field, is-subtype};
+ghost use Rattle.definition.specs.Outcomes.{type_field, is_subtype};
 ghost use Rattle.api.specs.Promised.{Opens, Files, Adopts, Ignores, Builds, ChecksRows, Parses, ListsOrigins, ListsExtensions, MapsImplementers};
 ghost use Rattle.gimletaspen.specs.Exported.{root_named, copied_name, FieldNumbers, SubtypeNumbers};
 
@@ -13,7 +15,7 @@ use definition::{Answer, Drawing, OperationType};
 
 // The four numbers of `type_field`'s answer: the refusal or 0, what became of the field, which one was found, and the card.
 #[repr(C)]
-#[derive(Drop)]
+#[derive(Clone, Copy)]
 pub struct FieldAnswer {
     pub refusal: u32,
     pub number: u32,
@@ -23,7 +25,7 @@ pub struct FieldAnswer {
 
 // The two numbers of `is_subtype`'s answer: the refusal or 0, and 1 for yes, else 0.
 #[repr(C)]
-#[derive(Drop)]
+#[derive(Clone, Copy)]
 pub struct SubtypeAnswer {
     pub refusal: u32,
     pub yes: u32,
@@ -142,7 +144,7 @@ pub extern "C" fn gimletaspen_type_field(
     field: &[u8],
 ) -> FieldAnswer
     ensures { FieldNumbers
-        (type-field text.now words.now rows.now type_name.now
+        (type_field text.now words.now rows.now type_name.now
         field.now)
         result }
 {
@@ -164,7 +166,7 @@ pub extern "C" fn gimletaspen_is_subtype(
     other: &[u8],
 ) -> SubtypeAnswer
     ensures { SubtypeNumbers
-        (is-subtype text.now words.now rows.now general.now
+        (is_subtype text.now words.now rows.now general.now
         other.now)
         result }
 {

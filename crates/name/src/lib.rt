@@ -1,4 +1,6 @@
 // name.rs: the syntax of a Name, and names compared by their bytes.
+#![tactic(auto)]
+
 ghost use Rattle.std.specs.Prelude.{◌≡◌};
 ghost use Rattle.definition.specs.Names.{is_name_start, is_name_byte, is_name, compare_names, same_name, bytes_at};
 ghost use Rattle.name.specs.Parts.{PartAt};

@@ -13,7 +13,7 @@ use Rattle.definition.specs.Grammar.{Described, Extended, Roots, Roots?, Impleme
 use Rattle.definition.specs.Grammar.{InputFields, InputFields?, DirectiveUse, DirectiveUse*}
 use Rattle.definition.specs.Grammar.{SchemaMore, ObjectMore, UnionMore, EnumMore, InputMore}
 use Rattle.definition.specs.GrammarSets.{nullable, first}
-use Rattle.definition.specs.Machine.{has, first_of_lem, empties}
+use Rattle.definition.specs.Machine.{has, first_set_of, empties}
 use Rattle.definition.specs.Cards.{Card}
 use Rattle.parser_laws.specs.Verdict.{fails}
 use Rattle.parser_laws.specs.Standing.{standing, AheadOf}
@@ -94,24 +94,24 @@ described_directive = there (there (there (there (there (there (there here))))))
 
 -- ---- Which token begins what an extension must have.
 
-pub by_at : (k : ℕ) → 5 ≤ k → k ≤ 11 → has (first_of_lem (more_of k)) 8 ≡ true
-unfolding has first_of_lem more_of first nullable within
-by_at k l u = each (λ (k : ℕ). has (first_of_lem (more_of k)) 8 ≡ true) 7 5 k (refl, (refl, (refl, (refl, (refl, (refl, (refl, tt))))))) l (omega arith)
+pub by_at : (k : ℕ) → 5 ≤ k → k ≤ 11 → has (first_set_of (more_of k)) 8 ≡ true
+unfolding has first_set_of more_of first nullable within
+by_at k l u = each (λ (k : ℕ). has (first_set_of (more_of k)) 8 ≡ true) 7 5 k (refl, (refl, (refl, (refl, (refl, (refl, (refl, tt))))))) l (omega arith)
 
-pub by_equals : (k : ℕ) → 5 ≤ k → k ≤ 11 → has (first_of_lem (more_of k)) 7 ≡ eqb k 8
-unfolding has first_of_lem more_of first nullable within
-by_equals k l u = each (λ (k : ℕ). has (first_of_lem (more_of k)) 7 ≡ eqb k 8) 7 5 k (refl, (refl, (refl, (refl, (refl, (refl, (refl, tt))))))) l (omega arith)
+pub by_equals : (k : ℕ) → 5 ≤ k → k ≤ 11 → has (first_set_of (more_of k)) 7 ≡ eqb k 8
+unfolding has first_set_of more_of first nullable within
+by_equals k l u = each (λ (k : ℕ). has (first_set_of (more_of k)) 7 ≡ eqb k 8) 7 5 k (refl, (refl, (refl, (refl, (refl, (refl, (refl, tt))))))) l (omega arith)
 
-pub by_brace : (k : ℕ) → 5 ≤ k → k ≤ 11 → has (first_of_lem (more_of k)) 11 ≡ choose (leb k 5) false (not (eqb k 8))
-unfolding has first_of_lem more_of first nullable within
-by_brace k l u = each (λ (k : ℕ). has (first_of_lem (more_of k)) 11 ≡ choose (leb k 5) false (not (eqb k 8))) 7 5 k (
+pub by_brace : (k : ℕ) → 5 ≤ k → k ≤ 11 → has (first_set_of (more_of k)) 11 ≡ choose (leb k 5) false (not (eqb k 8))
+unfolding has first_set_of more_of first nullable within
+by_brace k l u = each (λ (k : ℕ). has (first_set_of (more_of k)) 11 ≡ choose (leb k 5) false (not (eqb k 8))) 7 5 k (
   refl,
   (refl, (refl, (refl, (refl, (refl, (refl, tt)))))),
 ) l (omega arith)
 
-pub by_implements : (k : ℕ) → 5 ≤ k → k ≤ 11 → has (first_of_lem (more_of k)) 29 ≡ choose (leb k 5) false (leb k 7)
-unfolding has first_of_lem more_of first nullable within
-by_implements k l u = each (λ (k : ℕ). has (first_of_lem (more_of k)) 29 ≡ choose (leb k 5) false (leb k 7)) 7 5 k (
+pub by_implements : (k : ℕ) → 5 ≤ k → k ≤ 11 → has (first_set_of (more_of k)) 29 ≡ choose (leb k 5) false (leb k 7)
+unfolding has first_set_of more_of first nullable within
+by_implements k l u = each (λ (k : ℕ). has (first_set_of (more_of k)) 29 ≡ choose (leb k 5) false (leb k 7)) 7 5 k (
   refl,
   (refl, (refl, (refl, (refl, (refl, (refl, tt)))))),
 ) l (omega arith)
@@ -120,9 +120,9 @@ by_implements k l u = each (λ (k : ℕ). has (first_of_lem (more_of k)) 29 ≡ 
 begins_more : List (ℕ × ℕ)
 begins_more = (7, 8) ∷ (11, 11) ∷ (29, 29) ∷ []
 
-none_else : (k : ℕ) → 5 ≤ k → k ≤ 11 → subset (first_of_lem (more_of k)) begins_more ≡ true
-unfolding subset all any first_of_lem more_of first nullable within begins_more
-none_else k l u = each (λ (k : ℕ). subset (first_of_lem (more_of k)) begins_more ≡ true) 7 5 k (refl, (refl, (refl, (refl, (refl, (refl, (refl, tt))))))) l
+none_else : (k : ℕ) → 5 ≤ k → k ≤ 11 → subset (first_set_of (more_of k)) begins_more ≡ true
+unfolding subset all any first_set_of more_of first nullable within begins_more
+none_else k l u = each (λ (k : ℕ). subset (first_set_of (more_of k)) begins_more ≡ true) 7 5 k (refl, (refl, (refl, (refl, (refl, (refl, (refl, tt))))))) l
     (omega arith)
 
 small : subset begins_more ((0, 54) ∷ []) ≡ true
@@ -137,17 +137,17 @@ not_begun s a b c d = rw (neither (within 7 8 s) refl, other 11 s c, other 29 s 
     neither true e = let w = within_bounds 7 8 s e in absurd (omega arith)
     neither false e = e
 
-pub by_nothing : (k s : ℕ) → 5 ≤ k → k ≤ 11 → (s ≡ 7 → ⊥) → (s ≡ 8 → ⊥) → (s ≡ 11 → ⊥) → (s ≡ 29 → ⊥) → has (first_of_lem (more_of k)) s ≡ false
-by_nothing k s l u a b c d = go (has (first_of_lem (more_of k)) s) refl
+pub by_nothing : (k s : ℕ) → 5 ≤ k → k ≤ 11 → (s ≡ 7 → ⊥) → (s ≡ 8 → ⊥) → (s ≡ 11 → ⊥) → (s ≡ 29 → ⊥) → has (first_set_of (more_of k)) s ≡ false
+by_nothing k s l u a b c d = go (has (first_set_of (more_of k)) s) refl
   where
-    go : (t : Bool) → has (first_of_lem (more_of k)) s ≡ t → t ≡ false
-    go true e = clash (sym (not_begun s a b c d) ∙ subset_has (first_of_lem (more_of k)) begins_more s (none_else k l u) e)
+    go : (t : Bool) → has (first_set_of (more_of k)) s ≡ t → t ≡ false
+    go true e = clash (sym (not_begun s a b c d) ∙ subset_has (first_set_of (more_of k)) begins_more s (none_else k l u) e)
     go false e = refl
 
 -- What begins so is a token.
-a_token : (k s : ℕ) → 5 ≤ k → k ≤ 11 → has (first_of_lem (more_of k)) s ≡ true → s ≤ 54
+a_token : (k s : ℕ) → 5 ≤ k → k ≤ 11 → has (first_set_of (more_of k)) s ≡ true → s ≤ 54
 unfolding has begins_more
-a_token k s l u w = go (within 0 54 s) refl (subset_has begins_more ((0, 54) ∷ []) s small (subset_has (first_of_lem (more_of k)) begins_more s (none_else k l u) w))
+a_token k s l u w = go (within 0 54 s) refl (subset_has begins_more ((0, 54) ∷ []) s small (subset_has (first_set_of (more_of k)) begins_more s (none_else k l u) w))
   where
     go : (t : Bool) → within 0 54 s ≡ t → choose t true false ≡ true → s ≤ 54
     go true e p = (within_bounds 0 54 s e).1
@@ -182,7 +182,7 @@ module _ (text : List ℕ) (at s b e : ℕ) (a : AheadOf text at s b e) (k : s �
   two_ways : (M O N : Part) → Among (part DirectiveUse ∷ part DirectiveUse* ∷ part O ∷ []) (rule M) → Among (part N ∷ []) (rule M) →
       Among (part N ∷ []) (rule O) → disjoint (first N) (first DirectiveUse*) ≡ true → (has (first DirectiveUse) s ≡ false → has (first N) s ≡ true) →
       standing text at (part M ∷ ss) 0 cs h ≡ standing text at (part DirectiveUse* ∷ part O ∷ ss) 0 cs h
-  unfolding rule first_of_lem nullable empties
+  unfolding rule first_set_of nullable empties
   two_ways M O N i j m d f = go (has (first DirectiveUse) s) refl
     where
       not_so : has (first N) s ≡ true → (t : Bool) → has (first DirectiveUse*) s ≡ t → t ≡ false
@@ -202,7 +202,7 @@ module _ (text : List ℕ) (at s b e : ℕ) (a : AheadOf text at s b e) (k : s �
 
   object_more : has (first ObjectMore) s ≡ true → standing text at (part ObjectMore ∷ ss) 0 cs h ≡
       standing text at (part Implements? ∷ part DirectiveUse* ∷ part Fields? ∷ ss) 0 cs h
-  unfolding rule first_of_lem nullable empties first disjoint all any subset
+  unfolding rule first_set_of nullable empties first disjoint all any subset
   object_more f = go (has (first Implements) s) refl
     where
       go : (t : Bool) → has (first Implements) s ≡ t → standing text at (part ObjectMore ∷ ss) 0 cs h ≡
@@ -218,10 +218,10 @@ module _ (text : List ℕ) (at s b e : ℕ) (a : AheadOf text at s b e) (k : s �
           fields f i d = or_else s (first DirectiveUse) (first Fields) (or_else s (first Implements) (first DirectiveUse ++ first Fields)
               (subset_has (first ObjectMore) (first Implements ++ (first DirectiveUse ++ first Fields)) s refl f) i) d
 
-  reads_as : (j : ℕ) → 5 ≤ j → j ≤ 11 → has (first_of_lem (more_of j)) s ≡ true → standing text at (more_of j ++ ss) 0 cs h ≡ standing text at (body_of j ++ ss) 0 cs h
-  unfolding more_of body_of last_of rule first_of_lem nullable empties first disjoint all any subset within
+  reads_as : (j : ℕ) → 5 ≤ j → j ≤ 11 → has (first_set_of (more_of j)) s ≡ true → standing text at (more_of j ++ ss) 0 cs h ≡ standing text at (body_of j ++ ss) 0 cs h
+  unfolding more_of body_of last_of rule first_set_of nullable empties first disjoint all any subset within
   reads_as j l u =
-      each (λ (j : ℕ). has (first_of_lem (more_of j)) s ≡ true → standing text at (more_of j ++ ss) 0 cs h ≡ standing text at (body_of j ++ ss) 0 cs h) 7 5 j (
+      each (λ (j : ℕ). has (first_set_of (more_of j)) s ≡ true → standing text at (more_of j ++ ss) 0 cs h ≡ standing text at (body_of j ++ ss) 0 cs h) 7 5 j (
         (λ w. sym (open_part text at s b e a ss 0 cs h DirectiveUse* (part DirectiveUse ∷ part DirectiveUse* ∷ []) k here w)),
         (
           object_more,
@@ -244,10 +244,10 @@ module _ (text : List ℕ) (at s b e : ℕ) (a : AheadOf text at s b e) (k : s �
 
 -- Where none does, it is refused.
 module _ (text : List ℕ) (at s b e : ℕ) (a : AheadOf text at s b e) (ss : List Symbol) (cs : List Card) (h : ℕ) where
-  reads_none : (j : ℕ) → 5 ≤ j → j ≤ 11 → has (first_of_lem (more_of j)) s ≡ false → standing text at (more_of j ++ ss) 0 cs h ≡ fails 29 b
-  unfolding more_of first_of_lem nullable first
+  reads_none : (j : ℕ) → 5 ≤ j → j ≤ 11 → has (first_set_of (more_of j)) s ≡ false → standing text at (more_of j ++ ss) 0 cs h ≡ fails 29 b
+  unfolding more_of first_set_of nullable first
   reads_none j l u =
-      each (λ (j : ℕ). has (first_of_lem (more_of j)) s ≡ false → standing text at (more_of j ++ ss) 0 cs h ≡ fails 29 b) 7 5 j (
+      each (λ (j : ℕ). has (first_set_of (more_of j)) s ≡ false → standing text at (more_of j ++ ss) 0 cs h ≡ fails 29 b) 7 5 j (
         no_part text at s b e a (part DirectiveUse* ∷ ss) 0 cs h DirectiveUse refl,
         (
           no_part text at s b e a ss 0 cs h ObjectMore refl,
@@ -269,7 +269,7 @@ module _ (text : List ℕ) (at s b e : ℕ) (a : AheadOf text at s b e) (ss : Li
       l (omega arith)
 
 module _ (text : List ℕ) {c : Cursor} (a : Ahead text c) (j : ℕ) (l : 5 ≤ j) (u : j ≤ 11) where
-  pub more_reads : {r : End} {before after : List ℕ} → has (first_of_lem (more_of j)) c.sort ≡ true → Lists (body_of j) text c r before after →
+  pub more_reads : {r : End} {before after : List ℕ} → has (first_set_of (more_of j)) c.sort ≡ true → Lists (body_of j) text c r before after →
       Lists (more_of j) text c r before after
   more_reads w f = record {
     cards = f.cards;
@@ -278,7 +278,7 @@ module _ (text : List ℕ) {c : Cursor} (a : Ahead text c) (j : ℕ) (l : 5 ≤ 
     ready = f.ready;
   }
 
-  pub more_lacks : (before : List ℕ) → has (first_of_lem (more_of j)) c.sort ≡ false → Lists (more_of j) text c (Bad c.begins) before before
+  pub more_lacks : (before : List ℕ) → has (first_set_of (more_of j)) c.sort ≡ false → Lists (more_of j) text c (Bad c.begins) before before
   unfolding put_cards
   more_lacks before w = record {
     cards = [];

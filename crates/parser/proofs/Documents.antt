@@ -8,7 +8,7 @@ use lib.ListN.{length, length-append}
 use Rattle.definition.specs.Lists.{choose, here, there, all, any}
 use Rattle.definition.specs.Grammar.{Symbol, part, Document, Definition, Definition*, rule, within}
 use Rattle.definition.specs.GrammarSets.{nullable, first}
-use Rattle.definition.specs.Machine.{has, first_of_lem, empties}
+use Rattle.definition.specs.Machine.{has, first_set_of, empties}
 use Rattle.definition.specs.Cards.{Card}
 use Rattle.definition.specs.Derivation.{Seen}
 use Rattle.definition.specs.Lexical.{tokens_in}
@@ -40,7 +40,7 @@ a_token s w = go (within 0 54 s) refl (subset_has (first Definition) ((0, 54) �
 module _ (text : List ℕ) (at s b e : ℕ) (a : AheadOf text at s b e) (cs : List Card) (h : ℕ) where
   -- A text is a definition and more; where none begins, both are refused.
   one_first : standing text at (part Document ∷ []) 0 cs h ≡ standing text at (part Definition ∷ part Definition* ∷ []) 0 cs h
-  unfolding rule first_of_lem nullable first
+  unfolding rule first_set_of nullable first
   one_first = go (has (first Definition) s) refl
     where
       go : (t : Bool) → has (first Definition) s ≡ t → standing text at (part Document ∷ []) 0 cs h ≡
@@ -50,7 +50,7 @@ module _ (text : List ℕ) (at s b e : ℕ) (a : AheadOf text at s b e) (cs : Li
 
   -- Before the end of the text, there is one more.
   one_more_lem : (s ≡ 55 → ⊥) → standing text at (part Definition* ∷ []) 0 cs h ≡ standing text at (part Definition ∷ part Definition* ∷ []) 0 cs h
-  unfolding rule first_of_lem nullable first empties
+  unfolding rule first_set_of nullable first empties
   one_more_lem n = go (has (first Definition) s) refl
     where
       go : (t : Bool) → has (first Definition) s ≡ t → standing text at (part Definition* ∷ []) 0 cs h ≡

@@ -10,7 +10,7 @@ use Rattle.definition.specs.Lists.{Among, here, there}
 use Rattle.definition.specs.Grammar.{Symbol, one, part, mark, Part, Definition, Description?, Described, Extended, rule, within, heading, kind, heading_ends}
 use Rattle.definition.specs.Grammar.{named, extend, string}
 use Rattle.definition.specs.GrammarSets.{nullable, first}
-use Rattle.definition.specs.Machine.{has, first_of_lem, empties}
+use Rattle.definition.specs.Machine.{has, first_set_of, empties}
 use Rattle.definition.specs.Cards.{Card}
 use Rattle.definition.specs.ItemCards.{begun, of_kind, named_by, ended, noting, level_after}
 use Rattle.definition.specs.Refusals.{card_capacity, text_capacity}
@@ -33,7 +33,7 @@ use Rattle.parser.specs.Headings.{Heading, Defines, Behind, headed}
 module _ (text : List ℕ) where
   -- The alternative that the token ahead begins.
   pub begins : (b : Cursor) → Ahead text b → b.sort ≤ 54 → (qs : List Symbol) → Among (mark heading ∷ qs) (rule Definition) →
-      has (first_of_lem (mark heading ∷ qs)) b.sort ≡ true → Heading text b qs b (card_of 0 b.begins 0 0 0)
+      has (first_set_of (mark heading ∷ qs)) b.sort ≡ true → Heading text b qs b (card_of 0 b.begins 0 0 0)
   unfolding begun
   begins b a s qs i w = record {
     goes = λ ss cs h.
@@ -76,7 +76,7 @@ module _ (text : List ℕ) where
     }
 
     -- A part: by an alternative that the token ahead begins; by the empty one; by none.
-    pub opens : (n : Part) (r : List Symbol) → Heading text b (part n ∷ us) c x → c.sort ≤ 54 → Among r (rule n) → has (first_of_lem r) c.sort ≡ true →
+    pub opens : (n : Part) (r : List Symbol) → Heading text b (part n ∷ us) c x → c.sort ≤ 54 → Among r (rule n) → has (first_set_of r) c.sort ≡ true →
         Heading text b (r ++ us) c x
     opens n r i s j w = record {
       goes = λ ss cs h.
@@ -170,7 +170,7 @@ module _ (text : List ℕ) where
   pub by_keyword : {b c : Cursor} {p : ℕ} (n : Part) (s j : ℕ) (us : List Symbol) (k : Cursor) →
       Heading text b (part n ∷ mark heading_ends ∷ []) c (card_of 0 p 0 0 0) → c.sort ≡ s → s ≤ 54 → Among (one s s ∷ mark (kind j) ∷ us) (rule n) →
       Ahead text k → k.last ≡ c.ends → Heading text b (us ++ (mark heading_ends ∷ [])) k (card_of j p 0 0 0)
-  unfolding of_kind first_of_lem has
+  unfolding of_kind first_set_of has
   by_keyword {b} {c} n s j us k i e l m a f =
       let w : within s s c.sort ≡ true = within_is s s c.sort (omega arith) (omega arith) in
       has_kind (us ++ (mark heading_ends ∷ [])) j
@@ -186,10 +186,10 @@ module _ (text : List ℕ) where
   -- How a definition begins: with the word `extend`; with a description; with its keyword. Behind the first token, k is the cursor there.
   pub extends : (b k : Cursor) → Ahead text b → b.sort ≡ 28 → Ahead text k → k.last ≡ b.ends →
       Heading text b (part Extended ∷ mark heading_ends ∷ []) k (card_of 0 b.begins 0 0 0)
-  unfolding rule has first_of_lem within
+  unfolding rule has first_set_of within
   extends b k a e f l =
       let qs = extend ∷ part Extended ∷ mark heading_ends ∷ [] in
-      let begun = begins b a (omega arith) qs (there here) (ap (has (first_of_lem (mark heading ∷ qs))) e) in
+      let begun = begins b a (omega arith) qs (there here) (ap (has (first_set_of (mark heading ∷ qs))) e) in
       reads_token (part Extended ∷ mark heading_ends ∷ []) 28 28 k begun f l (omega arith) (ap (within 28 28) e)
 
   describing : List Symbol
@@ -197,15 +197,15 @@ module _ (text : List ℕ) where
 
   pub describes : (b k : Cursor) → Ahead text b → b.sort ≡ 16 → Ahead text k → k.last ≡ b.ends →
       Heading text b (part Described ∷ mark heading_ends ∷ []) k (card_of 0 b.begins 0 0 0)
-  unfolding describing rule has first_of_lem first nullable within
+  unfolding describing rule has first_set_of first nullable within
   describes b k a e f l =
-      let begun = begins b a (omega arith) describing here (ap (has (first_of_lem (mark heading ∷ describing))) e) in
-      let opened = opens (part Described ∷ mark heading_ends ∷ []) Description? (string ∷ []) begun (omega arith) here (ap (has (first_of_lem (string ∷ []))) e) in
+      let begun = begins b a (omega arith) describing here (ap (has (first_set_of (mark heading ∷ describing))) e) in
+      let opened = opens (part Described ∷ mark heading_ends ∷ []) Description? (string ∷ []) begun (omega arith) here (ap (has (first_set_of (string ∷ []))) e) in
       reads_token (part Described ∷ mark heading_ends ∷ []) 16 16 k opened f l (omega arith) (ap (within 16 16) e)
 
   pub undescribed : (b : Cursor) → Ahead text b → 20 ≤ b.sort → b.sort ≤ 27 →
       Heading text b (part Described ∷ mark heading_ends ∷ []) b (card_of 0 b.begins 0 0 0)
-  unfolding describing rule has first_of_lem first nullable
+  unfolding describing rule has first_set_of first nullable
   undescribed b a l u =
       let w : within 20 27 b.sort ≡ true = within_is 20 27 b.sort l u in
       let n : within 16 16 b.sort ≡ false = above 16 16 b.sort (omega arith) in

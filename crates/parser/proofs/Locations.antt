@@ -6,7 +6,7 @@ use native.Mathlib.Omega.{arith}
 use Rattle.definition.specs.Lists.{all, any, here, there}
 use Rattle.definition.specs.Grammar.{Symbol, part, rule, within, location, bar, Location, OrLocation*}
 use Rattle.definition.specs.GrammarSets.{nullable, first}
-use Rattle.definition.specs.Machine.{has, first_of_lem}
+use Rattle.definition.specs.Machine.{has, first_set_of}
 use Rattle.parser_laws.proofs.Tests.{subset}
 use Rattle.parser_lexer.specs.declared.Cursor.{Cursor}
 use Rattle.parser_values.specs.declared.End.{End}
@@ -35,6 +35,6 @@ module _ {text : List ℕ} {b c : Cursor} {e : End} (i : Mid rest text b 0 rest 
     is_last z = ends left (not_there OrLocation* 12 (there here) refl z left.1)
 
     pub follows : {n : Cursor} → j.sort ≡ 12 → Next text j n → Mid rest text b 0 rest n
-    unfolding rule has first_of_lem within
+    unfolding rule has first_set_of within
     follows z m = on rest refl (opening [] OrLocation* (bar ∷ rest) 12 here refl (omega arith) z left)
         (may (token 12 z (omega arith) (omega arith) left.1 m))

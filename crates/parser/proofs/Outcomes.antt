@@ -1,12 +1,12 @@
 -- The outcome of a call, case by case; and the words that an accepted one leaves.
-use mathlib.Core.Path.{◌≡◌, refl, sym, ap, ◌∙◌}
-use mathlib.Core.List.{List, [], ◌∷◌, ◌++◌}
+use mathlib.Core.Path.{◌≡◌, sym, ap, ◌∙◌}
+use mathlib.Core.List.{List, ◌++◌}
 use Prim.Native.Nat.{ℕ, ◌+◌, ◌*◌, ◌≤◌, ◌<◌}
 use native.Mathlib.Omega.{arith}
 use native.Mathlib.Nat.{zero-add}
 use native.Mathlib.Numerals.{add-one}
 use borrow.Author.Tests.{lt-ltb, le-ltb}
-use lib.ListN.{length, take, drop, set, get_or, length-append}
+use lib.ListN.{length, take, drop, set, get_or}
 use lib.Seq.{paste, paste-suc, take_at}
 use Rattle.definition.specs.Lists.{flat_map, written}
 use Rattle.definition.specs.Cards.{Card, words_of_card}
@@ -15,7 +15,7 @@ use Rattle.definition.specs.ItemCards.{cards_read}
 use Rattle.definition.specs.Reading.{accepted, refused, reading}
 use Rattle.definition.specs.Refusals.{text_capacity, card_capacity, read_cards_capacity}
 use Rattle.definition.specs.Answers.{answer}
-use Rattle.definition.specs.Outcomes.{ListOutcome, unlisted, listed_in, is_short, parsed, parse}
+use Rattle.definition.specs.Outcomes.{unlisted, listed_in, is_short, parsed, parse}
 use Rattle.definition.proofs.BuiltWords.{written_starts}
 use Rattle.parser_laws.proofs.Filed.{words_length}
 use Rattle.parser_items.specs.Lists.{put_cards}

@@ -1,7 +1,7 @@
 // What follows the name of a heading, or the word `schema`, by the heading's kind.
 ghost use Rattle.std.specs.Prelude.{◌≡◌, [], ◌∷◌, ◌*◌, ◌≤◌, length};
 ghost use Rattle.definition.specs.Grammar.{part, Roots?, DirectiveUse*};
-ghost use Rattle.definition.specs.Machine.{has, first_of_lem};
+ghost use Rattle.definition.specs.Machine.{has, first_set_of};
 ghost use Rattle.definition.specs.Cards.{card_words};
 ghost use Rattle.definition.specs.Refusals.{card_capacity, text_capacity};
 ghost use Rattle.parser_lexer.specs.Ahead.{Ahead, Lies};
@@ -103,7 +103,7 @@ fn body(text: &[u8], c: Cursor, cards: &mut [u32], kind: u32) -> End
 fn begins_more(kind: u32, sort: u32) -> bool
     requires { (5 ≤ kind) ×
         (kind ≤ 11) }
-    ensures { result ≡ has (first_of_lem (more_of kind)) sort }
+    ensures { result ≡ has (first_set_of (more_of kind)) sort }
 {
     if sort == AT {
         return true;

@@ -1,4 +1,6 @@
 // The reader of type-system text: definitions and extensions, each with its heading's card, and a whole text.
+#![tactic(auto)]
+
 ghost use Rattle.std.specs.Prelude.{◌≡◌, ◌++◌, ◌*◌, ◌≤◌, length, take, drop};
 ghost use Rattle.definition.specs.Cards.{card_words};
 ghost use Rattle.definition.specs.Refusals.{card_capacity, text_capacity};
@@ -20,7 +22,7 @@ pub mod definitions;
 pub mod directives;
 
 // A text is accepted, with so many cards; or refused, with a number and a place.
-#[derive(Drop)]
+#[derive(Clone, Copy)]
 pub enum Read {
     Accepted(usize),
     Refused(u32, usize),
@@ -66,6 +68,7 @@ fn copy_words(from: &[u32], count: usize, to: &mut [u32])
 }
 
 // Reads a text, and fills a slice with its cards. A refused call leaves the slice as it was: the cards are copied into it only once all is accepted.
+#[tactic(auto, using(crate::proofs::Outcomes::parse_short, crate::proofs::Outcomes::parse_full), unfolding(definition::specs::Outcomes::unlisted))]
 pub fn parse(text: &[u8], cards: &mut [u32]) -> Answer
     ensures { ◌≡◌ {A = ListOutcome} (record { answer = result; list = cards.new })
         (parse text.now cards.old) }

@@ -3,14 +3,14 @@
 use mathlib.Core.Path.{◌≡◌, refl, sym, ap, ◌∙◌}
 use mathlib.Core.List.{List, [], ◌∷◌, ◌++◌}
 use mathlib.Core.Bool.{Bool, true, false, ◌&&◌}
-use Prim.Native.Nat.{ℕ, zero, suc, ◌+◌, ◌≤◌, ◌<◌}
+use Prim.Native.Nat.{ℕ, zero, suc, ◌≤◌, ◌<◌}
 use native.Mathlib.Omega.{arith}
 use borrow.Author.Tests.{leb-true, leb-false}
 use lib.Dec.{leb}
 use Rattle.definition.specs.Lists.{choose, any, all, Among, here, there}
 use Rattle.definition.specs.Grammar.{Symbol, one, part, mark, Part, rule, within, Mark, heading, kind, heading_ends, item, item_ends, named, deeper, shallower}
 use Rattle.definition.specs.GrammarSets.{nullable, first}
-use Rattle.definition.specs.Machine.{has, first_of_lem, empties}
+use Rattle.definition.specs.Machine.{has, first_set_of, empties}
 use Rattle.definition.specs.Cards.{Card}
 use Rattle.definition.specs.ItemCards.{noting, level_after}
 use Rattle.parser_laws.specs.Verdict.{fails}
@@ -53,12 +53,12 @@ wants (part n ∷ ss) = let r = wants ss in choose (nullable n) (leaves (rule n)
 
 -- Symbols that want a token, of a sort up to 54.
 unfoldable pub wanting : List Symbol → Bool
-unfolding wants leaves rule nullable first first_of_lem subset all any
-wanting ss = wants ss && subset (first_of_lem ss) ((0, 54) ∷ [])
+unfolding wants leaves rule nullable first first_set_of subset all any
+wanting ss = wants ss && subset (first_set_of ss) ((0, 54) ∷ [])
 
 -- Every sort below k of one set is one of the other.
 unfoldable pub covers : List (ℕ × ℕ) → List (ℕ × ℕ) → ℕ → Bool
-unfolding first first_of_lem nullable has within
+unfolding first first_set_of nullable has within
 covers a b zero = true
 covers a b (suc k) = let r = covers a b k in choose (has a k) (has b k && r) r
 
@@ -101,13 +101,13 @@ range lo hi s = go (within lo hi s)
     go true = refl
     go false = refl
 
-up_to_54 : (ss : List Symbol) (s : ℕ) → subset (first_of_lem ss) ((0, 54) ∷ []) ≡ true → has (first_of_lem ss) s ≡ true → s ≤ 54
-up_to_54 ss s u h = (within_bounds 0 54 s (sym (range 0 54 s) ∙ subset_has (first_of_lem ss) ((0, 54) ∷ []) s u h)).1
+up_to_54 : (ss : List Symbol) (s : ℕ) → subset (first_set_of ss) ((0, 54) ∷ []) ≡ true → has (first_set_of ss) s ≡ true → s ≤ 54
+up_to_54 ss s u h = (within_bounds 0 54 s (sym (range 0 54 s) ∙ subset_has (first_set_of ss) ((0, 54) ∷ []) s u h)).1
 
 module _ (text : List ℕ) (c : Cursor) (a : Ahead text c) where
-  not_begun : (ps ss : List Symbol) → wants ps ≡ true → has (first_of_lem ps) c.sort ≡ false → (cs : List Card) (h : ℕ) →
+  not_begun : (ps ss : List Symbol) → wants ps ≡ true → has (first_set_of ps) c.sort ≡ false → (cs : List Card) (h : ℕ) →
       standing text c.last (ps ++ ss) 0 cs h ≡ fails 29 c.begins
-  unfolding wants first_of_lem standing noting level_after empties
+  unfolding wants first_set_of standing noting level_after empties
   not_begun [] ss w f cs h = clash w
   not_begun (one lo hi ∷ ps) ss w f cs h = no_token_lem text c.last c.sort c.begins c.ends a (ps ++ ss) 0 cs h lo hi (sym (range lo hi c.sort) ∙ f)
   not_begun (mark (item k) ∷ ps) ss w f cs h = by_mark (from text c.last) (ps ++ ss) 0 (record { cards = cs; head = h; end = c.last }) (item k) ∙
@@ -122,14 +122,14 @@ module _ (text : List ℕ) (c : Cursor) (a : Ahead text c) where
   not_begun (mark shallower ∷ ps) ss w f cs h = clash w
   not_begun (part n ∷ ps) ss w f cs h = go (nullable n) refl w f (not_begun ps ss)
     where
-      go : (t : Bool) → nullable n ≡ t → choose t (leaves (rule n) && wants ps) true ≡ true → has (first n ++ choose t (first_of_lem ps) []) c.sort ≡ false →
-          (wants ps ≡ true → has (first_of_lem ps) c.sort ≡ false → (cs : List Card) (h : ℕ) →
+      go : (t : Bool) → nullable n ≡ t → choose t (leaves (rule n) && wants ps) true ≡ true → has (first n ++ choose t (first_set_of ps) []) c.sort ≡ false →
+          (wants ps ≡ true → has (first_set_of ps) c.sort ≡ false → (cs : List Card) (h : ℕ) →
           standing text c.last (ps ++ ss) 0 cs h ≡ fails 29 c.begins) → standing text c.last (part n ∷ (ps ++ ss)) 0 cs h ≡ fails 29 c.begins
       go true e i k f =
           let b = both (leaves (rule n)) (wants ps) i in
           skip_part text c.last c.sort c.begins c.ends a (ps ++ ss) 0 cs h n [] (leaves_among (rule n) b.0) refl
-          (not_left (first n) (first_of_lem ps) c.sort k) ∙
-          f b.1 (not_right (first n) (first_of_lem ps) c.sort k) cs h
+          (not_left (first n) (first_set_of ps) c.sort k) ∙
+          f b.1 (not_right (first n) (first_set_of ps) c.sort k) cs h
       go false e i k f = no_part text c.last c.sort c.begins c.ends a (ps ++ ss) 0 cs h n e (not_left (first n) [] c.sort k)
 
   -- Two things to be shown of symbols that want a token: where one is ahead; and where none is, that both sides are refused.
@@ -139,15 +139,15 @@ module _ (text : List ℕ) (c : Cursor) (a : Ahead text c) where
   unfolding wanting
   by_token ps qs ss cs ds h w v f = go (leb c.sort 54) refl
     where
-      none : (rs : List Symbol) → subset (first_of_lem rs) ((0, 54) ∷ []) ≡ true → 54 < c.sort → (t : Bool) → has (first_of_lem rs) c.sort ≡ t → t ≡ false
+      none : (rs : List Symbol) → subset (first_set_of rs) ((0, 54) ∷ []) ≡ true → 54 < c.sort → (t : Bool) → has (first_set_of rs) c.sort ≡ t → t ≡ false
       none rs u l true e = absurd (omega (arith, up_to_54 rs c.sort u e))
       none rs u l false e = refl
 
-      refusal : (rs : List Symbol) → (wants rs && subset (first_of_lem rs) ((0, 54) ∷ [])) ≡ true → 54 < c.sort → (es : List Card) →
+      refusal : (rs : List Symbol) → (wants rs && subset (first_set_of rs) ((0, 54) ∷ [])) ≡ true → 54 < c.sort → (es : List Card) →
           standing text c.last (rs ++ ss) 0 es h ≡ fails 29 c.begins
       refusal rs i l es =
-          let b = both (wants rs) (subset (first_of_lem rs) ((0, 54) ∷ [])) i in
-          not_begun rs ss b.0 (none rs b.1 l (has (first_of_lem rs) c.sort) refl) es h
+          let b = both (wants rs) (subset (first_set_of rs) ((0, 54) ∷ [])) i in
+          not_begun rs ss b.0 (none rs b.1 l (has (first_set_of rs) c.sort) refl) es h
 
       go : (t : Bool) → leb c.sort 54 ≡ t → standing text c.last (ps ++ ss) 0 cs h ≡ standing text c.last (qs ++ ss) 0 ds h
       go true e = f (leb-true c.sort 54 e)
@@ -158,22 +158,22 @@ pub record Sole (n : Part) (r : List Symbol) : Type 0 where
   pub among : Among r (rule n)
   pub never_empty : nullable n ≡ false
   pub wants_token : wanting r ≡ true
-  pub covered : covers (first n) (first_of_lem r) 57 ≡ true
+  pub covered : covers (first n) (first_set_of r) 57 ≡ true
 
 -- It is read as its alternative, also where it is refused.
 pub as_sole : (text : List ℕ) (c : Cursor) → Ahead text c → (n : Part) (r ss : List Symbol) (cs : List Card) (h : ℕ) → Sole n r →
     standing text c.last (part n ∷ ss) 0 cs h ≡ standing text c.last (r ++ ss) 0 cs h
 unfolding wanting
-as_sole text c a n r ss cs h t = go (has (first_of_lem r) c.sort) refl
+as_sole text c a n r ss cs h t = go (has (first_set_of r) c.sort) refl
   where
-    w : (wants r ≡ true) × (subset (first_of_lem r) ((0, 54) ∷ []) ≡ true)
-    w = both (wants r) (subset (first_of_lem r) ((0, 54) ∷ [])) t.wants_token
+    w : (wants r ≡ true) × (subset (first_set_of r) ((0, 54) ∷ []) ≡ true)
+    w = both (wants r) (subset (first_set_of r) ((0, 54) ∷ [])) t.wants_token
 
-    none : has (first_of_lem r) c.sort ≡ false → (u : Bool) → has (first n) c.sort ≡ u → u ≡ false
-    none k true e = clash (sym k ∙ covers_has (first n) (first_of_lem r) 57 c.sort t.covered (omega (arith, a.told)) e)
+    none : has (first_set_of r) c.sort ≡ false → (u : Bool) → has (first n) c.sort ≡ u → u ≡ false
+    none k true e = clash (sym k ∙ covers_has (first n) (first_set_of r) 57 c.sort t.covered (omega (arith, a.told)) e)
     none k false e = refl
 
-    go : (u : Bool) → has (first_of_lem r) c.sort ≡ u → standing text c.last (part n ∷ ss) 0 cs h ≡ standing text c.last (r ++ ss) 0 cs h
+    go : (u : Bool) → has (first_set_of r) c.sort ≡ u → standing text c.last (part n ∷ ss) 0 cs h ≡ standing text c.last (r ++ ss) 0 cs h
     go true k = open_part text c.last c.sort c.begins c.ends a ss 0 cs h n r (up_to_54 r c.sort w.1 k) t.among k
     go false k =
         no_part text c.last c.sort c.begins c.ends a ss 0 cs h n t.never_empty (none k (has (first n) c.sort) refl) ∙

@@ -9,7 +9,7 @@ use lib.ListN.{length}
 use Rattle.definition.specs.Lists.{Among}
 use Rattle.definition.specs.Grammar.{Symbol, one, part, mark, Part, rule, item, item_ends, named}
 use Rattle.definition.specs.GrammarSets.{first}
-use Rattle.definition.specs.Machine.{has, first_of_lem}
+use Rattle.definition.specs.Machine.{has, first_set_of}
 use Rattle.definition.specs.Cards.{Card}
 use Rattle.definition.specs.ItemCards.{begun, named_by, ended}
 use Rattle.definition.specs.Refusals.{card_capacity}
@@ -131,13 +131,13 @@ module _ (text : List ℕ) where
   alone n r t f = (λ a. joining.alone text a n r t (f.0 a), f.1)
 
   pub chosen : {c : Cursor} {e : End} {before after : List ℕ} {P : Type 0} (n : Part) (r : List Symbol) (x : ℕ) → Among r (rule n) →
-      has (first_of_lem r) x ≡ true → x ≤ 54 → c.sort ≡ x → (Ahead text c → Lists r text c e before after) × P →
+      has (first_set_of r) x ≡ true → x ≤ 54 → c.sort ≡ x → (Ahead text c → Lists r text c e before after) × P →
       (Ahead text c → Lists (part n ∷ []) text c e before after) × P
-  chosen n r x i w s k f = (λ a. joining.opens text a n r (omega arith) i (ap (has (first_of_lem r)) k ∙ w) (f.0 a), f.1)
+  chosen n r x i w s k f = (λ a. joining.opens text a n r (omega arith) i (ap (has (first_set_of r)) k ∙ w) (f.0 a), f.1)
 
   pub list_chosen : {b c : Cursor} {before after : List ℕ} (ps us : List Symbol) (n : Part) (r : List Symbol) (x : ℕ) → Among r (rule n) →
-      has (first_of_lem r) x ≡ true → x ≤ 54 → c.sort ≡ x → InList ps text b before (part n ∷ us) c after → InList ps text b before (r ++ us) c after
-  list_chosen ps us n r x i w s k f = (λ a. joining.opened text ps us n r (omega arith) i (ap (has (first_of_lem r)) k ∙ w) (f.0 a), f.1, f.2)
+      has (first_set_of r) x ≡ true → x ≤ 54 → c.sort ≡ x → InList ps text b before (part n ∷ us) c after → InList ps text b before (r ++ us) c after
+  list_chosen ps us n r x i w s k f = (λ a. joining.opened text ps us n r (omega arith) i (ap (has (first_set_of r)) k ∙ w) (f.0 a), f.1, f.2)
 
   -- ---- A repeated part before its closer.
   module _ (n m : Part) (y : ℕ) (t : Repeated n m y) where

@@ -5,7 +5,7 @@ use Prim.Native.Nat.{ℕ, ◌≤◌}
 use native.Mathlib.Omega.{arith}
 use lib.ListN.{length}
 use Rattle.definition.specs.Grammar.{Symbol, one, part}
-use Rattle.definition.specs.Machine.{first_of_lem}
+use Rattle.definition.specs.Machine.{first_set_of}
 use Rattle.parser_lexer.specs.Ahead.{Lies}
 use Rattle.parser_lexer.specs.declared.Cursor.{Cursor}
 use Rattle.parser_values.specs.declared.End.{End}
@@ -27,7 +27,7 @@ module _ (text : List ℕ) (x y k : ℕ) (l : NameList) (t : Joined x y k l) whe
     never_empty = t.never_empty;
     wants_token = refl;
     covered =
-        ap (λ (s : List (ℕ × ℕ)). covers s (first_of_lem (name_item k)) 57) t.letters;
+        ap (λ (s : List (ℕ × ℕ)). covers s (first_set_of (name_item k)) 57) t.letters;
   }
 
   each : {c : Cursor} {before after : List ℕ} (e : End) → MustList (name_item k) text c e before after → MayList (part l.name ∷ []) text c e before after

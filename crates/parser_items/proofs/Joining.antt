@@ -2,13 +2,13 @@
 use mathlib.Core.Path.{◌≡◌, refl, sym, ap, ◌∙◌}
 use mathlib.Core.List.{List, [], ◌∷◌, ◌++◌, append_assoc, append-nil}
 use mathlib.Core.Bool.{true, false}
-use Prim.Native.Nat.{ℕ, ◌+◌, ◌-◌, ◌≤◌}
+use Prim.Native.Nat.{ℕ, ◌+◌, ◌≤◌}
 use native.Mathlib.Omega.{arith}
 use lib.ListN.{length, length-append}
-use Rattle.definition.specs.Lists.{Among, there}
+use Rattle.definition.specs.Lists.{Among}
 use Rattle.definition.specs.Grammar.{Symbol, one, part, mark, Part, rule, item, item_ends, named}
 use Rattle.definition.specs.GrammarSets.{nullable, first}
-use Rattle.definition.specs.Machine.{has, first_of_lem}
+use Rattle.definition.specs.Machine.{has, first_set_of}
 use Rattle.definition.specs.Cards.{Card}
 use Rattle.definition.specs.ItemCards.{begun, named_by, ended}
 use Rattle.definition.specs.Refusals.{card_capacity}
@@ -134,7 +134,7 @@ module _ (text : List ℕ) where
   }
 
   pub opens : {c : Cursor} {e : End} {before after : List ℕ} → Ahead text c → (n : Part) (r : List Symbol) → c.sort ≤ 54 → Among r (rule n) →
-      has (first_of_lem r) c.sort ≡ true → Lists r text c e before after → Lists (part n ∷ []) text c e before after
+      has (first_set_of r) c.sort ≡ true → Lists r text c e before after → Lists (part n ∷ []) text c e before after
   opens {c} a n r k i w f = record {
     cards = f.cards;
     written = f.written;
@@ -144,7 +144,7 @@ module _ (text : List ℕ) where
 
   -- The same of the part that is next in the middle.
   pub opened : {b c : Cursor} {before after : List ℕ} (ps us : List Symbol) (n : Part) (r : List Symbol) → c.sort ≤ 54 → Among r (rule n) →
-      has (first_of_lem r) c.sort ≡ true → Listing ps text b before (part n ∷ us) c after → Listing ps text b before (r ++ us) c after
+      has (first_set_of r) c.sort ≡ true → Listing ps text b before (part n ∷ us) c after → Listing ps text b before (r ++ us) c after
   opened {b} {c} ps us n r k i w f = record {
     cards = f.cards;
     written = f.written;

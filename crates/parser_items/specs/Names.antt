@@ -3,7 +3,7 @@ use Rattle.std.specs.Prelude.{◌≡◌, List, [], ◌∷◌, true, false, ℕ}
 use Rattle.definition.specs.Lists.{Among}
 use Rattle.definition.specs.Grammar.{Symbol, Part, one, part, mark, rule, item, named, name, item_ends}
 use Rattle.definition.specs.GrammarSets.{nullable, first}
-use Rattle.definition.specs.Machine.{has, first_of_lem}
+use Rattle.definition.specs.Machine.{has, first_set_of}
 use Rattle.parser_values.specs.Reads.{Optional}
 
 abbrev pub name_item : ℕ → List Symbol
@@ -26,7 +26,7 @@ pub record Joined (x y k : ℕ) (l : NameList) : Type 0 where
   pub absent : Among [] (rule l.optional)
   pub opener : first l.optional ≡ (x, x) ∷ []
   pub whole : Among (name_list x l) (rule l.list)
-  pub begins : has (first_of_lem (part l.list ∷ [])) x ≡ true
+  pub begins : has (first_set_of (part l.list ∷ [])) x ≡ true
   pub leads : Optional l.lead y
   pub names : Among (name_item k) (rule l.name)
   pub never_empty : nullable l.name ≡ false

@@ -15,7 +15,7 @@ use parser_lexer::{Cursor, next_token};
 use parser_values::{End, take};
 
 // What the list is of.
-#[derive(Drop)]
+#[derive(Clone, Copy)]
 pub enum Braced {
     Operations,
     Definitions(ItemDefinition),

@@ -19,7 +19,7 @@ use parser_values::types::type_reference;
 use parser_values::{End, take};
 
 // Which of them.
-#[derive(Drop)]
+#[derive(Clone, Copy)]
 pub enum ItemDefinition {
     Field,
     EnumValue,

@@ -1,4 +1,6 @@
 // The readers of the parts of headings, which have a card each: directive uses, interfaces, fields, members, enum values, input fields and roots.
+#![tactic(auto)]
+
 pub mod braces;
 pub mod cards;
 pub mod definitions;

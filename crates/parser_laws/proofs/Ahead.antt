@@ -3,21 +3,21 @@ use mathlib.Core.Path.{◌≡◌, refl, sym, ap, ◌∙◌}
 use mathlib.Core.List.{List, [], ◌∷◌, ◌++◌}
 use mathlib.Core.Bool.{Bool, true, false}
 use mathlib.Core.Option.{Option, none, some}
-use Prim.Native.Nat.{ℕ, zero, suc, ◌+◌, ◌-◌, ◌≤◌, ◌<◌}
+use Prim.Native.Nat.{ℕ, ◌+◌, ◌-◌, ◌≤◌, ◌<◌}
 use native.Mathlib.Omega.{arith}
 use borrow.Author.Tests.{leb-true, leb-false}
 use lib.Dec.{leb}
 use lib.ListN.{length}
-use Rattle.definition.specs.Lists.{choose, Among, here, there}
+use Rattle.definition.specs.Lists.{choose, Among}
 use Rattle.definition.specs.Grammar.{Symbol, one, part, mark, Part, rule, within, heading, kind, heading_ends, item, item_ends, named, deeper, shallower}
 use Rattle.definition.specs.GrammarSets.{nullable, first}
 use Rattle.definition.specs.Derivation.{Token}
 use Rattle.definition.specs.Lexical.{Lexed}
-use Rattle.definition.specs.Machine.{has, first_of_lem, empties, pick, ahead}
+use Rattle.definition.specs.Machine.{has, first_set_of, empties, pick, ahead}
 use Rattle.definition.specs.Cards.{Card}
 use Rattle.definition.specs.ItemCards.{Listing, passed, noting, level_after, begun, of_kind, ended, named_by}
 use Rattle.definition.specs.Reading.{place_at}
-use Rattle.parser_laws.specs.Verdict.{Verdict, passes, fails, verdict, before, next_of}
+use Rattle.parser_laws.specs.Verdict.{passes, fails, verdict, next_of}
 use Rattle.parser_laws.specs.Standing.{from, standing, AheadOf}
 use Rattle.parser_laws.proofs.Tests.{clash, within_bounds, subset, subset_has}
 use Rattle.parser_laws.proofs.Theory.{has_left}
@@ -97,7 +97,7 @@ module _ (text : List ℕ) (at s b e : ℕ) (a : AheadOf text at s b e) where
         (λ k. ap (λ (x : Lexed). verdict x (one lo hi ∷ ss) level listing) (a.unread k) ∙ by_missing b level listing true lo hi ss)
 
     -- The alternative that the token begins.
-    pub open_part : (n : Part) (r : List Symbol) → s ≤ 54 → Among r (rule n) → has (first_of_lem r) s ≡ true →
+    pub open_part : (n : Part) (r : List Symbol) → s ≤ 54 → Among r (rule n) → has (first_set_of r) s ≡ true →
         standing text at (part n ∷ ss) level cs h ≡ standing text at (r ++ ss) level cs h
     unfolding standing
     open_part n r k i w = by_part (from text at) ss level listing n r (ap (λ (o : Option ℕ). pick o n) (some_ahead k) ∙ picks n s r i w)
@@ -163,7 +163,7 @@ module _ (text : List ℕ) (at s b e : ℕ) (a : AheadOf text at s b e) where
     pub repeats : (n m : Part) → Among (part n ∷ part m ∷ []) (rule m) → Among [] (rule m) → nullable n ≡ false → subset (first m) (first n) ≡ true →
         subset (first n) ((0, 54) ∷ []) ≡ true → (c : ℕ) → (s ≡ c → ⊥) →
         standing text at (part m ∷ one c c ∷ ss) level cs h ≡ standing text at (part n ∷ part m ∷ one c c ∷ ss) level cs h
-    unfolding empties first_of_lem has
+    unfolding empties first_set_of has
     repeats n m i j u f g c z = go (has (first n) s) refl
       where
         not_so : has (first n) s ≡ false → (t : Bool) → has (first m) s ≡ t → t ≡ false

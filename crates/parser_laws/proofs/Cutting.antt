@@ -1,24 +1,23 @@
 -- A text cut between two tokens: the tokens of both pieces are the tokens of the whole.
 use mathlib.Core.Path.{◌≡◌, refl, sym, ap, ◌∙◌, subst}
-use mathlib.Core.List.{List, [], ◌∷◌, ◌++◌, append_assoc}
-use mathlib.Core.Bool.{Bool, true, false, ◌&&◌, ◌||◌, not}
+use mathlib.Core.List.{List, [], ◌∷◌, ◌++◌}
+use mathlib.Core.Bool.{Bool, true, false, ◌&&◌, ◌||◌}
 use mathlib.Core.Option.{Option, none, some}
 use mathlib.Core.Logic.{◌⊎◌, inl, inr}
 use Prim.Native.Nat.{ℕ, zero, suc, ◌+◌, ◌-◌, ◌≤◌, ◌<◌}
 use native.Mathlib.Omega.{arith}
 use borrow.Author.Tests.{eqb-true}
-use lib.Dec.{eqb, leb}
-use lib.ListN.{length, get_or, take, drop, length-drop, length-append, take-append-drop}
+use lib.Dec.{eqb}
+use lib.ListN.{length, take, drop, length-drop, take-append-drop}
 use lib.Seq.{take-append-le, drop-append-le}
 use Rattle.definition.specs.Lists.{choose, found, any, Among, here, there}
-use Rattle.definition.specs.Grammar.{sort_of_name}
 use Rattle.definition.specs.Derivation.{Token}
 use Rattle.definition.specs.Names.{is_name_start, is_name_byte}
 use Rattle.definition.specs.Lexical.{between, byte, continues, character, ends_line, comment, is_digit, run, integer, begun, fraction, exponent, Lexeme}
-use Rattle.definition.specs.Lexical.{ignored, lexed, unreadable, number_of, number, is_hex, escape, plain, tripled, block, string, punctuators}
-use Rattle.definition.specs.Lexical.{punctuator, named, lexeme, Lexed, lexed_by, tokens_from}
-use Rattle.parser_laws.proofs.Tests.{clash, both, either}
-use Rattle.parser_laws.proofs.Gluing.{test_there, no_third, both_false, run_size, character_size, one_more_lem, unless, sign, sign_size}
+use Rattle.definition.specs.Lexical.{ignored, lexed, unreadable, number_of, number, is_hex, escape, plain, tripled, block, string}
+use Rattle.definition.specs.Lexical.{named, lexeme, Lexed, lexed_by, tokens_from}
+use Rattle.parser_laws.proofs.Tests.{clash, both}
+use Rattle.parser_laws.proofs.Gluing.{test_there, both_false, character_size, one_more_lem, unless, sign, sign_size}
 use Rattle.parser_laws.proofs.Gluing.{number_from, lexeme_by, escaped, Fits, and_then, Small, lexeme_small}
 
 -- The size of a character by the tests on its bytes.

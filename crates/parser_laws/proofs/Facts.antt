@@ -1,32 +1,30 @@
 -- What the machine's tables must be: `sound n` is one test for each part of the grammar, which Sound.antt computes.
-use mathlib.Core.Path.{◌≡◌, refl}
-use mathlib.Core.List.{List, [], ◌∷◌, ◌++◌}
+use mathlib.Core.List.{List, [], ◌∷◌}
 use mathlib.Core.Bool.{Bool, true, false, ◌&&◌, ◌||◌, not}
-use mathlib.Core.Option.{Option, none, some}
-use Prim.Native.Nat.{ℕ, zero, suc, ◌+◌}
+use Prim.Native.Nat.{ℕ, zero, suc}
 use lib.Dec.{leb, ltb}
 use lib.ListN.{length}
-use Rattle.definition.specs.Lists.{choose, any, all, Among, here, there}
+use Rattle.definition.specs.Lists.{all}
 use Rattle.definition.specs.Grammar.{Mark, heading, kind, heading_ends, item, item_ends, named, deeper, shallower, Symbol, one, part, mark, Part, rule}
 use Rattle.definition.specs.GrammarSets.{nullable, first, follow, weight, rank, short}
-use Rattle.definition.specs.Machine.{has, first_of_lem, empties, weigh}
+use Rattle.definition.specs.Machine.{first_set_of, empties, weigh}
 use Rattle.parser_laws.proofs.Tests.{subset, disjoint}
 
 -- Whatever an alternative begins with, its part begins with; where it can be empty, so can its part; it weighs less.
 unfoldable pub covered : Part → List Symbol → Bool
-covered n r = subset (first_of_lem r) (first n) && (not (empties r) || nullable n) && ltb (weigh r) (weight n)
+covered n r = subset (first_set_of r) (first n) && (not (empties r) || nullable n) && ltb (weigh r) (weight n)
 
 -- Every range of sorts is one, and after each part of an alternative stands only what may follow it, where f may follow the alternative.
 unfoldable pub followed : List (ℕ × ℕ) → List Symbol → Bool
 followed f [] = true
 followed f (one lo hi ∷ ss) = leb lo hi && followed f ss
 followed f (mark m ∷ ss) = followed f ss
-followed f (part n ∷ ss) = subset (first_of_lem ss) (follow n) && (not (empties ss) || subset f (follow n)) && followed f ss
+followed f (part n ∷ ss) = subset (first_set_of ss) (follow n) && (not (empties ss) || subset f (follow n)) && followed f ss
 
 -- No two alternatives begin alike, and at most one can be empty.
 unfoldable pub unlike : List (List Symbol) → Bool
 unlike [] = true
-unlike (r ∷ rs) = all (λ q. disjoint (first_of_lem r) (first_of_lem q)) rs && unlike rs
+unlike (r ∷ rs) = all (λ q. disjoint (first_set_of r) (first_set_of q)) rs && unlike rs
 
 unfoldable pub lone : List (List Symbol) → Bool
 lone [] = true

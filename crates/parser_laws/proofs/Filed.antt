@@ -12,7 +12,7 @@ use lib.ListN.{length, take, drop}
 use lib.Seq.{take_at}
 use Rattle.definition.specs.Lists.{choose, found, all, chunks, flat_map, written, Among}
 use Rattle.definition.specs.Cards.{Card, words_of_card, card_from, cards_from, card_fault, broken_cards, cards_of, document_fault, card_words}
-use Rattle.definition.specs.Grammar.{Mark, heading, kind, heading_ends, item, item_ends, named, deeper, shallower, Symbol, one, part, mark, Part, Document}
+use Rattle.definition.specs.Grammar.{Mark, heading, kind, heading_ends, item, item_ends, named, deeper, shallower, Symbol, one, part, mark, Part}
 use Rattle.definition.specs.Grammar.{rule}
 use Rattle.definition.specs.Derivation.{Token, Seen, Derives, nothing, reads, marks, expands, tokens_of, Comes}
 use Rattle.definition.specs.ItemCards.{Listing, noting, passed, next, listed, nothing_listed, cards_read}

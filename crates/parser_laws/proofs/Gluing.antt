@@ -1,22 +1,20 @@
 -- Texts joined by a line feed: their tokens are joined too, where the first is read to its end.
-use mathlib.Core.Path.{◌≡◌, refl, sym, ap, ◌∙◌, subst}
-use mathlib.Core.List.{List, [], ◌∷◌, ◌++◌, append_assoc}
-use mathlib.Core.Bool.{Bool, true, false, ◌&&◌, ◌||◌, not}
+use mathlib.Core.Path.{◌≡◌, refl, sym, ap, ◌∙◌}
+use mathlib.Core.List.{List, [], ◌∷◌, ◌++◌}
+use mathlib.Core.Bool.{Bool, true, false, ◌&&◌, ◌||◌}
 use mathlib.Core.Option.{Option, none, some}
-use mathlib.Core.Logic.{◌⊎◌, inl, inr}
 use Prim.Native.Nat.{ℕ, zero, suc, ◌+◌, ◌-◌, ◌≤◌, ◌<◌}
 use native.Mathlib.Omega.{arith}
 use borrow.Author.Tests.{eqb-true, eqb-false}
-use lib.Dec.{eqb, leb}
-use lib.ListN.{length, get_or, take, drop, length-drop}
+use lib.Dec.{eqb}
+use lib.ListN.{length, take, drop, length-drop}
 use Rattle.definition.specs.Lists.{choose, found, any}
-use Rattle.definition.specs.Grammar.{sort_of_name}
 use Rattle.definition.specs.Derivation.{Token}
 use Rattle.definition.specs.Names.{is_name_start, is_name_byte}
 use Rattle.definition.specs.Lexical.{between, byte, continues, character, ends_line, comment, is_digit, run, integer, begun, fraction, exponent, Lexeme}
 use Rattle.definition.specs.Lexical.{ignored, lexed, unreadable, number_of, number, is_hex, escape, plain, tripled, block, string, punctuators}
 use Rattle.definition.specs.Lexical.{punctuator, named, lexeme, Lexed, lexed_by, tokens_from}
-use Rattle.parser_laws.proofs.Tests.{clash, both, either}
+use Rattle.parser_laws.proofs.Tests.{clash, both}
 
 abbrev pub glue : List ℕ → List ℕ → List ℕ
 glue b bs = bs ++ (10 ∷ b)

@@ -14,7 +14,7 @@ use Rattle.definition.specs.Names.{is_name, bytes_at}
 use Rattle.definition.specs.Cards.{Card, is_heading, is_part, is_unnamed, definition_of, part_order}
 use Rattle.definition.specs.Grammar.{Mark, heading, kind, heading_ends, item, item_ends, named, deeper, shallower, within}
 use Rattle.definition.specs.Derivation.{Token}
-use Rattle.definition.specs.ItemCards.{Listing, amend, begun as cardBegun, of_kind, ended, named_by, noting, passed}
+use Rattle.definition.specs.ItemCards.{Listing, amend, begun as card_begun, of_kind, ended, named_by, noting, passed}
 use Rattle.parser_laws.proofs.Tests.{clash, both, either, within_bounds}
 use Rattle.parser_laws.proofs.Items.{amend_at, amend_last}
 use Rattle.parser_laws.proofs.Lined.{Lying}
@@ -42,7 +42,7 @@ pub record Headed (text : List ℕ) (cs : List Card) (head : ℕ) (P : ℕ → �
   pub last : Option Card
   pub child : Option Card
   pub at : ℕ
-  pub cards : cs ≡ done ++ (cardBegun 0 at ∷ [])
+  pub cards : cs ≡ done ++ (card_begun 0 at ∷ [])
   pub number : head ≡ length done
   pub chain : Chain text none none done last child
   pub since : P (end_of 0 last) at
@@ -54,7 +54,7 @@ pub record Making (text : List ℕ) (d : ℕ) (cs : List Card) (head end : ℕ) 
   pub child : Option Card
   pub at : ℕ
   pub kind : ℕ
-  pub cards : cs ≡ done ++ (f (cardBegun kind at) ∷ [])
+  pub cards : cs ≡ done ++ (f (card_begun kind at) ∷ [])
   pub number : head ≡ length done
   pub chain : Chain text none none done last child
   pub known : is_heading kind ≡ true
@@ -82,7 +82,7 @@ pub record Item (text : List ℕ) (d b p : ℕ) (cs : List Card) (head end : ℕ
   pub before : List Card
   pub low : ℕ
   pub at : ℕ
-  pub cards : cs ≡ before ++ (f (cardBegun p at) ∷ [])
+  pub cards : cs ≡ before ++ (f (card_begun p at) ∷ [])
   pub above : Under text d b before head low
   pub known : is_part p ≡ true
   pub place : place_under d p ≡ b
@@ -96,7 +96,7 @@ pub record Titled (text : List ℕ) (d b p : ℕ) (cs : List Card) (head end : �
   pub low : ℕ
   pub at : ℕ
   pub t : Token
-  pub cards : cs ≡ before ++ (named_by t (cardBegun p at) ∷ [])
+  pub cards : cs ≡ before ++ (named_by t (card_begun p at) ∷ [])
   pub above : Under text d b before head low
   pub known : is_part p ≡ true
   pub place : place_under d p ≡ b
@@ -260,10 +260,10 @@ module _ (text : List ℕ) (t : Token) (l : Listing) (y : Lying text l.end t) (n
 
   -- The heading's name.
   on_calling : (d : ℕ) → 17 ≤ t.sort → Holds text (calling d) l t → Holds text (under d 0) (passed t l) nx
-  unfolding passed named_by cardBegun ended
+  unfolding passed named_by card_begun ended
   on_calling d w g = record {
     done = g.done;
-    top = named_by t (cardBegun g.kind g.at);
+    top = named_by t (card_begun g.kind g.at);
     parts = [];
     child = none;
     cards = g.cards;
@@ -275,7 +275,7 @@ module _ (text : List ℕ) (t : Token) (l : Listing) (y : Lying text l.end t) (n
     ordered = omega arith;
   }
     where
-      well : (e : ℕ) → t.begins + t.size ≤ e → WellNamed text (ended e (named_by t (cardBegun g.kind g.at)))
+      well : (e : ℕ) → t.begins + t.size ≤ e → WellNamed text (ended e (named_by t (card_begun g.kind g.at)))
       well e i = record {
         begins = omega (arith, g.grown, y.after);
         ends = omega (arith, g.grown, y.after, i);
@@ -285,9 +285,9 @@ module _ (text : List ℕ) (t : Token) (l : Listing) (y : Lying text l.end t) (n
         nameless = g.named;
       }
 
-      clean : (e : ℕ) → t.begins + t.size ≤ e → e ≤ length text → Fine text none g.last (ended e (named_by t (cardBegun g.kind g.at)))
+      clean : (e : ℕ) → t.begins + t.size ≤ e → e ≤ length text → Fine text none g.last (ended e (named_by t (card_begun g.kind g.at)))
       clean e i j =
-          heading_clean text g.last (ended e (named_by t (cardBegun g.kind g.at))) g.known
+          heading_clean text g.last (ended e (named_by t (card_begun g.kind g.at))) g.known
           (omega (arith, g.grown, y.after, i)) (omega (arith, g.grown, y.after, i)) g.after (well e i)
 
   on_unnamed : (d b p : ℕ) → is_bare p ≡ false → Holds text (unnamed d b p) l t → Holds text (unnamed d b p) (passed t l) nx
@@ -388,12 +388,12 @@ module _ (text : List ℕ) (l : Listing) (nx : Token) where
   }
 
   -- The kind of a heading, with a name to come and without one.
-  kind_cards : (k : ℕ) (g : Holds text read_on l nx) → (noting (kind k) nx l).cards ≡ g.done ++ (cardBegun k g.at ∷ [])
-  unfolding noting of_kind cardBegun
+  kind_cards : (k : ℕ) (g : Holds text read_on l nx) → (noting (kind k) nx l).cards ≡ g.done ++ (card_begun k g.at ∷ [])
+  unfolding noting of_kind card_begun
   kind_cards k g =
       ap (λ (cs : List Card). amend (of_kind k) l.head cs) g.cards ∙
-      ap (λ (n : ℕ). amend (of_kind k) n (g.done ++ (cardBegun 0 g.at ∷ []))) g.number ∙
-      amend_at (of_kind k) g.done (cardBegun 0 g.at) []
+      ap (λ (n : ℕ). amend (of_kind k) n (g.done ++ (card_begun 0 g.at ∷ []))) g.number ∙
+      amend_at (of_kind k) g.done (card_begun 0 g.at) []
 
   on_kind : (k : ℕ) → is_heading k ≡ true → is_nameless k ≡ false → Holds text read_on l nx → Holds text (kinded (definition_of k)) (noting (kind k) nx l) nx
   unfolding noting
@@ -415,10 +415,10 @@ module _ (text : List ℕ) (l : Listing) (nx : Token) where
 
   on_kind_alone : (k : ℕ) → is_heading k ≡ true → is_nameless k ≡ true → Holds text read_on l nx →
       Holds text (under (definition_of k) 0) (noting (kind k) nx l) nx
-  unfolding noting cardBegun ended is_unnamed
+  unfolding noting card_begun ended is_unnamed
   on_kind_alone k h n g = record {
     done = g.done;
-    top = cardBegun k g.at;
+    top = card_begun k g.at;
     parts = [];
     child = none;
     cards = kind_cards k g;
@@ -430,9 +430,9 @@ module _ (text : List ℕ) (l : Listing) (nx : Token) where
     ordered = omega arith;
   }
     where
-      clean : (e : ℕ) → l.end ≤ e → e ≤ length text → Fine text none g.last (ended e (cardBegun k g.at))
+      clean : (e : ℕ) → l.end ≤ e → e ≤ length text → Fine text none g.last (ended e (card_begun k g.at))
       clean e i j =
-          nameless_clean text g.last (ended e (cardBegun k g.at)) h (omega (arith, g.since.1, i)) (omega (arith, g.since.1, i)) g.since.0 refl n
+          nameless_clean text g.last (ended e (card_begun k g.at)) h (omega (arith, g.since.1, i)) (omega (arith, g.since.1, i)) g.since.0 refl n
 
   on_heading_ends : l.end ≤ length text → Holds text full l nx → Holds text outside (noting heading_ends nx l) nx
   unfolding noting ended
@@ -480,7 +480,7 @@ module _ (text : List ℕ) (l : Listing) (nx : Token) where
     kind = g.kind;
     cards =
         ap (λ (cs : List Card). amend (named_by nx) (length cs - 1) cs) g.cards ∙
-        amend_last (named_by nx) g.done (cardBegun g.kind g.at);
+        amend_last (named_by nx) g.done (card_begun g.kind g.at);
     number = g.number;
     chain = g.chain;
     known = g.known;
@@ -498,7 +498,7 @@ module _ (text : List ℕ) (l : Listing) (nx : Token) where
     at = g.at;
     cards =
         ap (λ (cs : List Card). amend (named_by nx) (length cs - 1) cs) g.cards ∙
-        amend_last (named_by nx) g.before (cardBegun p g.at);
+        amend_last (named_by nx) g.before (card_begun p g.at);
     above = g.above;
     known = g.known;
     place = g.place;
@@ -514,7 +514,7 @@ module _ (text : List ℕ) (l : Listing) (nx : Token) where
       rw (ne_eqb p 4 (λ i. omega arith), ne_eqb p 11 (λ i. omega arith))
 
   on_item_ends : (d b p : ℕ) → l.end ≤ length text → Holds text (named_it d b p) l nx → Holds text (under d b) (noting item_ends nx l) nx
-  unfolding noting ended named_by cardBegun
+  unfolding noting ended named_by card_begun
   on_item_ends d b p m g =
       let u = g.above in
       record {
@@ -524,7 +524,7 @@ module _ (text : List ℕ) (l : Listing) (nx : Token) where
         child = some c;
         cards =
             ap (λ (cs : List Card). amend (ended l.end) (length cs - 1) cs) g.cards ∙
-            amend_last (ended l.end) g.before (named_by g.t (cardBegun p g.at)) ∙
+            amend_last (ended l.end) g.before (named_by g.t (card_begun p g.at)) ∙
             ap (λ (cs : List Card). cs ++ (c ∷ [])) u.cards ∙
             append_assoc u.done (u.top ∷ u.parts) (c ∷ []);
         number = u.number;
@@ -539,7 +539,7 @@ module _ (text : List ℕ) (l : Listing) (nx : Token) where
       }
     where
       c : Card
-      c = ended l.end (named_by g.t (cardBegun p g.at))
+      c = ended l.end (named_by g.t (card_begun p g.at))
 
       inside : (g.low ≤ g.at) × (g.at < l.end)
       inside = (g.after, omega (arith, g.begins, g.ends, g.long))

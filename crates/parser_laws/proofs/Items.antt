@@ -1,15 +1,14 @@
 -- Items and their cards: what the marks of an item do to the cards listed, in the form in which code uses it.
-use mathlib.Core.Path.{◌≡◌, refl, sym, ap, ◌∙◌}
-use mathlib.Core.List.{List, [], ◌∷◌, ◌++◌, append_assoc}
-use Prim.Native.Nat.{ℕ, zero, suc, ◌+◌, ◌-◌, ◌≤◌, ◌<◌}
+use mathlib.Core.Path.{◌≡◌, refl, ap, ◌∙◌}
+use mathlib.Core.List.{List, [], ◌∷◌, ◌++◌}
+use Prim.Native.Nat.{ℕ, ◌-◌}
 use native.Mathlib.Omega.{arith}
 use lib.ListN.{length, length-append}
-use Rattle.definition.specs.Grammar.{Mark, Symbol, one, part, mark, heading, kind, heading_ends, item, item_ends, named}
-use Rattle.definition.specs.Derivation.{Token}
+use Rattle.definition.specs.Grammar.{Symbol, mark, heading, kind, heading_ends, item, item_ends, named}
 use Rattle.definition.specs.Lexical.{Lexed}
 use Rattle.definition.specs.Cards.{Card}
 use Rattle.definition.specs.ItemCards.{Listing, amend, begun, of_kind, ended, named_by, noting, level_after}
-use Rattle.parser_laws.specs.Verdict.{Verdict, verdict, next_of}
+use Rattle.parser_laws.specs.Verdict.{verdict, next_of}
 use Rattle.parser_laws.proofs.Steps.{by_mark}
 
 -- The card after those before it.

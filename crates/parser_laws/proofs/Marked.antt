@@ -1,16 +1,16 @@
 -- Where an item's mark stands in what a text comes by, a piece begins that derives the item's part of the grammar.
 use mathlib.Core.Path.{◌≡◌, refl, sym, ap, ◌∙◌, subst}
-use mathlib.Core.List.{List, [], ◌∷◌, ◌++◌, append_assoc, append-nil}
-use mathlib.Core.Bool.{Bool, true, false, ◌&&◌, ◌||◌, not}
-use Prim.Native.Nat.{ℕ, zero, suc, ◌+◌, ◌≤◌, ◌<◌}
+use mathlib.Core.List.{List, [], ◌∷◌, ◌++◌, append-nil}
+use mathlib.Core.Bool.{Bool, true, false, not}
+use Prim.Native.Nat.{ℕ}
 use native.Mathlib.Omega.{arith}
-use Rattle.definition.specs.Lists.{all, Among, here, there}
-use Rattle.definition.specs.Grammar.{Mark, Symbol, one, part, mark, Part, Document, rule, within}
-use Rattle.definition.specs.Derivation.{Token, Seen, token, marked, Derives, nothing, reads, marks, expands, tokens_of}
+use Rattle.definition.specs.Lists.{Among}
+use Rattle.definition.specs.Grammar.{Mark, Symbol, one, part, mark, Part, Document, rule}
+use Rattle.definition.specs.Derivation.{Seen, token, marked, Derives, marks, expands}
 use Rattle.parser_laws.proofs.Tests.{clash, both, all_among}
 use Rattle.parser_laws.proofs.Facts.{is_start, clean, tidy}
 use Rattle.parser_laws.proofs.Sound.{all_tidy}
-use Rattle.parser_laws.proofs.Pieces.{Long, l_nothing, l_reads, l_marks, l_expands, Measured, measured, unmeasured, Parted, part_at}
+use Rattle.parser_laws.proofs.Pieces.{Long, l_nothing, l_reads, l_marks, l_expands, measured, part_at}
 
 -- The item that begins with the mark m, before `post`: its part of the grammar, the alternative, and its piece, which derives the part.
 pub record Piece (m : Mark) (post : List Seen) : Type 0 where

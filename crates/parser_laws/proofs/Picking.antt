@@ -1,16 +1,16 @@
 -- Which alternative the next token picks, for code that has looked at its sort.
-use mathlib.Core.Path.{◌≡◌, refl, sym, ap, ◌∙◌}
-use mathlib.Core.List.{List, [], ◌∷◌, ◌++◌}
+use mathlib.Core.Path.{◌≡◌, refl, sym, ◌∙◌}
+use mathlib.Core.List.{List, [], ◌∷◌}
 use mathlib.Core.Bool.{Bool, true, false, ◌&&◌}
 use mathlib.Core.Option.{Option, none, some}
-use Prim.Native.Nat.{ℕ, ◌≤◌, ◌<◌}
+use Prim.Native.Nat.{ℕ, ◌<◌}
 use native.Mathlib.Omega.{arith}
-use borrow.Author.Tests.{le-leb, lt-leb}
+use borrow.Author.Tests.{lt-leb}
 use lib.Dec.{leb}
-use Rattle.definition.specs.Lists.{choose, found, Among, here, there}
+use Rattle.definition.specs.Lists.{choose, Among, here, there}
 use Rattle.definition.specs.Grammar.{Symbol, Part, rule, within}
 use Rattle.definition.specs.GrammarSets.{nullable, first}
-use Rattle.definition.specs.Machine.{has, first_of_lem, empties, beginning, emptied, pick}
+use Rattle.definition.specs.Machine.{has, first_set_of, empties, emptied, pick}
 use Rattle.parser_laws.proofs.Tests.{clash, within_bounds}
 use Rattle.parser_laws.proofs.Theory.{facts, begins_so, empty_so, beginning_is, beginning_none, emptied_is}
 
@@ -44,7 +44,7 @@ no_empty (r ∷ rs) h = go (empties r) refl (no_empty rs (λ q a. h q (there a))
 
 module _ (n : Part) where
   -- The alternative that the token begins.
-  pub picks : (s : ℕ) (r : List Symbol) → Among r (rule n) → has (first_of_lem r) s ≡ true → pick (some s) n ≡ some r
+  pub picks : (s : ℕ) (r : List Symbol) → Among r (rule n) → has (first_set_of r) s ≡ true → pick (some s) n ≡ some r
   unfolding pick
   picks s r a h = rw (beginning_is s (rule n) (facts n).unalike a h)
 

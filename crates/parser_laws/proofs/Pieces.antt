@@ -1,13 +1,13 @@
 -- Taking a derivation apart and putting pieces together: what a text of the grammar is made of, and what other texts can be made of it.
 use mathlib.Core.Path.{◌≡◌, refl, sym, ap, ◌∙◌, subst}
-use mathlib.Core.List.{List, [], ◌∷◌, ◌++◌, append_assoc, append-nil}
-use mathlib.Core.Bool.{Bool, true, false}
+use mathlib.Core.List.{List, [], ◌∷◌, ◌++◌, append_assoc}
+use mathlib.Core.Bool.{true}
 use mathlib.Core.Logic.{◌⊎◌, inl, inr}
-use Prim.Native.Nat.{ℕ, zero, suc, ◌+◌, ◌≤◌, ◌<◌}
+use Prim.Native.Nat.{ℕ, zero, suc, ◌≤◌}
 use native.Mathlib.Omega.{arith}
 use Rattle.definition.specs.Lists.{Among, here, there}
 use Rattle.definition.specs.Grammar.{Mark, Symbol, one, part, mark, Part, Document, Definition, Definition*, rule, within}
-use Rattle.definition.specs.Derivation.{Token, Seen, token, marked, Derives, nothing, reads, marks, expands, tokens_of, Comes}
+use Rattle.definition.specs.Derivation.{Token, Seen, token, marked, Derives, nothing, reads, marks, expands}
 
 -- ---- Two derivations, one after the other.
 
@@ -158,6 +158,7 @@ TwoWays n m = rule m ≡ (part n ∷ part m ∷ []) ∷ [] ∷ []
 
 single : (r q : List Symbol) → Among r (q ∷ []) → r ≡ q
 single r q here = refl
+single r q (there a) = elim a [ ]
 
 way : (n m : Part) (r : List Symbol) → Among r ((part n ∷ part m ∷ []) ∷ [] ∷ []) → (r ≡ part n ∷ part m ∷ []) ⊎ (r ≡ [])
 way n m r here = inl refl

@@ -1,13 +1,12 @@
 -- The tokens from a place of a text on: what code that reads a text byte by byte goes by.
-use mathlib.Core.Path.{◌≡◌, refl, sym, ap, ◌∙◌}
-use mathlib.Core.List.{List, [], ◌∷◌, ◌++◌}
-use mathlib.Core.Bool.{Bool, true, false}
+use mathlib.Core.Path.{◌≡◌, sym, ap, ◌∙◌}
+use mathlib.Core.List.{List, [], ◌∷◌}
+use mathlib.Core.Bool.{true, false}
 use Prim.Native.Nat.{ℕ, zero, suc, ◌+◌, ◌-◌, ◌≤◌, ◌<◌}
 use native.Mathlib.Omega.{arith}
 use lib.ListN.{length, get_or, drop, length-drop, drop_of_length-le}
 use lib.Seq.{drop-cons, drop-drop}
-use Rattle.definition.specs.Derivation.{Token}
-use Rattle.definition.specs.Lexical.{Lexeme, ignored, lexed, unreadable, lexeme, Lexed, lexed_by, tokens_from}
+use Rattle.definition.specs.Lexical.{ignored, lexed, unreadable, lexeme, Lexed, lexed_by, tokens_from}
 use Rattle.parser_laws.specs.Standing.{from}
 use Rattle.parser_laws.specs.Verdict.{before}
 use Rattle.parser_laws.proofs.Gluing.{Small, lexeme_small}

@@ -16,7 +16,7 @@ use Rattle.definition.specs.Lexical.{Lexeme, ignored, lexed, unreadable, lexeme,
 use Rattle.definition.specs.Machine.{Ending, whole, stops, Walks}
 use Rattle.definition.specs.ItemCards.{cards_read, too_deep, level_after, levels}
 use Rattle.definition.specs.Cards.{words_of_card}
-use Rattle.definition.specs.Reading.{Reading, accepted, refused, place_at, reading}
+use Rattle.definition.specs.Reading.{Reading, refused, place_at, reading}
 use Rattle.definition.specs.Refusals.{text_capacity, card_capacity, read_cards_capacity}
 use Rattle.definition.specs.Outcomes.{ListOutcome, unlisted, listed_in, is_short, parsed, parse}
 use Rattle.definition.proofs.RefusedCalls.{parse_stays}

@@ -1,21 +1,20 @@
 -- Written by tools/grammar_sets: what Facts.antt asks of every part's sets holds, by computation.
 use mathlib.Core.Path.{◌≡◌, refl}
 use mathlib.Core.Bool.{true}
-use lib.ListN.{length}
 use Rattle.definition.specs.Lists.{any, all}
-use Rattle.definition.specs.Grammar.{Part, rule, within, Document, Definition*, Definition, Description?, Described, Extended, SchemaMore, ObjectMore}
+use Rattle.definition.specs.Grammar.{Part, rule, Document, Definition*, Definition, Description?, Described, Extended, SchemaMore, ObjectMore}
 use Rattle.definition.specs.Grammar.{UnionMore, EnumMore, InputMore, Roots, Roots?, Root*, Root, Implements, Implements?, Amp?, Interface, AndInterface*}
 use Rattle.definition.specs.Grammar.{Fields, Fields?, Field*, Field, Members, Members?, Bar?, Member, OrMember*, EnumValues, EnumValues?, EnumValue*}
 use Rattle.definition.specs.Grammar.{EnumValue, InputFields, InputFields?, InputField*, InputField, ArgumentDefinitions?, ArgumentDefinition*}
 use Rattle.definition.specs.Grammar.{ArgumentDefinition, Repeatable?, Location, OrLocation*, TypeReference, Bang?, Default?, DirectiveUse*, DirectiveUse}
 use Rattle.definition.specs.Grammar.{Directive*, Directive, Arguments?, Argument*, Argument, Value, Value*, ObjectValue, ObjectField*, ObjectField}
 use Rattle.definition.specs.GrammarSets.{nullable, first, follow, weight, rank, short}
-use Rattle.definition.specs.Machine.{has, first_of_lem, empties, weigh}
+use Rattle.definition.specs.Machine.{has, first_set_of, empties, weigh}
 use Rattle.parser_laws.proofs.Tests.{subset, disjoint}
 use Rattle.parser_laws.proofs.Facts.{covered, followed, unlike, lone, lower, numbered, sound, spelled_all, is_start, clean, tidy}
 
 pub all_sound : (n : Part) → sound n ≡ true
-unfolding sound covered followed unlike lone lower numbered subset disjoint all any has first_of_lem empties weigh rule
+unfolding sound covered followed unlike lone lower numbered subset disjoint all any has first_set_of empties weigh rule
     nullable first follow weight rank short
 all_sound Document = refl
 all_sound Definition* = refl

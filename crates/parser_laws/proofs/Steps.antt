@@ -2,19 +2,19 @@
 -- and the cards so far; and one law for each step. A function that reads a part says: for all symbols after it, the reading from here with the part
 -- before them ends as the reading from where it stops without it, or in the refusal that it returns.
 use mathlib.Core.Path.{◌≡◌, refl, sym, ap, ◌∙◌, subst}
-use mathlib.Core.List.{List, [], ◌∷◌, ◌++◌, append_assoc, append-nil}
+use mathlib.Core.List.{List, [], ◌∷◌, ◌++◌}
 use mathlib.Core.Bool.{Bool, true, false}
 use mathlib.Core.Option.{Option, none, some}
-use Prim.Native.Nat.{ℕ, zero, suc, ◌+◌, ◌≤◌, ◌<◌}
+use Prim.Native.Nat.{ℕ, ◌≤◌, ◌<◌}
 use native.Mathlib.Omega.{arith}
 use borrow.Author.Tests.{le-leb, lt-leb}
 use lib.Dec.{leb}
 use Rattle.definition.specs.Lists.{choose, found}
-use Rattle.definition.specs.Grammar.{Mark, Symbol, one, part, mark, Part, Document, rule, within}
-use Rattle.definition.specs.Derivation.{Token, Seen, token, marked, tokens_of}
-use Rattle.definition.specs.Lexical.{Lexed, tokens_in}
+use Rattle.definition.specs.Grammar.{Mark, Symbol, one, part, mark, Part, Document, within}
+use Rattle.definition.specs.Derivation.{Token, Seen, token, marked}
+use Rattle.definition.specs.Lexical.{Lexed}
 use Rattle.definition.specs.Machine.{pick, ahead, Ending, whole, stops, Walks, finish, surplus, shift, wrong, missing, note, expand, stuck, Walked, walk}
-use Rattle.definition.specs.ItemCards.{Listing, noting, passed, no_token, next, listed, nothing_listed, too_deep, level_after, levels}
+use Rattle.definition.specs.ItemCards.{Listing, noting, passed, next, listed, nothing_listed, too_deep, level_after, levels}
 use Rattle.definition.specs.Reading.{Reading, accepted, refused, place_at, judged}
 use Rattle.parser_laws.specs.Verdict.{Verdict, passes, fails, ended_by, verdict_of, verdict, before, next_of}
 use Rattle.parser_laws.proofs.Tests.{clash}

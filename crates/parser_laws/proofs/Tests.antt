@@ -1,11 +1,11 @@
 -- Small laws of tests, and of sets of sorts as ranges.
-use mathlib.Core.Path.{◌≡◌, refl, sym, ap, ◌∙◌}
+use mathlib.Core.Path.{◌≡◌, refl}
 use mathlib.Core.List.{List, [], ◌∷◌, ◌++◌}
-use mathlib.Core.Bool.{Bool, true, false, ◌&&◌, ◌||◌, not}
+use mathlib.Core.Bool.{Bool, true, false, ◌&&◌, ◌||◌}
 use mathlib.Core.Logic.{◌⊎◌, inl, inr}
-use Prim.Native.Nat.{ℕ, zero, suc, ◌+◌, ◌≤◌, ◌<◌}
+use Prim.Native.Nat.{ℕ, ◌≤◌}
 use native.Mathlib.Omega.{arith}
-use borrow.Author.Tests.{leb-true, ltb-true, le-leb, lt-leb}
+use borrow.Author.Tests.{leb-true, ltb-true, le-leb}
 use lib.Dec.{leb, ltb}
 use Rattle.definition.specs.Lists.{choose, any, all, Among, here, there}
 use Rattle.definition.specs.Grammar.{within}
@@ -34,6 +34,7 @@ within_is lo hi s h k = rw (le-leb lo s h, le-leb s hi k)
 -- The same as tests on whole lists.
 pub all_among : {A : Type 0} (p : A → Bool) (xs : List A) {x : A} → all p xs ≡ true → Among x xs → p x ≡ true
 unfolding all
+all_among p [] e a = elim a [ ]
 all_among p (x ∷ xs) e here = go (p x) refl e
   where
     go : (b : Bool) → p x ≡ b → choose b (all p xs) false ≡ true → p x ≡ true

@@ -1,21 +1,21 @@
 -- The machine is right: what it comes by is derived, it stops nowhere too early and nowhere too late.
 use mathlib.Core.Path.{◌≡◌, refl, sym, ap, ◌∙◌, subst}
-use mathlib.Core.List.{List, [], ◌∷◌, ◌++◌, append_assoc}
-use mathlib.Core.Bool.{Bool, true, false, ◌&&◌}
-use mathlib.Core.Option.{Option, none, some}
-use Prim.Native.Nat.{ℕ, zero, suc, ◌+◌, ◌≤◌, ◌<◌}
+use mathlib.Core.List.{List, [], ◌∷◌, ◌++◌}
+use mathlib.Core.Bool.{true}
+use mathlib.Core.Option.{some}
+use Prim.Native.Nat.{ℕ, zero, suc, ◌≤◌, ◌<◌}
 use native.Mathlib.Omega.{arith}
-use borrow.Author.Tests.{leb-true, ltb-true, le-leb, lt-leb}
+use borrow.Author.Tests.{leb-true, ltb-true}
 use lib.Dec.{leb, ltb}
 use lib.ListN.{length}
 use Rattle.definition.specs.Lists.{Among, here, there}
-use Rattle.definition.specs.Grammar.{Mark, Symbol, one, part, mark, Part, Document, rule, within}
+use Rattle.definition.specs.Grammar.{Symbol, one, part, mark, Part, rule, within}
 use Rattle.definition.specs.GrammarSets.{rank, short}
 use Rattle.definition.specs.Derivation.{Token, Seen, token, marked, Derives, nothing, reads, marks, expands, tokens_of}
-use Rattle.definition.specs.Machine.{pick, ahead, Ending, whole, stops, Walks, finish, surplus, shift, wrong, missing, note, expand, stuck}
+use Rattle.definition.specs.Machine.{pick, ahead, whole, stops, Walks, finish, surplus, shift, wrong, missing, note, expand, stuck}
 use Rattle.parser_laws.proofs.Tests.{clash, both, within_is}
 use Rattle.parser_laws.proofs.Facts.{lower, numbered}
-use Rattle.parser_laws.proofs.Theory.{Facts, facts, Good, good_expand, begins, chosen, picked}
+use Rattle.parser_laws.proofs.Theory.{facts, Good, good_expand, begins, chosen, picked}
 
 -- ---- A reading to the end is a derivation.
 

@@ -1,20 +1,17 @@
 -- The function that reads tokens goes the machine's way, whatever it is given: its steps between two tokens are few enough.
-use mathlib.Core.Path.{◌≡◌, refl, sym, ap, ◌∙◌, subst}
+use mathlib.Core.Path.{◌≡◌, refl}
 use mathlib.Core.List.{List, [], ◌∷◌, ◌++◌}
 use mathlib.Core.Bool.{Bool, true, false}
 use mathlib.Core.Option.{Option, none, some}
 use Prim.Native.Nat.{ℕ, zero, suc, ◌+◌, ◌≤◌, ◌<◌}
 use native.Mathlib.Omega.{arith}
 use borrow.Author.Tests.{ltb-true}
-use lib.ListN.{length}
 use Rattle.definition.specs.Lists.{choose, found, Among}
 use Rattle.definition.specs.Grammar.{Mark, Symbol, one, part, mark, Part, rule, within}
 use Rattle.definition.specs.GrammarSets.{nullable, weight, short}
-use Rattle.definition.specs.Derivation.{Token, Seen, token, marked}
+use Rattle.definition.specs.Derivation.{Token, Seen, token}
 use Rattle.definition.specs.Machine.{empties, weigh, pick, ahead, Ending, whole, stops, Walks, finish, surplus, shift, wrong, missing, note, expand, stuck}
-use Rattle.definition.specs.Machine.{Settled, at_end, at_token, nowhere, noted, settle, after, Walked, lastly, passing, onward, walk}
-use Rattle.parser_laws.proofs.Tests.{clash}
-use Rattle.parser_laws.proofs.Facts.{numbered}
+use Rattle.definition.specs.Machine.{Settled, at_end, at_token, nowhere, noted, settle, after, lastly, passing, onward, walk}
 use Rattle.parser_laws.proofs.Theory.{facts, lighter, empty_so, picked}
 use Rattle.parser_laws.proofs.Viability.{numbered_among}
 

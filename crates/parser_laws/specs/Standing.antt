@@ -1,5 +1,5 @@
 -- A reading that has come to a place of a text, and what stands ahead of it there.
-use Rattle.std.specs.Prelude.{◌≡◌, List, [], ◌∷◌, true, false, ℕ, ◌-◌, ◌≤◌, drop}
+use Rattle.std.specs.Prelude.{◌≡◌, List, [], true, false, ℕ, ◌-◌, ◌≤◌, drop}
 use Rattle.definition.specs.Grammar.{Symbol}
 use Rattle.definition.specs.Lexical.{Lexed, tokens_from}
 use Rattle.definition.specs.Cards.{Card}

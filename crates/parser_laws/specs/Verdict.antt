@@ -1,6 +1,5 @@
 -- How a reading ends, as a function of the tokens from a place on, the symbols still to come, the levels open and the cards so far.
-use Rattle.std.specs.Prelude.{List, [], ◌∷◌, Bool, true, false, ℕ}
-use Rattle.std.proofs.Math.Option.{Option, none, some}
+use Rattle.std.specs.Prelude.{List, [], ◌∷◌, ℕ}
 use Rattle.definition.specs.Lists.{choose, found}
 use Rattle.definition.specs.Grammar.{Symbol}
 use Rattle.definition.specs.Derivation.{Token, Seen}

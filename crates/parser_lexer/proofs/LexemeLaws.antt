@@ -3,7 +3,7 @@ use mathlib.Core.Path.{◌≡◌, refl, sym, ◌∙◌}
 use mathlib.Core.List.{List, [], ◌∷◌}
 use mathlib.Core.Bool.{Bool, true, false}
 use mathlib.Core.Logic.{inl, inr}
-use Prim.Native.Nat.{ℕ, suc, ◌+◌, ◌-◌, ◌≤◌, ◌<◌}
+use Prim.Native.Nat.{ℕ, suc, ◌+◌, ◌≤◌, ◌<◌}
 use native.Mathlib.Omega.{arith}
 use borrow.Author.Tests.{ne_eqb, le-leb, lt-leb, ltb-true, ltb-false}
 use lib.Dec.{ltb}
@@ -11,7 +11,7 @@ use lib.ListN.{length, get_or, drop, length-drop}
 use lib.Seq.{drop-drop}
 use types.Run.{OneOf}
 use Rattle.definition.specs.Names.{is_name_start}
-use Rattle.definition.specs.Lexical.{byte, ends_line, comment, is_digit, number, string, punctuators, punctuator, named, ignored, lexeme}
+use Rattle.definition.specs.Lexical.{ends_line, comment, is_digit, number, string, punctuators, punctuator, named, ignored, lexeme}
 use Rattle.name.proofs.Laws.{start_low, step}
 use Rattle.parser_laws.proofs.Tests.{clash}
 use Rattle.parser_lexer.specs.Lexemes.{dots_at, mark_at}

@@ -164,6 +164,10 @@ pub no_line : (b : ℕ) → (b ≡ 10 → ⊥) → (b ≡ 13 → ⊥) → ends_l
 unfolding ends_line
 no_line b e f = simp (ne_eqb b 10 e, ne_eqb b 13 f)
 
+-- A line feed ends the line, so no string goes on over it.
+pub part_feed : (s : List ℕ) (at : ℕ) → get_or s at 0 ≡ 10 → plain_part (drop at s) ≡ 0
+part_feed s at e = part_line s at (omega arith) (line_feed (get_or s at 0) e)
+
 -- ---- What goes on a block string.
 
 module _ (s : List ℕ) (at : ℕ) where

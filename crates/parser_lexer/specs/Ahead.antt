@@ -1,5 +1,5 @@
 -- The token ahead of a place, as code carries it along.
-use Rattle.std.specs.Prelude.{◌≡◌, List, ℕ, ◌≤◌, ◌<◌}
+use Rattle.std.specs.Prelude.{List, ℕ, ◌≤◌, ◌<◌}
 use Rattle.parser_laws.specs.Standing.{AheadOf}
 use Rattle.parser_lexer.specs.declared.Cursor.{Cursor}
 

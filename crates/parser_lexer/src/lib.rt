@@ -1,4 +1,6 @@
 // The lexer: what stands at a place of a text, read once and carried along by value. Specification of October 2021, 2.1 and the values of 2.9.
+#![tactic(auto)]
+
 ghost use Rattle.std.specs.Prelude.{◌≡◌, ◌≤◌, length};
 ghost use Rattle.parser_lexer.specs.Ahead.{Ahead, Lies};
 
@@ -15,7 +17,7 @@ pub mod words;
 use lexeme::Lexeme;
 
 // The token ahead: its sort, where it begins and ends; where the token before it ends; and how many cards were listed before it.
-#[derive(Drop)]
+#[derive(Clone, Copy)]
 pub struct Cursor {
     pub sort: u32,
     pub begins: usize,

@@ -1,7 +1,7 @@
 // A measurement that may fail.
 
 // So many bytes; or what was begun is broken.
-#[derive(Drop)]
+#[derive(Clone, Copy)]
 pub enum Measure {
     Bytes(usize),
     Broken,

@@ -115,6 +115,7 @@ fn exponent(text: &[u8], at: usize) -> Measure
 }
 
 // What may not follow a number: a digit, a point or a NameStart.
+#[tactic(auto, unfolding(definition::specs::Lexical::is_digit))]
 fn is_attached(b: u8) -> bool
     ensures { result ≡ is_attached b }
 {

@@ -126,6 +126,7 @@ fn escape(text: &[u8], at: usize) -> usize
 }
 
 // How many bytes go on a string where it is not closed; 0 where it is broken. Most are ASCII, and are asked for first.
+#[tactic(auto, using(crate::proofs::StringLaws::part_feed))]
 fn plain_part(text: &[u8], at: usize) -> usize
     requires { at < length text.now }
     ensures { (result ≡ plain_part (drop at text.now)) ×

@@ -1,18 +1,18 @@
 -- How readings are put together: one after the other, a token, an alternative of a part, a level, a repeated part.
 use mathlib.Core.Path.{◌≡◌, refl, sym, ap, ◌∙◌}
 use mathlib.Core.List.{List, [], ◌∷◌, ◌++◌, append_assoc}
-use mathlib.Core.Bool.{Bool, true, false}
-use Prim.Native.Nat.{ℕ, ◌+◌, ◌-◌, ◌≤◌, ◌<◌}
+use mathlib.Core.Bool.{true, false}
+use Prim.Native.Nat.{ℕ, ◌+◌, ◌-◌, ◌≤◌}
 use native.Mathlib.Omega.{arith}
-use Rattle.definition.specs.Lists.{Among, here, there}
+use Rattle.definition.specs.Lists.{Among}
 use Rattle.definition.specs.Grammar.{Symbol, one, part, mark, Part, rule, within, deeper, shallower}
 use Rattle.definition.specs.GrammarSets.{nullable, first}
-use Rattle.definition.specs.Machine.{has, first_of_lem, empties}
+use Rattle.definition.specs.Machine.{has, first_set_of, empties}
 use Rattle.definition.specs.Cards.{Card}
-use Rattle.parser_laws.specs.Standing.{standing, AheadOf}
+use Rattle.parser_laws.specs.Standing.{standing}
 use Rattle.parser_laws.proofs.Tests.{subset}
 use Rattle.parser_laws.proofs.Ahead.{take_token, no_token_lem, open_deep, open_part, skip_part, no_part, go_deeper, go_back, repeats}
-use Rattle.parser_lexer.specs.Ahead.{Ahead, Lies}
+use Rattle.parser_lexer.specs.Ahead.{Ahead}
 use Rattle.parser_lexer.specs.declared.Cursor.{Cursor}
 use Rattle.parser_values.specs.Reads.{goes_on, Ready, Reads, Within}
 use Rattle.parser_values.specs.declared.End.{End}
@@ -83,7 +83,7 @@ module _ (text : List ℕ) (level : ℕ) where
 
   -- ---- A part: by the alternative that the token ahead begins; by the empty one; or refused.
 
-  pub opens : {c : Cursor} {e : End} → Ahead text c → (n : Part) (r : List Symbol) → c.sort ≤ 54 → Among r (rule n) → has (first_of_lem r) c.sort ≡ true →
+  pub opens : {c : Cursor} {e : End} → Ahead text c → (n : Part) (r : List Symbol) → c.sort ≤ 54 → Among r (rule n) → has (first_set_of r) c.sort ≡ true →
       Reads r text c level e → Reads (part n ∷ []) text c level e
   opens {c} a n r k i w f = record {
     goes = λ ss cs h. open_part text c.last c.sort c.begins c.ends a ss level cs h n r k i w ∙ f.goes ss cs h;
@@ -174,7 +174,7 @@ module _ (text : List ℕ) (level : ℕ) where
   }
 
   -- An alternative of the part that is next.
-  pub opened : {b c : Cursor} (ps us : List Symbol) (n : Part) (r : List Symbol) → c.sort ≤ 54 → Among r (rule n) → has (first_of_lem r) c.sort ≡ true →
+  pub opened : {b c : Cursor} (ps us : List Symbol) (n : Part) (r : List Symbol) → c.sort ≤ 54 → Among r (rule n) → has (first_set_of r) c.sort ≡ true →
       Within ps text b level (part n ∷ us) c → Within ps text b level (r ++ us) c
   opened {b} {c} ps us n r k i w f = record {
     goes = λ ss cs h.

@@ -11,7 +11,7 @@ use Rattle.definition.specs.Lists.{choose, here, there, all, any}
 use Rattle.definition.specs.Grammar.{part, rule, within, name, at, colon, Value, Argument, Argument*, Arguments?, Default?, Directive, Directive*}
 use Rattle.definition.specs.Grammar.{TypeReference, Description?, ArgumentDefinition, ArgumentDefinition*, ArgumentDefinitions?}
 use Rattle.definition.specs.GrammarSets.{nullable, first}
-use Rattle.definition.specs.Machine.{has, first_of_lem}
+use Rattle.definition.specs.Machine.{has, first_set_of}
 use Rattle.parser_laws.proofs.Tests.{clash, subset, within_is, within_bounds}
 use Rattle.parser_lexer.specs.Ahead.{Ahead, Lies}
 use Rattle.parser_lexer.specs.declared.Cursor.{Cursor}
@@ -66,7 +66,7 @@ module _ {text : List ℕ} {c : Cursor} where
 
   pub one_definition : {e : End} → Must (part Description? ∷ name ∷ colon ∷ part TypeReference ∷ part Default? ∷ part Directive* ∷ []) text c 0 e →
       Must (part ArgumentDefinition ∷ []) text c 0 e
-  unfolding rule nullable first first_of_lem subset all any
+  unfolding rule nullable first first_set_of subset all any
   one_definition f = (
     λ a. by_rest a ArgumentDefinition (part Description? ∷ name ∷ colon ∷ part TypeReference ∷ part Default? ∷ part Directive* ∷ []) here refl refl
         (no_definition a) (f.0 a),
@@ -108,5 +108,5 @@ module _ {text : List ℕ} {c : Cursor} where
 
   pub a_directive : {b : Cursor} → c.sort ≡ 8 → Mid (part Directive* ∷ []) text b 0 (part Directive* ∷ []) c →
       Mid (part Directive* ∷ []) text b 0 (part Directive ∷ part Directive* ∷ []) c
-  unfolding rule first nullable first_of_lem has within
+  unfolding rule first nullable first_set_of has within
   a_directive k m = opening [] Directive* (part Directive ∷ part Directive* ∷ []) 8 here refl (omega arith) k m

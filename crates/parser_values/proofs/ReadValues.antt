@@ -10,7 +10,7 @@ use lib.ListN.{length}
 use Rattle.definition.specs.Lists.{Among, here, there, all, any}
 use Rattle.definition.specs.Grammar.{one, part, rule, within, name, colon, Value, Value*, ObjectValue, ObjectField, ObjectField*}
 use Rattle.definition.specs.GrammarSets.{nullable, first}
-use Rattle.definition.specs.Machine.{has, first_of_lem}
+use Rattle.definition.specs.Machine.{has, first_set_of}
 use Rattle.parser_laws.proofs.Tests.{subset, within_is, within_bounds}
 use Rattle.parser_laws.proofs.Picking.{other}
 use Rattle.parser_lexer.specs.Ahead.{Ahead, Lies}
@@ -33,7 +33,7 @@ module _ (text : List ℕ) (level : ℕ) (small : level ≤ 32) {c : Cursor} {e 
   -- A value of one token: a number, a string, `true`, `false` or `null`, or the name of an enum value.
   by_sort : (lo hi : ℕ) → Among (one lo hi ∷ []) (rule Value) → hi ≤ 54 → lo ≤ c.sort → c.sort ≤ hi → within 14 54 c.sort ≡ true →
       Reads (one 14 54 ∷ []) text c level e → Reads (part Value ∷ []) text c level e
-  unfolding first_of_lem has
+  unfolding first_set_of has
   by_sort lo hi i s l u w f =
       let v = within_is lo hi c.sort l u in
       opens text level a Value (one lo hi ∷ []) (omega arith) i (rw v) (narrower text level a lo hi 14 54 s (omega arith) v w small f)
@@ -64,7 +64,7 @@ module _ {text : List ℕ} {level : ℕ} {c : Cursor} where
   plain_value l m n f = (λ a. plain text level l a m n (f.0 a), f.1)
 
   pub value_object : {e : End} → c.sort ≡ 11 → Must (part ObjectValue ∷ []) text c level e → Must (part Value ∷ []) text c level e
-  unfolding rule first_of_lem has within first nullable
+  unfolding rule first_set_of has within first nullable
   value_object k f = chosen Value (part ObjectValue ∷ []) 11 (there (there (there (there (there here))))) refl (omega arith) k f
 
   pub list_value : {k : Cursor} {inner : ℕ} {e : End} → c.sort ≡ 9 → Lies (length text) c → inner ≡ level + 1 → inner ≤ 32 → Next text c k →

@@ -6,13 +6,11 @@ use mathlib.Core.Bool.{Bool, true, false}
 use mathlib.Core.Logic.{◌⊎◌, inl, inr}
 use Prim.Native.Nat.{ℕ, ◌+◌, ◌≤◌, ◌<◌}
 use native.Mathlib.Omega.{arith}
-use denote.Enum.Declared.{tag_of}
-use types.Run.{OneOf}
 use lib.ListN.{length}
 use Rattle.definition.specs.Lists.{choose, Among}
 use Rattle.definition.specs.Grammar.{Symbol, one, part, mark, Part, rule, within, deeper, shallower}
 use Rattle.definition.specs.GrammarSets.{nullable, first}
-use Rattle.definition.specs.Machine.{has, first_of_lem}
+use Rattle.definition.specs.Machine.{has, first_set_of}
 use Rattle.parser_laws.proofs.Tests.{clash, within_is, within_bounds, subset, subset_has, has_append}
 use Rattle.parser_laws.proofs.Picking.{other}
 use Rattle.parser_lexer.specs.Ahead.{Ahead, Lies}
@@ -20,7 +18,6 @@ use Rattle.parser_lexer.specs.declared.Cursor.{Cursor}
 use Rattle.parser_values.specs.Reads.{Reads, Within, Stays, Moves, Optional}
 use Rattle.parser_values.specs.declared.End.{End}
 use Rattle.parser_values.specs.declared.End.TheVariants.{At, Bad, Deep}
-use Rattle.parser_values.specs.contracts.End.{the_type}
 use Rattle.parser_values.proofs.Joining.{and_then, or_bad, or_deep, reads_token, lacks_token, opens, skips, refuses, a_level_deeper, too_deep_lem}
 use Rattle.parser_values.proofs.Joining.{at_first, finished, further, once_more, opened}
 
@@ -32,9 +29,8 @@ Refused (Bad p) = Unit {0}
 Refused (Deep p) = Unit {0}
 
 -- What `let End::At(k) = e else { return e; }` knows of e where it returns.
-pub refused : (e : End) → OneOf (1 ∷ 2 ∷ []) (tag_of the_type e) → Refused e
-refused (At k) (inl h) = absurd (omega arith)
-refused (At k) (inr h) = absurd (omega arith)
+pub refused : (e : End) → ((k : Cursor) → e ≡ At k → ⊥) → Refused e
+refused (At k) h = absurd (h k refl)
 refused (Bad p) h = tt
 refused (Deep p) h = tt
 
@@ -105,12 +101,12 @@ lacking lo hi s e = go (within lo hi s) refl e
     go true k p = clash (sym p)
     go false k p = refl
 
-pub begins_with : (x s : ℕ) (rest : List Symbol) → s ≡ x → has (first_of_lem (one x x ∷ rest)) s ≡ true
-unfolding has first_of_lem
+pub begins_with : (x s : ℕ) (rest : List Symbol) → s ≡ x → has (first_set_of (one x x ∷ rest)) s ≡ true
+unfolding has first_set_of
 begins_with x s rest e = rw (within_is x x s (omega arith) (omega arith))
 
-bracket_begins : (x : ℕ) (rest : List Symbol) → has (first_of_lem (mark deeper ∷ one x x ∷ rest)) x ≡ true
-unfolding has first_of_lem
+bracket_begins : (x : ℕ) (rest : List Symbol) → has (first_set_of (mark deeper ∷ one x x ∷ rest)) x ≡ true
+unfolding has first_set_of
 bracket_begins x rest = rw (within_is x x x (omega arith) (omega arith))
 
 module _ {text : List ℕ} {level : ℕ} where
@@ -160,12 +156,12 @@ module _ {text : List ℕ} {level : ℕ} where
 
   -- By the alternative r, where no other begins with the token ahead. If r does not begin so either, both are refused.
   pub by_rest : {c : Cursor} {e : End} → Ahead text c → (n : Part) (r : List Symbol) → Among r (rule n) → nullable n ≡ false →
-      subset (first_of_lem r) ((0, 54) ∷ []) ≡ true → (has (first_of_lem r) c.sort ≡ false →
+      subset (first_set_of r) ((0, 54) ∷ []) ≡ true → (has (first_set_of r) c.sort ≡ false →
       (has (first n) c.sort ≡ false) × Reads r text c level (Bad c.begins)) → Reads r text c level e → Reads (part n ∷ []) text c level e
-  by_rest {c} {e} a n r i u g q h = go (has (first_of_lem r) c.sort) refl
+  by_rest {c} {e} a n r i u g q h = go (has (first_set_of r) c.sort) refl
     where
-      go : (t : Bool) → has (first_of_lem r) c.sort ≡ t → Reads (part n ∷ []) text c level e
-      go true k = opens text level a n r (a_token c.sort (subset_has (first_of_lem r) ((0, 54) ∷ []) c.sort g k)) i k h
+      go : (t : Bool) → has (first_set_of r) c.sort ≡ t → Reads (part n ∷ []) text c level e
+      go true k = opens text level a n r (a_token c.sort (subset_has (first_set_of r) ((0, 54) ∷ []) c.sort g k)) i k h
       go false k =
           let z = q k in
           record {
@@ -177,7 +173,7 @@ module _ {text : List ℕ} {level : ℕ} where
   pub by_token : {c : Cursor} {e : End} (n : Part) (lo hi : ℕ) (rest : List Symbol) (others : List (ℕ × ℕ)) → Among (one lo hi ∷ rest) (rule n) →
       nullable n ≡ false → subset (first n) ((lo, hi) ∷ others) ≡ true → subset ((lo, hi) ∷ []) ((0, 54) ∷ []) ≡ true → has others c.sort ≡ false →
       Must (one lo hi ∷ rest) text c level e → Must (part n ∷ []) text c level e
-  unfolding first_of_lem
+  unfolding first_set_of
   by_token {c} n lo hi rest others i u f g w h = (
     λ a. by_rest a n (one lo hi ∷ rest) i u g (λ k. (
       none k (has (first n) c.sort) refl,
@@ -195,9 +191,9 @@ module _ {text : List ℕ} {level : ℕ} where
       none k false z = refl
 
   -- By the alternative that the token ahead begins.
-  pub chosen : {c : Cursor} {e : End} (n : Part) (r : List Symbol) (x : ℕ) → Among r (rule n) → has (first_of_lem r) x ≡ true → x ≤ 54 → c.sort ≡ x →
+  pub chosen : {c : Cursor} {e : End} (n : Part) (r : List Symbol) (x : ℕ) → Among r (rule n) → has (first_set_of r) x ≡ true → x ≤ 54 → c.sort ≡ x →
       Must r text c level e → Must (part n ∷ []) text c level e
-  chosen n r x i w s k h = (λ a. opens text level a n r (omega arith) i (ap (has (first_of_lem r)) k ∙ w) (h.0 a), h.1)
+  chosen n r x i w s k h = (λ a. opens text level a n r (omega arith) i (ap (has (first_set_of r)) k ∙ w) (h.0 a), h.1)
 
   -- A part of one alternative, or empty: it stands there, from its first token on, which the code has seen; or not.
   pub there_it_is : {c k : Cursor} {e : End} (n : Part) (x : ℕ) (rest : List Symbol) → Among (one x x ∷ rest) (rule n) → x ≤ 54 → level ≤ 32 → c.sort ≡ x →
@@ -237,10 +233,10 @@ module _ {text : List ℕ} {level : ℕ} where
       (λ a. let w = m.0 a in further text level ps qs us w (h.0 w.ahead), h.1.0, omega (arith, m.2, h.1.1))
 
   -- The alternative that the token ahead begins of the part that is next.
-  pub opening : {b c : Cursor} {ps : List Symbol} (us : List Symbol) (n : Part) (r : List Symbol) (x : ℕ) → Among r (rule n) → has (first_of_lem r) x ≡ true →
+  pub opening : {b c : Cursor} {ps : List Symbol} (us : List Symbol) (n : Part) (r : List Symbol) (x : ℕ) → Among r (rule n) → has (first_set_of r) x ≡ true →
       x ≤ 54 → c.sort ≡ x → Mid ps text b level (part n ∷ us) c → Mid ps text b level (r ++ us) c
   opening {b} {c} {ps} us n r x i w s k m =
-      (λ a. opened text level ps us n r (omega arith) i (ap (has (first_of_lem r)) k ∙ w) (m.0 a), m.1, m.2)
+      (λ a. opened text level ps us n r (omega arith) i (ap (has (first_set_of r)) k ∙ w) (m.0 a), m.1, m.2)
 
   -- All that is left is read; or its beginning is refused.
   pub ends : {b c : Cursor} {ps qs : List Symbol} {r : End} → Mid ps text b level qs c → May qs text c level r → May ps text b level r

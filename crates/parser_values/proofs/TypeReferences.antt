@@ -7,7 +7,7 @@ use lib.ListN.{length}
 use Rattle.definition.specs.Lists.{here, there, all, any}
 use Rattle.definition.specs.Grammar.{part, mark, rule, within, deeper, shallower, name, bracket_opens, bracket_closes, TypeReference, Bang?}
 use Rattle.definition.specs.GrammarSets.{nullable, first}
-use Rattle.definition.specs.Machine.{has, first_of_lem}
+use Rattle.definition.specs.Machine.{has, first_set_of}
 use Rattle.parser_laws.proofs.Tests.{subset}
 use Rattle.parser_lexer.specs.Ahead.{Lies}
 use Rattle.parser_lexer.specs.declared.Cursor.{Cursor}
@@ -28,7 +28,7 @@ module _ {text : List ℕ} {level : ℕ} {c : Cursor} where
   -- In brackets, which are a level.
   list : {e : End} → c.sort ≡ 9 → Must (mark deeper ∷ bracket_opens ∷ part TypeReference ∷ bracket_closes ∷ mark shallower ∷ part Bang? ∷ []) text c level e
       → Must (part TypeReference ∷ []) text c level e
-  unfolding rule first_of_lem has within
+  unfolding rule first_set_of has within
   list s f =
       chosen TypeReference (mark deeper ∷ bracket_opens ∷ part TypeReference ∷ bracket_closes ∷ mark shallower ∷ part Bang? ∷ []) 9 (there here) refl
       (omega arith) s f

@@ -1,4 +1,6 @@
 // The readers of what has no card of its own: values, type references, arguments, and directives that are not a heading's.
+#![tactic(auto)]
+
 ghost use Rattle.std.specs.Prelude.{[], ◌∷◌, ℕ, ◌≤◌, length};
 ghost use Rattle.definition.specs.Grammar.{Part, one, part, name, colon};
 ghost use Rattle.parser_lexer.specs.Ahead.{Ahead, Lies};
@@ -16,7 +18,7 @@ pub mod values;
 
 // Where a part of the grammar ends, with the token ahead there; or what is refused and where: 29 for a token, byte or end that no text of the grammar
 // has there, 30 for the opener of a 33rd level.
-#[derive(Drop)]
+#[derive(Clone, Copy)]
 pub enum End {
     At(Cursor),
     Bad(usize),

@@ -9,6 +9,7 @@ use parser_lexer::sorts::{BANG, BRACKET_CLOSES, BRACKET_OPENS, FIRST_NAME, NAME}
 use parser_lexer::{Cursor, next_token};
 
 // A type reference, with depth levels left: a name, or a type reference in brackets, which is a level; and `!` after it, or none.
+#[tactic(auto, using(crate::proofs::TypeReferences::list_deep))]
 pub fn type_reference(text: &[u8], c: Cursor, depth: usize) -> End
     requires { Lies (length text.now) c ×
         (depth ≤ 32) }

@@ -16,26 +16,26 @@ use Rattle.definition.specs.Lookups.{Block, blocks, type_named, is_part_named, m
 use Rattle.store_reader.specs.Stored.{stored_parts}
 use Rattle.store_reader.proofs.Laws.{held_stored}
 use Rattle.schema_rows.specs.Rows.{row_at}
-use Rattle.schema_rows.specs.declared.search_lem.Found.{Found as FoundRow}
-use Rattle.schema_rows.specs.declared.search_lem.Found.TheVariants.{Row as RowAt, Nothing}
+use Rattle.schema_rows.specs.declared.search.Found.{Found as FoundRow}
+use Rattle.schema_rows.specs.declared.search.Found.TheVariants.{Row as RowAt, Nothing}
 use Rattle.schema_rows.proofs.Rows.{Hit, hit_inside, hit_row}
-use Rattle.schema_rows.specs.declared.search_lem.Located.{Located}
+use Rattle.schema_rows.specs.declared.search.Located.{Located}
 use Rattle.schema_rows.specs.Search.{located_from}
-use Rattle.schema.specs.Answers.{isInside, explicitField, firstFound}
+use Rattle.schema.specs.Answers.{is_inside, explicit_field, first_found}
 use Rattle.schema_rows.proofs.SearchLaws.{block_after, TypeAt, located_none, located_type, located_no_part, located_part}
 
 -- ---- An explicit field.
 
 module _ (rows : List ℕ) (p : FoundRow) (card : ℕ) where
-  pub explicit_none : p ≡ Nothing → NoSuchField card ≡ explicitField rows p card
-  explicit_none e = sym (ap (λ (p : FoundRow). explicitField rows p card) e)
+  pub explicit_none : p ≡ Nothing → NoSuchField card ≡ explicit_field rows p card
+  explicit_none e = sym (ap (λ (p : FoundRow). explicit_field rows p card) e)
 
   module _ (i : ℕ) (e : p ≡ RowAt i) where
-    pub explicit_inside : isInside rows p → i < length rows / 3
+    pub explicit_inside : is_inside rows p → i < length rows / 3
     explicit_inside h = rw e at h
 
-    pub explicit_some : Found (Explicit (get_or rows (3 * i + 1) 0)) ≡ explicitField rows p card
-    explicit_some = sym (ap (λ (p : FoundRow). explicitField rows p card) e)
+    pub explicit_some : Found (Explicit (get_or rows (3 * i + 1) 0)) ≡ explicit_field rows p card
+    explicit_some = sym (ap (λ (p : FoundRow). explicit_field rows p card) e)
 
 -- ---- type_field.
 
@@ -50,9 +50,9 @@ module _ (cs : List NamedCard) (rs : List Row) (type field : List ℕ) where
     unfolding field_named field_of
     other_field f = rw (e, f)
 
-    explicit_field : (r : Row) → find (is_part_named cs 22 field) b.parts ≡ some r → Found (Explicit r.card) ≡ field_named cs rs type field
+    explicit_field_lem : (r : Row) → find (is_part_named cs 22 field) b.parts ≡ some r → Found (Explicit r.card) ≡ field_named cs rs type field
     unfolding field_named field_of
-    explicit_field r f = rw (e, f)
+    explicit_field_lem r f = rw (e, f)
 
 module _ (text words rows : List ℕ) (type field : List ℕ) (ok : sound text words ≡ true) (l : Located)
     (e : l ≡ located_from (is_type_row_named (stored_parts text words) type) (is_part_named (stored_parts text words) 22 field) 0 (lent_rows rows)) where
@@ -86,25 +86,25 @@ module _ (text words rows : List ℕ) (type field : List ℕ) (ok : sound text w
 
       field_explicit : Found (Explicit (get_or rows (3 * i + 1) 0)) ≡ field_named (held (account_in text words).documents) (lent_rows rows) type field
       field_explicit =
-          explicit_field (stored_parts text words) (lent_rows rows) type field (block_after (row_at rows t) (lent_rows rows) t) type_at.block (row_at rows i)
+          explicit_field_lem (stored_parts text words) (lent_rows rows) type field (block_after (row_at rows t) (lent_rows rows) t) type_at.block (row_at rows i)
           (hit_row rows _ i field_at)
           ∙ of_held
 
-    pub part_inside : isInside rows l.part
+    pub part_inside : is_inside rows l.part
     part_inside = go l.part refl
       where
-        go : (p : FoundRow) → l.part ≡ p → isInside rows p
+        go : (p : FoundRow) → l.part ≡ p → is_inside rows p
         go (RowAt i) q = field_inside i q
         go Nothing q = tt
 
     pub field_answer :
-        firstFound (explicitField rows l.part (get_or rows (3 * t + 1) 0))
+        first_found (explicit_field rows l.part (get_or rows (3 * t + 1) 0))
         (found (meta_field (stored_parts text words) (lent_rows rows) (get_or rows (3 * t) 0) type field) (λ m. Found m) (NoSuchField (get_or rows (3 * t + 1) 0))) ≡
         field_named (held (account_in text words).documents) (lent_rows rows) type field
     field_answer = go l.part refl
       where
         go : (p : FoundRow) → l.part ≡ p →
-            firstFound (explicitField rows p (get_or rows (3 * t + 1) 0))
+            first_found (explicit_field rows p (get_or rows (3 * t + 1) 0))
             (found (meta_field (stored_parts text words) (lent_rows rows) (get_or rows (3 * t) 0) type field) (λ m. Found m) (NoSuchField (get_or rows (3 * t + 1) 0)))
             ≡
             field_named (held (account_in text words).documents) (lent_rows rows) type field

@@ -164,56 +164,56 @@ module _ (cs : List NamedCard) (t : Row) (mid : List Row) where
 -- All types: the rows before and the types before have the same names.
 module _ (cs : List NamedCard) where
   Known : List Row → List Block → Type 0
-  Known pre preB = (n : List ℕ) → any (is_block_named cs n) preB ≡ any (is_type_row_named cs n) pre
+  Known pre pre_b = (n : List ℕ) → any (is_block_named cs n) pre_b ≡ any (is_type_row_named cs n) pre
 
   types_is : List Block → List Block → List Implementing
-  types_is preB bs = flat_map (listed_by cs) (news (same_block cs) preB bs)
+  types_is pre_b bs = flat_map (listed_by cs) (news (same_block cs) pre_b bs)
 
-  known_part : (pre : List Row) (preB : List Block) (r : Row) → is_type_row r ≡ false → Known pre preB → Known (pre ++ (r ∷ [])) preB
+  known_part : (pre : List Row) (pre_b : List Block) (r : Row) → is_type_row r ≡ false → Known pre pre_b → Known (pre ++ (r ∷ [])) pre_b
   unfolding Known is_type_row_named
-  known_part pre preB r e h n =
+  known_part pre pre_b r e h n =
       h n ∙ sym (any_snoc (is_type_row_named cs n) pre r ∙ ap (λ (b : Bool). choose (b && is_row_named cs n r) true (any (is_type_row_named cs n) pre)) e)
 
-  known_type : (pre : List Row) (preB : List Block) (r : Row) (ps : List Row) → is_type_row r ≡ true → Known pre preB →
-      Known (pre ++ (r ∷ [])) (preB ++ (record { head = r; parts = ps } ∷ []))
+  known_type : (pre : List Row) (pre_b : List Block) (r : Row) (ps : List Row) → is_type_row r ≡ true → Known pre pre_b →
+      Known (pre ++ (r ∷ [])) (pre_b ++ (record { head = r; parts = ps } ∷ []))
   unfolding Known is_type_row_named is_block_named
-  known_type pre preB r ps e h n =
-      any_snoc (is_block_named cs n) preB (record { head = r; parts = ps })
+  known_type pre pre_b r ps e h n =
+      any_snoc (is_block_named cs n) pre_b (record { head = r; parts = ps })
       ∙ ap (choose (is_row_named cs n r) true) (h n)
       ∙ sym (any_snoc (is_type_row_named cs n) pre r ∙ ap (λ (b : Bool). choose (b && is_row_named cs n r) true (any (is_type_row_named cs n) pre)) e)
 
-  types_next : (pre : List Row) (preB : List Block) (r : Row) (ps : List Row) (bs : List Block) → Known pre preB →
-      types_is preB (record { head = r; parts = ps } ∷ bs) ≡
-      under_is cs [] (choose (any (is_type_row_named cs (named cs r)) pre) none (some r)) ps ++ types_is (preB ++ (record { head = r; parts = ps } ∷ [])) bs
+  types_next : (pre : List Row) (pre_b : List Block) (r : Row) (ps : List Row) (bs : List Block) → Known pre pre_b →
+      types_is pre_b (record { head = r; parts = ps } ∷ bs) ≡
+      under_is cs [] (choose (any (is_type_row_named cs (named cs r)) pre) none (some r)) ps ++ types_is (pre_b ++ (record { head = r; parts = ps } ∷ [])) bs
   unfolding Known types_is under_is flat_map
-  types_next pre preB r ps bs h = go (any (is_type_row_named cs (named cs r)) pre) refl
+  types_next pre pre_b r ps bs h = go (any (is_type_row_named cs (named cs r)) pre) refl
     where
       b : Block
       b = record { head = r; parts = ps }
 
-      known : (t : Bool) → any (is_type_row_named cs (named cs r)) pre ≡ t → any (same_block cs b) preB ≡ t
-      known t e = let k : any (same_block cs b) preB ≡ any (is_type_row_named cs (named cs r)) pre = unfold same_block in h (named cs r) in k ∙ e
+      known : (t : Bool) → any (is_type_row_named cs (named cs r)) pre ≡ t → any (same_block cs b) pre_b ≡ t
+      known t e = let k : any (same_block cs b) pre_b ≡ any (is_type_row_named cs (named cs r)) pre = unfold same_block in h (named cs r) in k ∙ e
 
       go : (t : Bool) → any (is_type_row_named cs (named cs r)) pre ≡ t →
-          flat_map (listed_by cs) (news (same_block cs) preB (b ∷ bs)) ≡
-          found (choose t none (some r)) (λ u. listed_under cs u [] ps) [] ++ flat_map (listed_by cs) (news (same_block cs) (preB ++ (b ∷ [])) bs)
-      go true e = ap (flat_map (listed_by cs)) (news_old (same_block cs) preB b bs (known true e))
-      go false e = ap (flat_map (listed_by cs)) (news_new (same_block cs) preB b bs (known false e)) ∙ (unfold listed_by in refl)
+          flat_map (listed_by cs) (news (same_block cs) pre_b (b ∷ bs)) ≡
+          found (choose t none (some r)) (λ u. listed_under cs u [] ps) [] ++ flat_map (listed_by cs) (news (same_block cs) (pre_b ++ (b ∷ [])) bs)
+      go true e = ap (flat_map (listed_by cs)) (news_old (same_block cs) pre_b b bs (known true e))
+      go false e = ap (flat_map (listed_by cs)) (news_new (same_block cs) pre_b b bs (known false e)) ∙ (unfold listed_by in refl)
 
-  gathered : (pre mid : List Row) (o : Option Row) (rs : List Row) (preB : List Block) → Known pre preB →
-      gather cs pre mid o rs ≡ under_is cs mid o (blocks rs).0 ++ types_is preB (blocks rs).1
-  gathered pre mid o [] preB h = gather_nil cs pre mid o ∙ sym (none_left o)
+  gathered : (pre mid : List Row) (o : Option Row) (rs : List Row) (pre_b : List Block) → Known pre pre_b →
+      gather cs pre mid o rs ≡ under_is cs mid o (blocks rs).0 ++ types_is pre_b (blocks rs).1
+  gathered pre mid o [] pre_b h = gather_nil cs pre mid o ∙ sym (none_left o)
     where
-      no_types : types_is preB (blocks []).1 ≡ []
-      no_types = unfold types_is flat_map in rw (blocks_nil, news_nil (same_block cs) preB)
+      no_types : types_is pre_b (blocks []).1 ≡ []
+      no_types = unfold types_is flat_map in rw (blocks_nil, news_nil (same_block cs) pre_b)
 
-      none_left : (o : Option Row) → under_is cs mid o (blocks []).0 ++ types_is preB (blocks []).1 ≡ []
+      none_left : (o : Option Row) → under_is cs mid o (blocks []).0 ++ types_is pre_b (blocks []).1 ≡ []
       none_left none = (unfold under_is in no_types)
       none_left (some t) = (unfold under_is in rw (no_types) (rw blocks_nil (rw (listed_nil cs t mid))))
-  gathered pre mid o (r ∷ rs) preB h =
+  gathered pre mid o (r ∷ rs) pre_b h =
       go (is_type_row r) o refl (gathered (pre ++ (r ∷ [])) [] (choose (any (is_type_row_named cs (named cs r)) pre) none (some r)) rs
-      (preB ++ (record { head = r; parts = (blocks rs).0 } ∷ [])))
-      (gathered (pre ++ (r ∷ [])) [] none rs preB) (λ t. gathered (pre ++ (r ∷ [])) (mid ++ (r ∷ [])) (some t) rs preB)
+      (pre_b ++ (record { head = r; parts = (blocks rs).0 } ∷ [])))
+      (gathered (pre ++ (r ∷ [])) [] none rs pre_b) (λ t. gathered (pre ++ (r ∷ [])) (mid ++ (r ∷ [])) (some t) rs pre_b)
     where
       after : List Row
       after = pre ++ (r ∷ [])
@@ -229,37 +229,37 @@ module _ (cs : List NamedCard) where
       nothing (some t) = unfold under_is in listed_nil cs t mid
 
       part : (t : Row) → is_type_row r ≡ false → (x y : Bool) → is_row_of 21 r ≡ x → any (is_part_named cs 21 (named cs r)) mid ≡ y →
-          gather cs after (mid ++ (r ∷ [])) (some t) rs ≡ listed_under cs t (mid ++ (r ∷ [])) (blocks rs).0 ++ types_is preB (blocks rs).1 →
-          gather cs pre mid (some t) (r ∷ rs) ≡ listed_under cs t mid (r ∷ (blocks rs).0) ++ types_is preB (blocks rs).1
+          gather cs after (mid ++ (r ∷ [])) (some t) rs ≡ listed_under cs t (mid ++ (r ∷ [])) (blocks rs).0 ++ types_is pre_b (blocks rs).1 →
+          gather cs pre mid (some t) (r ∷ rs) ≡ listed_under cs t mid (r ∷ (blocks rs).0) ++ types_is pre_b (blocks rs).1
       part t e false y s u k =
           gather_other cs pre mid r rs e t s ∙ k
-          ∙ ap (λ (l : List Implementing). l ++ types_is preB (blocks rs).1) (sym (listed_other cs t mid r (blocks rs).0 s))
+          ∙ ap (λ (l : List Implementing). l ++ types_is pre_b (blocks rs).1) (sym (listed_other cs t mid r (blocks rs).0 s))
       part t e true true s u k =
           gather_again cs pre mid r rs e t s u ∙ k
-          ∙ ap (λ (l : List Implementing). l ++ types_is preB (blocks rs).1) (sym (listed_again cs t mid r (blocks rs).0 s u))
+          ∙ ap (λ (l : List Implementing). l ++ types_is pre_b (blocks rs).1) (sym (listed_again cs t mid r (blocks rs).0 s u))
       part t e true false s u k =
           gather_new cs pre mid r rs e t s u ∙ ap (λ (l : List Implementing). implementing t r ∷ l) k
-          ∙ ap (λ (l : List Implementing). l ++ types_is preB (blocks rs).1) (sym (listed_new cs t mid r (blocks rs).0 s u))
+          ∙ ap (λ (l : List Implementing). l ++ types_is pre_b (blocks rs).1) (sym (listed_new cs t mid r (blocks rs).0 s u))
 
       go : (x : Bool) (o : Option Row) → is_type_row r ≡ x →
-          (Known after (preB ++ (b ∷ [])) → gather cs after [] first rs ≡ under_is cs [] first (blocks rs).0 ++ types_is (preB ++ (b ∷ [])) (blocks rs).1) →
-          (Known after preB → gather cs after [] none rs ≡ under_is cs [] none (blocks rs).0 ++ types_is preB (blocks rs).1) →
-          ((t : Row) → Known after preB →
-          gather cs after (mid ++ (r ∷ [])) (some t) rs ≡ under_is cs (mid ++ (r ∷ [])) (some t) (blocks rs).0 ++ types_is preB (blocks rs).1) →
-          gather cs pre mid o (r ∷ rs) ≡ under_is cs mid o (blocks (r ∷ rs)).0 ++ types_is preB (blocks (r ∷ rs)).1
+          (Known after (pre_b ++ (b ∷ [])) → gather cs after [] first rs ≡ under_is cs [] first (blocks rs).0 ++ types_is (pre_b ++ (b ∷ [])) (blocks rs).1) →
+          (Known after pre_b → gather cs after [] none rs ≡ under_is cs [] none (blocks rs).0 ++ types_is pre_b (blocks rs).1) →
+          ((t : Row) → Known after pre_b →
+          gather cs after (mid ++ (r ∷ [])) (some t) rs ≡ under_is cs (mid ++ (r ∷ [])) (some t) (blocks rs).0 ++ types_is pre_b (blocks rs).1) →
+          gather cs pre mid o (r ∷ rs) ≡ under_is cs mid o (blocks (r ∷ rs)).0 ++ types_is pre_b (blocks (r ∷ rs)).1
       go true o e type outside under =
           gather_type cs pre mid r rs o e
-          ∙ type (known_type pre preB r (blocks rs).0 e h)
-          ∙ sym (types_next pre preB r (blocks rs).0 (blocks rs).1 h)
-          ∙ sym (ap (λ (p : List Row × List Block). under_is cs mid o p.0 ++ types_is preB p.1) (blocks_type r rs e)
-          ∙ ap (λ (l : List Implementing). l ++ types_is preB (b ∷ (blocks rs).1)) (nothing o))
+          ∙ type (known_type pre pre_b r (blocks rs).0 e h)
+          ∙ sym (types_next pre pre_b r (blocks rs).0 (blocks rs).1 h)
+          ∙ sym (ap (λ (p : List Row × List Block). under_is cs mid o p.0 ++ types_is pre_b p.1) (blocks_type r rs e)
+          ∙ ap (λ (l : List Implementing). l ++ types_is pre_b (b ∷ (blocks rs).1)) (nothing o))
       go false none e type outside under =
           gather_outside cs pre mid r rs e
-          ∙ outside (known_part pre preB r e h)
-          ∙ (unfold under_is in sym (ap (λ (p : List Row × List Block). types_is preB p.1) (blocks_under r rs e)))
+          ∙ outside (known_part pre pre_b r e h)
+          ∙ (unfold under_is in sym (ap (λ (p : List Row × List Block). types_is pre_b p.1) (blocks_under r rs e)))
       go false (some t) e type outside under =
-          part t e (is_row_of 21 r) (any (is_part_named cs 21 (named cs r)) mid) refl refl ((unfold under_is in under t (known_part pre preB r e h)))
-          ∙ (unfold under_is in sym (ap (λ (p : List Row × List Block). listed_under cs t mid p.0 ++ types_is preB p.1) (blocks_under r rs e)))
+          part t e (is_row_of 21 r) (any (is_part_named cs 21 (named cs r)) mid) refl refl ((unfold under_is in under t (known_part pre pre_b r e h)))
+          ∙ (unfold under_is in sym (ap (λ (p : List Row × List Block). listed_under cs t mid p.0 ++ types_is pre_b p.1) (blocks_under r rs e)))
 
 -- ---- The whole.
 

@@ -16,7 +16,7 @@ use Rattle.definition.specs.Lookups.{is_row_of, is_part_named, origin_of, same_i
 use Rattle.store_reader.specs.Stored.{stored_parts, card_name}
 use Rattle.store_reader.proofs.Words.{name_stored}
 use Rattle.schema_rows.specs.Rows.{row_at, found_from}
-use Rattle.schema_rows.specs.declared.search_lem.Found.TheVariants.{Row as RowAt, Nothing}
+use Rattle.schema_rows.specs.declared.search.Found.TheVariants.{Row as RowAt, Nothing}
 use Rattle.schema_rows.proofs.Rows.{row_next, row_end, never_row, contradiction}
 use Rattle.schema_rows.proofs.Listing.{Listing, listing_length, listing_same, drop_more}
 use Rattle.schema.specs.Owners.{named}
@@ -188,15 +188,15 @@ module _ (text words pairs : List ℕ) (i : ℕ) (name : List ℕ) (n : name ≡
     unfolding is_row_named
     passes = same_name_refl (named (stored_parts text words) (row_at pairs i))
 
-    search_lem : found_from (is_row_named (stored_parts text words) name) 0 (lent_rows pairs) ≡
+    search : found_from (is_row_named (stored_parts text words) name) 0 (lent_rows pairs) ≡
         found_from (is_row_named (stored_parts text words) (named (stored_parts text words) (row_at pairs i))) 0
         (take i (lent_rows pairs) ++ (row_at pairs i ∷ drop (i + 1) (lent_rows pairs)))
-    search_lem = λ j. found_from (is_row_named (stored_parts text words) (is_named_lem j)) 0 (rows_split pairs i h j)
+    search = λ j. found_from (is_row_named (stored_parts text words) (is_named_lem j)) 0 (rows_split pairs i h j)
 
     pub pair_none : found_from (is_row_named (stored_parts text words) name) 0 (lent_rows pairs) ≡ Nothing →
         false ≡ not (any (same_interface (stored_parts text words) (row_at pairs i)) (take i (lent_rows pairs)))
     unfolding same_interface
-    pair_none f = sym (ap not (first_none _ _ _ _ passes (sym search_lem ∙ f)))
+    pair_none f = sym (ap not (first_none _ _ _ _ passes (sym search ∙ f)))
 
     pub pair_some : (t : ℕ) → found_from (is_row_named (stored_parts text words) name) 0 (lent_rows pairs) ≡ RowAt t →
         eqb t i ≡ not (any (same_interface (stored_parts text words) (row_at pairs i)) (take i (lent_rows pairs)))
@@ -205,8 +205,8 @@ module _ (text words pairs : List ℕ) (i : ℕ) (name : List ℕ) (n : name ≡
       where
         go : (b : Bool) → eqb t i ≡ b →
             b ≡ not (any (is_row_named (stored_parts text words) (named (stored_parts text words) (row_at pairs i))) (take i (lent_rows pairs)))
-        go true s = sym (ap not (first_here _ _ _ _ passes t (sym search_lem ∙ f) (eqb-true t i s ∙ sym (taken_length pairs i h))))
-        go false s = sym (ap not (first_other _ _ _ _ passes t (sym search_lem ∙ f) (λ z. eqb-false t i s (z ∙ taken_length pairs i h))))
+        go true s = sym (ap not (first_here _ _ _ _ passes t (sym search ∙ f) (eqb-true t i s ∙ sym (taken_length pairs i h))))
+        go false s = sym (ap not (first_other _ _ _ _ passes t (sym search ∙ f) (λ z. eqb-false t i s (z ∙ taken_length pairs i h))))
 
 -- The group as it is written: three words, then the types.
 module _ (list₀ : List ℕ) (start : ℕ) (a b c : ℕ) (l : List ℕ) (group : List ℕ) (g : group ≡ a ∷ (b ∷ (c ∷ l))) (h : start + length group ≤ length list₀) where

@@ -17,7 +17,7 @@ use Rattle.definition.specs.Catalogue.{Row, row}
 use Rattle.definition.specs.LentRows.{lent_rows, is_type_row}
 use Rattle.definition.specs.Lookups.{blocks, is_row_of, is_schema_part, origin_of, origin_list, is_card, extension_list}
 use Rattle.store_reader.proofs.Lists.{get_drop, get_inside}
-use Rattle.schema_rows.specs.declared.search_lem.Found.TheVariants.{Row as RowAt, Nothing}
+use Rattle.schema_rows.specs.declared.search.Found.TheVariants.{Row as RowAt, Nothing}
 use Rattle.schema_rows.specs.Rows.{row_at}
 use Rattle.schema_rows.specs.Search.{part_from}
 use Rattle.schema_rows.proofs.Rows.{length_rows, row_get, never, never_row}

@@ -17,8 +17,8 @@ use Rattle.definition.specs.LentRows.{lent_rows, is_type_row, is_type_row_named}
 use Rattle.definition.specs.Lookups.{is_row_of, is_part_named, Implementing, implementing, all_implementing}
 use Rattle.definition.specs.Outcomes.{words_of_row}
 use Rattle.schema_rows.specs.Rows.{row_at}
-use Rattle.schema_rows.specs.declared.search_lem.Found.{Found}
-use Rattle.schema_rows.specs.declared.search_lem.Found.TheVariants.{Row as RowAt, Nothing}
+use Rattle.schema_rows.specs.declared.search.Found.{Found}
+use Rattle.schema_rows.specs.declared.search.Found.TheVariants.{Row as RowAt, Nothing}
 use Rattle.schema_rows.proofs.Rows.{length_rows, row_next, row_end, taken_next, contradiction}
 use Rattle.schema.specs.Owners.{named, first_type, owner_of, LastType, is_listed}
 use Rattle.definition.proofs.Lists.{any_nil}

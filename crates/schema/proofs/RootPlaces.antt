@@ -12,15 +12,14 @@ use lib.ListN.{length, get_or}
 use denote.Ref.{Bor}
 use Rattle.definition.specs.declared.OperationType.{OperationType}
 use Rattle.definition.specs.Lists.{found}
-use Rattle.definition.specs.Names.{same_name, bytes_at, bytes}
+use Rattle.definition.specs.Names.{bytes_at, bytes}
 use Rattle.definition.specs.Answers.{absent}
 use Rattle.definition.specs.Cards.{is_root, is_type}
 use Rattle.definition.specs.Headings.{NamedCard}
 use Rattle.definition.specs.Catalogue.{Row, default_name}
-use Rattle.definition.specs.Refusals.{card_capacity, text_capacity}
-use Rattle.definition.specs.Store.{account_in, cards_used_of, text_used_of, too_short, sound}
+use Rattle.definition.specs.Store.{account_in, cards_used_of, too_short, sound}
 use Rattle.definition.specs.LentRows.{lent_rows, is_type_row, is_row_named, is_type_row_named, first_type_row, wanted_kind}
-use Rattle.definition.specs.Lookups.{Span, span, span_in, root_card, root_row, root_span}
+use Rattle.definition.specs.Lookups.{span, span_in, root_card, root_row, root_span}
 use Rattle.definition.proofs.Lists.{split, same_name_eq}
 use Rattle.definition.proofs.Tests.{and_true}
 use Rattle.ast.specs.Cards.{name_at_word, name_len_word}

@@ -10,8 +10,8 @@ use lib.ListN.{length, get_or}
 use Rattle.definition.specs.declared.OperationType.{OperationType}
 use Rattle.definition.specs.declared.OperationType.TheVariants.{Query, Mutation, Subscription}
 use Rattle.definition.specs.Lists.{found, find}
-use Rattle.definition.specs.Names.{same_name, bytes}
-use Rattle.definition.specs.Answers.{absent, rootKind}
+use Rattle.definition.specs.Names.{same_name}
+use Rattle.definition.specs.Answers.{absent, root_kind}
 use Rattle.definition.specs.Cards.{is_root}
 use Rattle.definition.specs.Headings.{NamedCard}
 use Rattle.definition.specs.Catalogue.{Row, default_name}
@@ -26,7 +26,7 @@ use Rattle.store_reader.proofs.Lists.{bytes_none}
 use Rattle.store_reader.proofs.Laws.{held_stored, span_bytes}
 use Rattle.store_reader.proofs.Words.{name_stored}
 use Rattle.schema_rows.specs.Rows.{row_at, found_from}
-use Rattle.schema_rows.specs.declared.search_lem.Found.TheVariants.{Row as RowAt, Nothing}
+use Rattle.schema_rows.specs.declared.search.Found.TheVariants.{Row as RowAt, Nothing}
 use Rattle.schema_rows.proofs.Rows.{found_none, found_some, hit_inside, hit_row}
 
 -- ---- Roots.
@@ -35,13 +35,13 @@ pub root_range : (k : ℕ) → is_root k ≡ true → (26 ≤ k) × (k ≤ 28)
 unfolding is_root
 root_range k e = let a = and_true (leb 26 k) (leb k 28) e in (leb-true 26 k a.0, leb-true k 28 a.1)
 
-root_is_root : (op : OperationType) (k : ℕ) → k ≡ rootKind op → is_root k ≡ true
+root_is_root : (op : OperationType) (k : ℕ) → k ≡ root_kind op → is_root k ≡ true
 unfolding is_root
 root_is_root Query k e = rw e
 root_is_root Mutation k e = rw e
 root_is_root Subscription k e = rw e
 
-module _ (rows : List ℕ) (op : OperationType) (kind : ℕ) (k : kind ≡ rootKind op) where
+module _ (rows : List ℕ) (op : OperationType) (kind : ℕ) (k : kind ≡ root_kind op) where
   pub root_none : found_from (is_row_of kind) 0 (lent_rows rows) ≡ Nothing → root_row (lent_rows rows) op ≡ none
   unfolding root_row
   root_none e = ap (λ (k : ℕ). find (is_row_of k) (lent_rows rows)) (sym k) ∙ found_none (is_row_of kind) 0 (lent_rows rows) e

@@ -18,9 +18,9 @@ use Rattle.definition.proofs.Lists.{same_name_refl}
 use Rattle.store_reader.specs.Stored.{stored_parts, card_name}
 use Rattle.store_reader.proofs.Words.{name_stored}
 use Rattle.schema_rows.specs.Rows.{row_at}
-use Rattle.schema_rows.specs.declared.search_lem.Found.TheVariants.{Row as RowAt, Nothing}
+use Rattle.schema_rows.specs.declared.search.Found.TheVariants.{Row as RowAt, Nothing}
 use Rattle.schema_rows.proofs.Rows.{length_rows, row_next, never, never_row, contradiction}
-use Rattle.schema_rows.specs.declared.search_lem.Located.{Located}
+use Rattle.schema_rows.specs.declared.search.Located.{Located}
 use Rattle.schema_rows.specs.Search.{part_from, located_from}
 use Rattle.schema_rows.proofs.SearchLaws.{located}
 use Rattle.schema.specs.Owners.{named, first_type, owner_of, OwnerAt, LastType, is_listed}

@@ -13,31 +13,31 @@ use Rattle.definition.specs.Headings.{NamedCard}
 use Rattle.definition.specs.Catalogue.{Row}
 use Rattle.definition.specs.Store.{account_in, sound}
 use Rattle.definition.specs.LentRows.{held, lent_rows, is_type_row_named}
-use Rattle.definition.specs.Lookups.{Block, type_named, is_row_of, is_part_named, lists, subtype_of, is_subtype}
+use Rattle.definition.specs.Lookups.{Block, type_named, is_row_of, is_part_named, lists, subtype_of, is_subtype_of}
 use Rattle.store_reader.specs.Stored.{stored_parts}
 use Rattle.store_reader.proofs.Laws.{held_stored}
 use Rattle.schema_rows.specs.Rows.{row_at}
-use Rattle.schema_rows.specs.declared.search_lem.Found.TheVariants.{Row as RowAt, Nothing}
-use Rattle.schema_rows.specs.declared.search_lem.Located.{Located}
+use Rattle.schema_rows.specs.declared.search.Found.TheVariants.{Row as RowAt, Nothing}
+use Rattle.schema_rows.specs.declared.search.Located.{Located}
 use Rattle.schema_rows.specs.Search.{located_from, is_row_found}
 use Rattle.schema_rows.proofs.SearchLaws.{block_after, TypeAt, located_none, located_type, listed}
 
 module _ (cs : List NamedCard) (rs : List Row) (general other : List ℕ) where
-  no_general : type_named cs rs general ≡ none → is_subtype cs rs general other ≡ false
-  unfolding is_subtype
+  no_general : type_named cs rs general ≡ none → is_subtype_of cs rs general other ≡ false
+  unfolding is_subtype_of
   no_general e = rw e
 
   module _ (b : Block) (e : type_named cs rs general ≡ some b) where
-    of_interface : b.head.what ≡ 7 → is_subtype cs rs general other ≡ found (type_named cs rs other) (lists cs 21 general) false
-    unfolding is_subtype subtype_of is_row_of
+    of_interface : b.head.what ≡ 7 → is_subtype_of cs rs general other ≡ found (type_named cs rs other) (lists cs 21 general) false
+    unfolding is_subtype_of subtype_of is_row_of
     of_interface k = rw (e, k)
 
-    of_union : b.head.what ≡ 8 → is_subtype cs rs general other ≡ found (type_named cs rs general) (lists cs 23 other) false
-    unfolding is_subtype subtype_of is_row_of
+    of_union : b.head.what ≡ 8 → is_subtype_of cs rs general other ≡ found (type_named cs rs general) (lists cs 23 other) false
+    unfolding is_subtype_of subtype_of is_row_of
     of_union k = rw (e, k)
 
-    of_neither : (b.head.what ≡ 7 → ⊥) → (b.head.what ≡ 8 → ⊥) → is_subtype cs rs general other ≡ false
-    unfolding is_subtype subtype_of is_row_of
+    of_neither : (b.head.what ≡ 7 → ⊥) → (b.head.what ≡ 8 → ⊥) → is_subtype_of cs rs general other ≡ false
+    unfolding is_subtype_of subtype_of is_row_of
     of_neither k m = rw (e, ne_eqb b.head.what 7 k, ne_eqb b.head.what 8 m)
 
 abbrev pub subtype : Bool → SubtypeLookup
@@ -45,11 +45,11 @@ subtype b = choose b Subtype NotSubtype
 
 module _ (text words rows : List ℕ) (general other : List ℕ) (ok : sound text words ≡ true) (l : Located)
     (e : l ≡ located_from (is_type_row_named (stored_parts text words) general) (is_part_named (stored_parts text words) 23 other) 0 (lent_rows rows)) where
-  told : (b : Bool) → is_subtype (stored_parts text words) (lent_rows rows) general other ≡ b →
-      subtype b ≡ subtype (is_subtype (held (account_in text words).documents) (lent_rows rows) general other)
-  told b k = ap subtype (sym k ∙ ap (λ (cs : List NamedCard). is_subtype cs (lent_rows rows) general other) (sym (held_stored text words ok)))
+  told : (b : Bool) → is_subtype_of (stored_parts text words) (lent_rows rows) general other ≡ b →
+      subtype b ≡ subtype (is_subtype_of (held (account_in text words).documents) (lent_rows rows) general other)
+  told b k = ap subtype (sym k ∙ ap (λ (cs : List NamedCard). is_subtype_of cs (lent_rows rows) general other) (sym (held_stored text words ok)))
 
-  pub subtype_none : l.owner ≡ Nothing → NotSubtype ≡ subtype (is_subtype (held (account_in text words).documents) (lent_rows rows) general other)
+  pub subtype_none : l.owner ≡ Nothing → NotSubtype ≡ subtype (is_subtype_of (held (account_in text words).documents) (lent_rows rows) general other)
   subtype_none o = told false (no_general (stored_parts text words) (lent_rows rows) general other (located_none (stored_parts text words) rows general _ l e o))
 
   module _ (t : ℕ) (o : l.owner ≡ RowAt t) where
@@ -64,7 +64,7 @@ module _ (text words rows : List ℕ) (general other : List ℕ) (ok : sound tex
 
     pub subtype_interface : get_or rows (3 * t) 0 ≡ 7 → (m : Located) →
         m ≡ located_from (is_type_row_named (stored_parts text words) other) (is_part_named (stored_parts text words) 21 general) 0 (lent_rows rows) →
-        subtype (is_row_found m.part) ≡ subtype (is_subtype (held (account_in text words).documents) (lent_rows rows) general other)
+        subtype (is_row_found m.part) ≡ subtype (is_subtype_of (held (account_in text words).documents) (lent_rows rows) general other)
     unfolding general_block
     subtype_interface k m f =
         told (is_row_found m.part)
@@ -72,7 +72,7 @@ module _ (text words rows : List ℕ) (general other : List ℕ) (ok : sound tex
         ∙ sym (listed (stored_parts text words) other 21 general rows m f))
 
     pub subtype_union : get_or rows (3 * t) 0 ≡ 8 →
-        subtype (is_row_found l.part) ≡ subtype (is_subtype (held (account_in text words).documents) (lent_rows rows) general other)
+        subtype (is_row_found l.part) ≡ subtype (is_subtype_of (held (account_in text words).documents) (lent_rows rows) general other)
     unfolding general_block
     subtype_union k =
         told (is_row_found l.part)
@@ -80,6 +80,6 @@ module _ (text words rows : List ℕ) (general other : List ℕ) (ok : sound tex
         ∙ sym (listed (stored_parts text words) general 23 other rows l e))
 
     pub subtype_neither : (get_or rows (3 * t) 0 ≡ 7 → ⊥) → (get_or rows (3 * t) 0 ≡ 8 → ⊥) →
-        NotSubtype ≡ subtype (is_subtype (held (account_in text words).documents) (lent_rows rows) general other)
+        NotSubtype ≡ subtype (is_subtype_of (held (account_in text words).documents) (lent_rows rows) general other)
     unfolding general_block
     subtype_neither k m = told false (of_neither (stored_parts text words) (lent_rows rows) general other general_block general_at.block k m)

@@ -11,8 +11,8 @@ use Rattle.definition.specs.Outcomes.{words_of_row}
 use Rattle.store_reader.specs.Stored.{stored_parts}
 use Rattle.schema_rows.specs.Rows.{row_at}
 use Rattle.schema.specs.Owners.{named}
-use Rattle.schema_rows.specs.declared.search_lem.Found.{Found}
-use Rattle.schema_rows.specs.declared.search_lem.Found.TheVariants.{Row as RowAt, Nothing}
+use Rattle.schema_rows.specs.declared.search.Found.{Found}
+use Rattle.schema_rows.specs.declared.search.Found.TheVariants.{Row as RowAt, Nothing}
 
 -- The elements that are like none before them, where the elements of `pre` stand before the list: unlike in `firsts`, all of them do, kept or not.
 unfoldable pub news : {A : Type 0} → (A → A → Bool) → List A → List A → List A

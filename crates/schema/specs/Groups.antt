@@ -7,7 +7,7 @@ use Rattle.definition.specs.LentRows.{lent_rows, is_row_named}
 use Rattle.definition.specs.Lookups.{is_row_of, origin_of, same_interface}
 use Rattle.store_reader.specs.Stored.{stored_parts}
 use Rattle.schema_rows.specs.Rows.{row_at, found_from}
-use Rattle.schema_rows.specs.declared.search_lem.Found.{Found}
+use Rattle.schema_rows.specs.declared.search.Found.{Found}
 use Rattle.schema.specs.Gather.{news}
 use Rattle.schema.specs.Owners.{named}
 

@@ -10,7 +10,7 @@ use Rattle.definition.specs.Lists.{choose, found, written}
 use Rattle.definition.specs.Headings.{NamedCard}
 use Rattle.definition.specs.Store.{account_in}
 use Rattle.definition.specs.LentRows.{lent_rows, held, rows_refusal}
-use Rattle.definition.specs.Lookups.{Span, root_card, root_span, is_query_root, meta_field, field_named, is_subtype, Group, groups}
+use Rattle.definition.specs.Lookups.{Span, root_card, root_span, is_query_root, meta_field, field_named, is_subtype_of, Group, groups}
 use Rattle.definition.specs.Outcomes.{part_of}
 use Rattle.store_reader.specs.Stored.{stored_parts}
 use Rattle.schema_rows.specs.Rows.{row_at}
@@ -56,7 +56,7 @@ abbrev pub subtype_if : Bool → SubtypeLookup
 subtype_if b = choose b Subtype NotSubtype
 
 abbrev pub subtype_in : List ℕ → List ℕ → List ℕ → List ℕ → List ℕ → SubtypeLookup
-subtype_in text words rows general other = subtype_if (is_subtype (cards_in text words) (lent_rows rows) general other)
+subtype_in text words rows general other = subtype_if (is_subtype_of (cards_in text words) (lent_rows rows) general other)
 
 -- The groups of implementers_map.
 abbrev pub groups_in : List ℕ → List ℕ → List ℕ → List Group

@@ -8,8 +8,8 @@ use Rattle.definition.specs.LentRows.{name_numbered, lent_rows, is_type_row, is_
 use Rattle.definition.specs.Lookups.{is_part_named}
 use Rattle.store_reader.specs.Stored.{stored_parts}
 use Rattle.schema_rows.specs.Rows.{row_at}
-use Rattle.schema_rows.specs.declared.search_lem.Found.{Found}
-use Rattle.schema_rows.specs.declared.search_lem.Found.TheVariants.{Row as RowAt, Nothing}
+use Rattle.schema_rows.specs.declared.search.Found.{Found}
+use Rattle.schema_rows.specs.declared.search.Found.TheVariants.{Row as RowAt, Nothing}
 
 -- The name of a row's card.
 abbrev pub named : List NamedCard → Row → List ℕ

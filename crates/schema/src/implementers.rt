@@ -11,7 +11,7 @@ ghost use Rattle.schema.specs.Groups.{pair_found, kind_count, implementers_in, g
 
 use ast::kinds;
 use definition::layout::{CARD_CAPACITY, ROW_WORDS};
-use schema_rows::search_lem::Found;
+use schema_rows::search::Found;
 
 // The words that pairs may have: at most one interface a card, and a pair is as wide as a row.
 const PAIRS_CAPACITY: usize = ROW_WORDS * CARD_CAPACITY;
@@ -73,7 +73,7 @@ fn find_interface(text: &[u8], words: &[u32], pairs: &[u32], name: &[u8]) -> Fou
     let count = pairs.len() / ROW_WORDS;
     let mut i = 0;
     while i < count {
-        if schema_rows::search_lem::is_named(text, words, pairs[ROW_WORDS * i + 1], name) {
+        if schema_rows::search::is_named(text, words, pairs[ROW_WORDS * i + 1], name) {
             return Found::Row(i);
         }
         i += 1;
@@ -102,7 +102,7 @@ fn count_kind(text: &[u8], words: &[u32], pairs: &[u32], name: &[u8], kind: u32)
     let mut n: u32 = 0;
     let mut i = 0;
     while i < count {
-        if !schema_rows::search_lem::is_part_named(
+        if !schema_rows::search::is_part_named(
             text,
             words,
             pairs[ROW_WORDS * i],
@@ -137,7 +137,7 @@ fn push_implementers(
     let mut n = start;
     let mut i = 0;
     while i < count {
-        if !schema_rows::search_lem::is_named(text, words, pairs[ROW_WORDS * i + 1], name) {
+        if !schema_rows::search::is_named(text, words, pairs[ROW_WORDS * i + 1], name) {
             i += 1;
             continue;
         }

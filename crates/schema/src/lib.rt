@@ -4,6 +4,8 @@
 // - implementers_map: implementers; which of the interfaces listed count: first_interface
 // - is_subtype: lookup
 // - iter_origins and extensions of SchemaDefinition: origins
+#![tactic(auto)]
+
 pub mod first_interface;
 pub mod implementers;
 pub mod lookup;

@@ -3,17 +3,17 @@ ghost use Rattle.std.specs.Prelude.{◌≡◌, true};
 ghost use Rattle.definition.specs.Store.{sound};
 ghost use Rattle.schema_rows.specs.Search.{is_row_found};
 ghost use Rattle.schema.specs.InStore.{field_in, subtype_if, subtype_in};
-ghost use Rattle.schema.specs.Answers.{isInside, explicitField, firstFound};
+ghost use Rattle.schema.specs.Answers.{is_inside, explicit_field, first_found};
 
 use ast::kinds;
 use definition::layout::ROW_WORDS;
 use definition::{FieldFound, FieldLookup, SubtypeLookup};
-use schema_rows::search_lem::{Found, find_part};
+use schema_rows::search::{Found, find_part};
 
 // The field of a row that was found, or that the type of the card has no such field.
 fn explicit_field(rows: &[u32], part: Found, card: u32) -> FieldLookup
-    requires { isInside rows.now part }
-    ensures { result ≡ explicitField rows.now part card }
+    requires { is_inside rows.now part }
+    ensures { result ≡ explicit_field rows.now part card }
 {
     let Found::Row(i) = part else {
         return FieldLookup::NoSuchField(card);
@@ -23,7 +23,7 @@ fn explicit_field(rows: &[u32], part: Found, card: u32) -> FieldLookup
 
 // The first of two answers, if it is a field that was found.
 fn first_found(own: FieldLookup, other: FieldLookup) -> FieldLookup
-    ensures { result ≡ firstFound own other }
+    ensures { result ≡ first_found own other }
 {
     match own {
         FieldLookup::Found(field) => FieldLookup::Found(field),

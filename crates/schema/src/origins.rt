@@ -11,7 +11,7 @@ ghost use Rattle.schema.specs.Extensions.{is_new};
 use ast::kinds;
 use definition::ABSENT;
 use definition::layout::ROW_WORDS;
-use schema_rows::search_lem::Found;
+use schema_rows::search::Found;
 
 // Directive uses and roots: the parts of the schema definition.
 fn is_schema_part(what: u32) -> bool

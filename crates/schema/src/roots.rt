@@ -1,7 +1,7 @@
 // schema/mod.rs: the root operations of lent rows, and meta fields, of which the query root has two.
 ghost use Rattle.std.specs.Prelude.{◌≡◌, true, false, ◌<◌, ◌/◌, length};
 ghost use Rattle.definition.specs.Names.{same_name};
-ghost use Rattle.definition.specs.Answers.{rootKind};
+ghost use Rattle.definition.specs.Answers.{root_kind};
 ghost use Rattle.definition.specs.Cards.{is_root};
 ghost use Rattle.definition.specs.Store.{sound, too_short};
 ghost use Rattle.schema_rows.specs.Rows.{row_at};
@@ -11,10 +11,10 @@ ghost use Rattle.schema.specs.MetaFields.{is_typename};
 use ast::kinds;
 use definition::layout::ROW_WORDS;
 use definition::{ABSENT, FieldFound, FieldLookup, NameOrder, OperationType};
-use schema_rows::search_lem::Found;
+use schema_rows::search::Found;
 
 fn root_kind(op: OperationType) -> u32
-    ensures { result ≡ rootKind op }
+    ensures { result ≡ root_kind op }
 {
     match op {
         OperationType::Query => kinds::QUERY,
@@ -33,7 +33,7 @@ fn root_card(text: &[u8], words: &[u32], rows: &[u32], i: usize) -> u32
     if card != ABSENT {
         return card;
     }
-    let Found::Row(t) = schema_rows::search_lem::find_default_root(
+    let Found::Row(t) = schema_rows::search::find_default_root(
         text,
         words,
         rows,
@@ -57,7 +57,7 @@ pub fn root_operation<'a>(
         × (RowsPass text.now words.now rows.now
         → IsSpan text.entry result (root_span_in text.now words.now rows.now op)) }
 {
-    let Found::Row(i) = schema_rows::search_lem::find_row(rows, root_kind(op)) else {
+    let Found::Row(i) = schema_rows::search::find_row(rows, root_kind(op)) else {
         return &text[0..0];
     };
     let card = root_card(text, words, rows, i);
@@ -67,10 +67,10 @@ pub fn root_operation<'a>(
 fn is_query_root(text: &[u8], words: &[u32], rows: &[u32], name: &[u8]) -> bool
     ensures { result ≡ is_query_root_in text.now words.now rows.now name.now }
 {
-    let Found::Row(i) = schema_rows::search_lem::find_row(rows, kinds::QUERY) else {
+    let Found::Row(i) = schema_rows::search::find_row(rows, kinds::QUERY) else {
         return false;
     };
-    schema_rows::search_lem::is_named(text, words, root_card(text, words, rows, i), name)
+    schema_rows::search::is_named(text, words, root_card(text, words, rows, i), name)
 }
 
 // Whether two names have the same bytes.

@@ -2,7 +2,6 @@
 use mathlib.Core.Path.{◌≡◌, refl, sym, ◌∙◌, ap}
 use mathlib.Core.List.{List}
 use mathlib.Core.Bool.{Bool, true, false, ◌&&◌, ◌||◌}
-use mathlib.Core.Option.{none}
 use Prim.Native.Nat.{ℕ, ◌+◌, ◌*◌, ◌/◌, ◌≤◌, ◌<◌}
 use native.Mathlib.Omega.{arith}
 use borrow.Author.Tests.{eq-eqb, ne_eqb, lt-ltb, le-ltb, ltb-true, ltb-false, leb-true}
@@ -20,7 +19,7 @@ use Rattle.definition.proofs.Tests.{and_true}
 use Rattle.store_reader.proofs.Words.{found_stored, kind_past}
 use Rattle.schema_rows.specs.Rows.{found_from}
 use Rattle.schema_rows.specs.Passing.{card_fits, origin_fits, row_passes, is_free, marked}
-use Rattle.schema_rows.specs.declared.search_lem.Found.TheVariants.{Row as RowAt, Nothing}
+use Rattle.schema_rows.specs.declared.search.Found.TheVariants.{Row as RowAt, Nothing}
 use Rattle.schema_rows.proofs.Rows.{found_none, found_some, hit_inside, hit_row}
 
 -- ---- A default root, and the kind that a row's card has.

@@ -19,7 +19,7 @@ use Rattle.definition.proofs.Tests.{and_true}
 use Rattle.store_reader.proofs.Lists.{length_chunks, chunk_at, drop_get, get_inside}
 use Rattle.store_reader.proofs.Words.{name_stored}
 use Rattle.schema_rows.specs.Rows.{row_at, found_from}
-use Rattle.schema_rows.specs.declared.search_lem.Found.TheVariants.{Row as RowAt, Nothing}
+use Rattle.schema_rows.specs.declared.search.Found.TheVariants.{Row as RowAt, Nothing}
 use native.Mathlib.Numerals.{add-one}
 
 -- ---- A row by its number.

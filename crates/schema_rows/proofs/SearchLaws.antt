@@ -16,12 +16,12 @@ use Rattle.definition.specs.Headings.{NamedCard}
 use Rattle.definition.specs.Lookups.{Block, blocks, is_block_named, type_named, is_row_of, is_part_named, lists}
 use Rattle.store_reader.specs.Stored.{stored_parts, card_name}
 use Rattle.schema_rows.specs.Rows.{row_at}
-use Rattle.schema_rows.specs.declared.search_lem.Found.{Found}
-use Rattle.schema_rows.specs.declared.search_lem.Found.TheVariants.{Row as RowAt, Nothing}
+use Rattle.schema_rows.specs.declared.search.Found.{Found}
+use Rattle.schema_rows.specs.declared.search.Found.TheVariants.{Row as RowAt, Nothing}
 use Rattle.store_reader.proofs.Lists.{and_true, and_left_false, get_inside, get_drop}
 use Rattle.schema_rows.proofs.Rows.{length_rows, row_get, row_next, row_end, row_named, Hit, hit_here, hit_later, never, never_row}
 use Rattle.schema_rows.specs.Search.{part_from, located_from, is_row_found}
-use Rattle.schema_rows.specs.declared.search_lem.Located.{Located}
+use Rattle.schema_rows.specs.declared.search.Located.{Located}
 
 -- ---- A part of a kind and a name, by a row's words.
 

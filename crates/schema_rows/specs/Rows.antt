@@ -6,8 +6,8 @@ use Rattle.definition.specs.Lists.{choose}
 use Rattle.definition.specs.Catalogue.{Row, row}
 use Rattle.definition.specs.LentRows.{lent_rows, is_type_row_named}
 use Rattle.store_reader.specs.Stored.{stored_parts}
-use Rattle.schema_rows.specs.declared.search_lem.Found.{Found}
-use Rattle.schema_rows.specs.declared.search_lem.Found.TheVariants.{Row as RowAt, Nothing}
+use Rattle.schema_rows.specs.declared.search.Found.{Found}
+use Rattle.schema_rows.specs.declared.search.Found.TheVariants.{Row as RowAt, Nothing}
 
 abbrev pub row_at : List ℕ → ℕ → Row
 row_at rows i = row (get_or rows (3 * i) 0) (get_or rows (3 * i + 1) 0) (get_or rows (3 * i + 2) 0)

@@ -5,9 +5,9 @@ use Rattle.definition.specs.Catalogue.{Row}
 use Rattle.definition.specs.LentRows.{lent_rows, is_type_row, is_type_row_named}
 use Rattle.definition.specs.Lookups.{is_part_named}
 use Rattle.store_reader.specs.Stored.{stored_parts}
-use Rattle.schema_rows.specs.declared.search_lem.Found.{Found}
-use Rattle.schema_rows.specs.declared.search_lem.Found.TheVariants.{Row as RowAt, Nothing}
-use Rattle.schema_rows.specs.declared.search_lem.Located.{Located}
+use Rattle.schema_rows.specs.declared.search.Found.{Found}
+use Rattle.schema_rows.specs.declared.search.Found.TheVariants.{Row as RowAt, Nothing}
+use Rattle.schema_rows.specs.declared.search.Located.{Located}
 
 -- The first part that hits before the next type row; the first row has the number i.
 unfoldable pub part_from : (Row → Bool) → ℕ → List Row → Found

@@ -6,7 +6,7 @@ ghost use Rattle.definition.specs.LentRows.{lent_rows, is_default_root, wanted_k
 ghost use Rattle.store_reader.specs.Stored.{stored_parts};
 ghost use Rattle.schema_rows.specs.Passing.{origin_fits, is_free, marked};
 
-use crate::search_lem::Found;
+use crate::search::Found;
 use ast::kinds;
 use definition::ABSENT;
 use definition::layout::ROW_WORDS;
@@ -62,7 +62,7 @@ pub fn default_root_passes(
     if !is_default_root(what, card, origin) {
         return true;
     }
-    let Found::Row(t) = crate::search_lem::find_default_root(text, words, rows, what) else {
+    let Found::Row(t) = crate::search::find_default_root(text, words, rows, what) else {
         return false;
     };
     rows[ROW_WORDS * t] == kinds::OBJECT_TYPE_DEFINITION

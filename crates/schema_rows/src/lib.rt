@@ -1,4 +1,6 @@
 // Refusal 26: what it asks of a row by itself, and one walk over the rows that are lent to a lookup.
+#![tactic(auto)]
+
 ghost use Rattle.std.specs.Prelude.{◌≡◌, true, eqb};
 ghost use Rattle.definition.specs.Catalogue.{row};
 ghost use Rattle.definition.specs.Store.{account_in, sound};
@@ -12,7 +14,7 @@ use definition::layout::{CARD_CAPACITY, ROW_WORDS};
 
 pub mod cards;
 pub mod order;
-pub mod search_lem;
+pub mod search;
 
 fn card_passes(words: &[u32], what: u32, card: u32, origin: u32) -> bool
     ensures { result ≡ card_fits words.now (row what card origin) }

@@ -7,7 +7,7 @@ ghost use Rattle.schema_rows.specs.Order.{is_standing, fits, kind_after, place_a
 use ast::kinds;
 
 // Where the next row stands: under the row 4 or a type row, at or after a place of that kind's order. Before the row 4 the kind is 0.
-#[derive(Drop)]
+#[derive(Clone, Copy)]
 pub struct RowPlace {
     pub kind: u32,
     pub place: u32,

@@ -13,15 +13,15 @@ use ast::kinds;
 use definition::NameOrder;
 use definition::layout::ROW_WORDS;
 
-// What a search_lem over rows finds: the number of a row.
-#[derive(Drop)]
+// What a search over rows finds: the number of a row.
+#[derive(Clone, Copy)]
 pub enum Found {
     Row(usize),
     Nothing,
 }
 
 // The first type row of a name and under it the first part of a name.
-#[derive(Drop)]
+#[derive(Clone, Copy)]
 pub struct Located {
     pub owner: Found,
     pub part: Found,
@@ -102,7 +102,7 @@ pub fn is_part_named(
     is_named(text, words, card, name)
 }
 
-// One search_lem answers for the type and for its part, so that no type is searched twice.
+// One search answers for the type and for its part, so that no type is searched twice.
 pub fn find_part(
     text: &[u8],
     words: &[u32],
@@ -119,7 +119,7 @@ pub fn find_part(
     let mut owner = Found::Nothing;
     let mut part = Found::Nothing;
     let mut i = 0;
-    'search_lem: while i < count {
+    'search: while i < count {
         if is_type_named(
             text,
             words,
@@ -131,7 +131,7 @@ pub fn find_part(
             let mut j = i + 1;
             while j < count {
                 if kinds::is_type(rows[ROW_WORDS * j]) {
-                    break 'search_lem;
+                    break 'search;
                 }
                 if is_part_named(
                     text,
@@ -142,7 +142,7 @@ pub fn find_part(
                     part_name,
                 ) {
                     part = Found::Row(j);
-                    break 'search_lem;
+                    break 'search;
                 }
                 j += 1;
             }

@@ -1,6 +1,8 @@
 // Opening a store, filing documents into it and turning its switches on: SchemaBuilder's `new`, `add_ast` and its two switches.
+#![tactic(auto)]
+
 ghost use Rattle.std.specs.Prelude.{◌≡◌, ◌≤◌, set};
-ghost use Rattle.definition.specs.Outcomes.{open-store, add-ast, turned, adopt-orphan-extensions, ignore-builtin-redefinitions};
+ghost use Rattle.definition.specs.Outcomes.{open_store, add_ast, turned, adopt_orphan_extensions, ignore_builtin_redefinitions};
 
 use ast_check::CardCheck;
 use definition::Answer;
@@ -15,7 +17,7 @@ pub mod filing;
 // Files document 0 with both switches off, over whatever the store held.
 pub fn open(text: &mut [u8], words: &mut [u32], lent: &[u8], cards: &[u32]) -> Answer
     ensures { record { answer = result; text = text.new; words = words.new }
-        ≡ open-store text.old words.old lent.now cards.now }
+        ≡ open_store text.old words.old lent.now cards.now }
 {
     if text.len() < TEXT_CAPACITY {
         return Answer {
@@ -45,7 +47,7 @@ pub fn open(text: &mut [u8], words: &mut [u32], lent: &[u8], cards: &[u32]) -> A
 // Files a document after those held.
 pub fn add_ast(text: &mut [u8], words: &mut [u32], lent: &[u8], cards: &[u32]) -> Answer
     ensures { record { answer = result; text = text.new; words = words.new }
-        ≡ add-ast text.old words.old lent.now cards.now }
+        ≡ add_ast text.old words.old lent.now cards.now }
 {
     if let StoreCheck::Refused(number) = store_check::check_store(text, words) {
         return Answer { number, card: 0 };
@@ -75,7 +77,7 @@ fn turn_on(text: &[u8], words: &mut [u32], switch: usize) -> Answer
 // Extensions without a definition are adopted from now on.
 pub fn adopt_orphan_extensions(text: &[u8], words: &mut [u32]) -> Answer
     ensures { record { answer = result; text = text.now; words = words.new }
-        ≡ adopt-orphan-extensions text.now words.old }
+        ≡ adopt_orphan_extensions text.now words.old }
 {
     turn_on(text, words, ADOPT_SWITCH)
 }
@@ -83,7 +85,7 @@ pub fn adopt_orphan_extensions(text: &[u8], words: &mut [u32]) -> Answer
 // Documents filed from now on may define the types of document 0 again.
 pub fn ignore_builtin_redefinitions(text: &[u8], words: &mut [u32]) -> Answer
     ensures { record { answer = result; text = text.now; words = words.new }
-        ≡ ignore-builtin-redefinitions text.now words.old }
+        ≡ ignore_builtin_redefinitions text.now words.old }
 {
     turn_on(text, words, IGNORE_SWITCH)
 }

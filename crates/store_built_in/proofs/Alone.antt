@@ -1,9 +1,9 @@
 -- A document 0 without barred kinds gives, alone, its first error at the card that `fails_from` tells.
 use mathlib.Core.Path.{◌≡◌, refl, sym, ap, ◌∙◌}
-use mathlib.Core.Bool.{Bool, true, false, ◌&&◌, ◌||◌, not, and_false, or_true, or_false}
+use mathlib.Core.Bool.{Bool, true, false, ◌&&◌, ◌||◌, not, and-false, or-true, or-false}
 use mathlib.Core.List.{List, [], ◌∷◌, ◌++◌, append-nil}
 use mathlib.Core.Option.{Option, none, some}
-use Prim.Native.Nat.{ℕ, ◌+◌, ◌-◌, ◌≤◌}
+use Prim.Native.Nat.{ℕ, ◌+◌, ◌≤◌}
 use native.Mathlib.Omega.{arith}
 use borrow.Author.Tests.{eqb-true, le-leb, leb-true}
 use lib.Dec.{eqb, leb}
@@ -82,7 +82,7 @@ contra b e f = absurd (let q : true ≡ false = sym e ∙ f in let z : ◌≡◌
 
 extension_barred : (k : ℕ) → 11 ≤ k → k ≤ 17 → is_barred k ≡ true
 unfolding is_barred is_extension
-extension_barred k lo hi = simp (le-leb 11 k lo, le-leb k 17 hi) (or_true (eqb k 1 || eqb k 2 || eqb k 4))
+extension_barred k lo hi = simp (le-leb 11 k lo, le-leb k 17 hi) (or-true (eqb k 1 || eqb k 2 || eqb k 4))
 
 unbarred_not : (k m : ℕ) → is_barred k ≡ false → is_barred m ≡ true → eqb k m ≡ false
 unbarred_not k m h b = go (eqb k m) refl
@@ -143,10 +143,10 @@ no_drawing hs a = simp (no_orphans hs a, no_schema hs a, no_schema_extensions hs
 unfoldable first_card : List Error → Option ℕ
 first_card es = found (first es) (λ e. some e.card) none
 
-first_of_lem : (es fs : List Error) (n : ℕ) → first_card es ≡ some n → first_card (es ++ fs) ≡ some n
+first_set_of : (es fs : List Error) (n : ℕ) → first_card es ≡ some n → first_card (es ++ fs) ≡ some n
 unfolding first_card
-first_of_lem [] fs n h = absurd (let z : ◌≡◌ {A = ℕ} 0 1 = cc in omega arith)
-first_of_lem (e ∷ es) fs n h = h
+first_set_of [] fs n h = absurd (let z : ◌≡◌ {A = ℕ} 0 1 = cc in omega arith)
+first_set_of (e ∷ es) fs n h = h
 
 abbrev BuiltIn : Option Heading → Type 0
 BuiltIn none = Unit {0}
@@ -295,7 +295,7 @@ part_no_type k h = go (leb 20 k) refl (leb k 10) refl h
   where
     go : (a : Bool) → leb 20 k ≡ a → (b : Bool) → leb k 10 ≡ b → (a && leb k 28) ≡ true → (leb 5 k && b) ≡ false
     go true ea true eb t = absurd (omega (arith, leb-true 20 k ea, leb-true k 10 eb))
-    go true ea false eb t = and_false (leb 5 k)
+    go true ea false eb t = and-false (leb 5 k)
     go false ea b eb t = absurd (let z : ◌≡◌ {A = ℕ} 0 1 = cc in omega arith)
 
 module _ (text : List ℕ) where
@@ -311,7 +311,7 @@ module _ (text : List ℕ) where
 
   types_part : (hs : List Heading) (cs : List Card) (c : Card) → SameTypes hs cs → is_part c.kind ≡ true → SameTypes hs (cs ++ (c ∷ []))
   unfolding type_named
-  types_part hs cs c s e = λ n. s n ∙ sym (any_snoc (type_named text n) cs c ∙ rw (part_no_type c.kind e) (or_false (any (type_named text n) cs)))
+  types_part hs cs c s e = λ n. s n ∙ sym (any_snoc (type_named text n) cs c ∙ rw (part_no_type c.kind e) (or-false (any (type_named text n) cs)))
 
   types_heading : (hs : List Heading) (cs : List Card) (c : Card) (n : ℕ) (ps : List NamedCard) → SameTypes hs cs →
       SameTypes (hs ++ (heading_from text true false n c ps ∷ [])) (cs ++ (c ∷ []))
@@ -352,7 +352,7 @@ module _ (text : List ℕ) where
 
     given_part_again : (ps : List NamedCard) → is_part c.kind ≡ true → any (alike (named_card text n c)) ps ≡ true → Given n k hs (some ps) (c ∷ cs) ≡ some n
     unfolding Given group part_errors named_card
-    given_part_again ps e t = rw e (first_of_lem _ _ n (part_again k ps (named_card text n c) (group text true false (n + 1) cs).0 t))
+    given_part_again ps e t = rw e (first_set_of _ _ n (part_again k ps (named_card text n c) (group text true false (n + 1) cs).0 t))
 
     given_part_new : (ps : List NamedCard) → is_part c.kind ≡ true → any (alike (named_card text n c)) ps ≡ false →
         Given n k hs (some ps) (c ∷ cs) ≡ Given (n + 1) k hs (some (ps ++ (named_card text n c ∷ []))) cs
@@ -369,7 +369,7 @@ module _ (text : List ℕ) where
 
       given_own : own_fails hs head ≡ true → Given n k hs ps (c ∷ cs) ≡ some n
       unfolding heading_from
-      given_own f = given_heading ∙ first_of_lem _ _ n (own_error hs head plain unbarred refl f)
+      given_own f = given_heading ∙ first_set_of _ _ n (own_error hs head plain unbarred refl f)
 
       given_type : own_fails hs head ≡ false → is_type c.kind ≡ true → Given n k hs ps (c ∷ cs) ≡ Given (n + 1) c.kind (hs ++ (head ∷ [])) (some []) cs
       unfolding heading_from Given part_errors

@@ -10,7 +10,7 @@ ghost use Rattle.store_built_in.specs.Fails.{type_named, alike_cards, heading_fa
 use ast::{Card, kinds};
 
 // Whether a card stands under a type, and the number of the first part there.
-#[derive(Drop)]
+#[derive(Clone, Copy)]
 pub enum Under {
     Type(usize),
     Other,

@@ -1,4 +1,6 @@
 // SchemaBuilder::built_in: what the Rust asserts of its own built-in document is here the refusal 6 of a lent document 0, of any length.
+#![tactic(auto)]
+
 ghost use Rattle.std.specs.Prelude.{◌≡◌, [], false};
 ghost use Rattle.std.proofs.Math.Option.{none};
 ghost use Rattle.definition.specs.Cards.{cards_of};
@@ -15,8 +17,8 @@ use definition::refusal::BUILT_INS_FAULTY;
 
 pub mod card_errors;
 
-// What a search_lem over cards finds: a card's number.
-#[derive(Drop)]
+// What a search over cards finds: a card's number.
+#[derive(Clone, Copy)]
 enum Search {
     Found(usize),
     Nothing,
@@ -86,10 +88,10 @@ fn first_error(text: &[u8], cards: &[u32]) -> Search
 }
 
 // The refusal of a card that was found.
-fn refusal(search_lem: Search) -> CardCheck
-    ensures { check_option result ≡ six_at (found_at search_lem) }
+fn refusal(search: Search) -> CardCheck
+    ensures { check_option result ≡ six_at (found_at search) }
 {
-    let Search::Found(i) = search_lem else {
+    let Search::Found(i) = search else {
         return CardCheck::Sound;
     };
     CardCheck::Faulty(Answer {

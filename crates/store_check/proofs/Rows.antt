@@ -1,7 +1,7 @@
 -- The documents' rows of a store, read one after the other: what a pass over them has shown so far, and what each turn adds.
 use mathlib.Core.Path.{◌≡◌, refl, sym, ap, ◌∙◌}
-use mathlib.Core.List.{List, [], ◌∷◌}
-use mathlib.Core.Bool.{Bool, true, false, ◌&&◌, and_false, and_true as and-all}
+use mathlib.Core.List.{List, ◌∷◌}
+use mathlib.Core.Bool.{Bool, true, false, ◌&&◌, and-false, and-true as and-all}
 use Prim.Native.Nat.{ℕ, ◌+◌, ◌*◌, ◌<◌, ◌≤◌}
 use lib.Dec.{eqb, leb}
 use lib.ListN.{drop, get_or}
@@ -86,11 +86,11 @@ module _ (words : List ℕ) (rs : List DocumentRow) where
 
   rise_fails : switches_rise (ignore_word words) 0 rs ≡ false → rows_sound words rs ≡ false
   unfolding rows_sound
-  rise_fails e = rw (e, and_false)
+  rise_fails e = rw (e, and-false)
 
   zero_fails : zero_unignored rs ≡ false → rows_sound words rs ≡ false
   unfolding rows_sound
-  zero_fails e = rw (e, and_false)
+  zero_fails e = rw (e, and-false)
 
 module _ (words : List ℕ) where
   untouched : (at cards ignored row : ℕ) → row < document_count words → ((row_at words row).text_at ≡ at → ⊥) → Passed words at cards ignored row →

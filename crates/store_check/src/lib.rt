@@ -1,4 +1,6 @@
 // Whether a store is one that filing can leave: the refusals 21 and 22.
+#![tactic(auto)]
+
 ghost use Rattle.std.specs.Prelude.{◌≡◌, ◌≤◌, length};
 ghost use Rattle.definition.specs.Refusals.{text_capacity};
 ghost use Rattle.definition.specs.Store.{account_in, document_rows, stored_cards, cards_sound, zero_sound};
@@ -14,7 +16,7 @@ use definition::refusal::{STORE_TOO_SHORT, STORE_UNSOUND};
 pub mod counts;
 
 // The store is sound, or it is refused with this number.
-#[derive(Drop)]
+#[derive(Clone, Copy)]
 pub enum StoreCheck {
     Sound,
     Refused(u32),

@@ -1,4 +1,6 @@
 // Whether a lent document may be filed: the refusals 1 to 5, 23, 24 and 25.
+#![tactic(auto)]
+
 ghost use Rattle.std.specs.Prelude.{◌≡◌, ◌≤◌, ◌/◌, length};
 ghost use Rattle.definition.specs.Cards.{card_words};
 ghost use Rattle.definition.specs.Refusals.{text_capacity, card_capacity};
@@ -14,7 +16,7 @@ use definition::layout::{
 use definition::{Answer, refusal};
 
 // There is room for a document, or it is refused with this number.
-#[derive(Drop)]
+#[derive(Clone, Copy)]
 pub enum Capacity {
     Enough,
     Refused(u32),
@@ -37,6 +39,7 @@ pub fn check_capacity(text_used: u32, cards_used: u32, lent: &[u8], cards: &[u32
 }
 
 // 1 to 5, then 23, then 24 and 25, by the counts of a sound store.
+#[tactic(auto, using(crate::proofs::Enough::lent_full), unfolding(definition::specs::Store::document_count))]
 pub fn check_filing(words: &[u32], lent: &[u8], cards: &[u32]) -> CardCheck
     requires { (documents_at ≤ length words.now)
         × (text_used_of words.now ≤ text_capacity)

@@ -3,11 +3,10 @@
 use mathlib.Core.Path.{◌≡◌, refl, sym, ◌∙◌, ap}
 use mathlib.Core.List.{List, [], ◌∷◌}
 use mathlib.Core.Bool.{Bool, true, false, ◌||◌}
-use mathlib.Core.Option.{none}
 use Prim.Native.Nat.{ℕ, zero, suc, ◌+◌, ◌*◌, ◌≤◌, ◌<◌}
 use native.Mathlib.Omega.{arith}
 use lib.Dec.{ltb}
-use lib.ListN.{length, drop}
+use lib.ListN.{drop}
 use lib.Seq.{get_or-drop}
 use borrow.Author.Tests.{ltb-true, ltb-false}
 use Rattle.definition.specs.Lists.{chunks, All}
@@ -15,7 +14,7 @@ use Rattle.definition.specs.Names.{is_name, bytes_at}
 use Rattle.definition.specs.Cards.{Card, card_words, card_from, is_heading, is_part, is_unnamed}
 use Rattle.definition.specs.Headings.{headings_from, headings}
 use Rattle.definition.specs.Refusals.{text_capacity, document_capacity, card_capacity}
-use Rattle.definition.specs.Store.{documents_at, document_words, cards_at, words_capacity, document_count, text_used_of, cards_used_of}
+use Rattle.definition.specs.Store.{documents_at, document_words, cards_at, document_count, text_used_of, cards_used_of}
 use Rattle.definition.specs.Store.{DocumentRow, document_row_from, document_rows, stored_cards, documents_from, account_in, too_short, sound}
 use Rattle.definition.specs.LentRows.{held, name_numbered}
 use Rattle.definition.specs.Lookups.{Span, span, span_in}

@@ -1,4 +1,4 @@
--- Laws, Words and Group are for callers; the others serve them, Held the proofs over a reader.
+-- Laws, Words and Group are for callers; the others serve them.
 pub mod Lists
 pub mod Sound
 pub mod Fine
@@ -8,7 +8,4 @@ pub mod DocumentsLaws
 pub mod Spans
 pub mod Words
 pub mod Laws
-pub mod Held
-mod Takes
-mod Asks
 mod Cards

@@ -1,6 +1,8 @@
 // Reading a store's cards by positions. Nothing here trusts the words: what lies past the slices reads as 0 or as empty.
 // Names and the next heading are read through a CardReader, which callers need not hold: card_name and next_heading make it for them. A kind that is
 // asked of one card alone is in the words, and needs no reader.
+#![tactic(auto)]
+
 ghost use Rattle.std.specs.Prelude.{◌≡◌};
 ghost use Rattle.store_reader.specs.Stored.{card_name};
 

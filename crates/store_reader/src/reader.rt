@@ -7,7 +7,7 @@ ghost use Rattle.store_reader.specs.Stored.{next_heading};
 use crate::card_words::{card_after, card_is_part, name_of};
 
 // Holds the store's text and words, and a card's number as its place.
-#[derive(Drop)]
+#[derive(Clone, Copy)]
 pub struct CardReader<'a, 'b> {
     pub text: &'a [u8],
     pub words: &'b [u32],

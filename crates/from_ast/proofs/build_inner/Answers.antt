@@ -1,0 +1,7 @@
+-- A sound store has no more cards than the large arrays serve.
+use Rattle.std.proofs.Common.{arith}
+use Rattle.store_reader.proofs.Laws.{cards_fit_lem}
+use Rattle.from_ast.proofs.build_inner.Goals as goal
+
+pub size_for-requires : goal.size_for-requires
+size_for-requires c = omega (arith, cards_fit_lem _ _ c.requires.store_sound, c.cards_used.ensures)

@@ -1,0 +1,28 @@
+use mathlib.Core.Path.{refl, ◌∙◌}
+use Rattle.from_ast_index.proofs.Lists.{drop_next, drop_end}
+use Rattle.component.proofs.Sticky.{extending_capacity, extending_next, extending_end}
+use Rattle.component.proofs.Sticky.{extending}
+use Rattle.from_ast_rows.proofs.root_operations.schema_extensions.Goals as goal
+
+pub loop-i-init : goal.loop-i-init
+loop-i-init c = (refl, extending _ _ _ _ _ _ refl c.requires.3 c.requires.2)
+
+pub schema_extension-next-requires : goal.schema_extension-next-requires
+schema_extension-next-requires c =
+    let l = c.loop-i in
+    let h = c.loop-i-test.true in
+    (c.requires.0, c.requires.1.stored l.i h, l.invariant.1.begun, extending_capacity _ _ _ _ _ _ l.invariant.1 _ _ (drop_next _ l.i h))
+
+pub loop-i-preserved : goal.loop-i-preserved
+loop-i-preserved c =
+    let l = c.loop-i in
+    let r = c.schema_extension-next in (
+      r.auto.rows ∙ l.invariant.0,
+      extending_next _ _ _ _ _ _ l.invariant.1 _ _
+          (drop_next _ l.i c.loop-i-test.true) _ r.ensures,
+    )
+
+pub returns : goal.returns
+returns c =
+    let l = c.loop-i in
+    extending_end _ _ _ _ _ _ l.invariant.1 (drop_end _ l.i c.loop-i-test.false)

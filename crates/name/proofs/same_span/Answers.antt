@@ -1,0 +1,12 @@
+use mathlib.Core.Path.{◌∙◌}
+use Rattle.name.proofs.Laws.{same_told}
+use Rattle.name.proofs.same_span.Goals as goal
+
+pub returns-in-Equal : goal.returns-in-Equal
+returns-in-Equal c = same_told _ _ _ _ c.compare-order.ensures c.in-Equal.is ∙ rw (c.bytes_at.ensures.bytes, c.bytes_at-2.ensures.bytes)
+
+pub returns-in-Before : goal.returns-in-Before
+returns-in-Before c = same_told _ _ _ _ c.compare-order.ensures c.in-Before.is ∙ rw (c.bytes_at.ensures.bytes, c.bytes_at-2.ensures.bytes)
+
+pub returns-in-After : goal.returns-in-After
+returns-in-After c = same_told _ _ _ _ c.compare-order.ensures c.in-After.is ∙ rw (c.bytes_at.ensures.bytes, c.bytes_at-2.ensures.bytes)

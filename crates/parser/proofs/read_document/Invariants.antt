@@ -1,0 +1,15 @@
+use mathlib.Core.Path.{◌≡◌}
+use mathlib.Core.List.{[], ◌∷◌}
+use Prim.Native.Nat.{◌-◌}
+use lib.ListN.{length}
+use Rattle.definition.specs.Grammar.{part, Definition, Definition*}
+use Rattle.parser_lexer.specs.Ahead.{Lies}
+use Rattle.parser.specs.Headings.{Definitions}
+use Rattle.parser.proofs.read_document.Given as goal
+
+abbrev pub invariant-loop-k : goal.invariant-loop-k
+invariant-loop-k l = Definitions l.text l.initial.cards (part Definition ∷ part Definition* ∷ []) l.c l.cards ×
+    Lies (length l.text) l.c × (length l.cards ≡ length l.initial.cards)
+
+abbrev pub decreases-loop-k : goal.decreases-loop-k
+decreases-loop-k l = length l.text - l.c.last
