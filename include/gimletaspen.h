@@ -1,7 +1,7 @@
 /* Gimletaspen for C: merges a collection of GraphQL type definitions.
  *
- * Link target/staticlib/libgimletaspen.a (`rt staticlib gimletaspen` proves the library and writes it; x86-64). docs/FORMAT.md is the reference for
- * everything that is lent and written, with tables; examples/c/example.c uses every call.
+ * Link crates/gimletaspen/out/libgimletaspen.a (`rt lib` in crates/gimletaspen proves the library and writes it; x86-64). docs/FORMAT.md is the reference
+ * for everything that is lent and written, with tables; examples/c/example.c uses every call.
  *
  * Every slice is a pointer and then its length in elements. A pointer is never kept after the call. No slice that is written may overlap another of the
  * same call. Pointers must be valid and, for words, aligned, even where the length is 0; that is all that is asked: whatever the contents and the lengths,

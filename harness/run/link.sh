@@ -3,7 +3,7 @@
 # harness/target/parse, which reads texts.
 set -eu
 cd "$(dirname "$0")/../.."
-rt staticlib gimletaspen >&2
+(cd crates/gimletaspen && rt lib) >&2
 mkdir -p harness/target
-${CC:-cc} -O2 -Wall -Wextra -D_DEFAULT_SOURCE -Iinclude -o harness/target/library harness/library.c target/staticlib/libgimletaspen.a
-${CC:-cc} -O2 -Wall -Wextra -D_DEFAULT_SOURCE -Iinclude -o harness/target/parse harness/parse.c target/staticlib/libgimletaspen.a
+${CC:-cc} -O2 -Wall -Wextra -D_DEFAULT_SOURCE -Iinclude -o harness/target/library harness/library.c crates/gimletaspen/out/libgimletaspen.a
+${CC:-cc} -O2 -Wall -Wextra -D_DEFAULT_SOURCE -Iinclude -o harness/target/parse harness/parse.c crates/gimletaspen/out/libgimletaspen.a
