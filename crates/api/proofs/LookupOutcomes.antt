@@ -22,6 +22,8 @@ use Rattle.definition.specs.Outcomes.{check_of, check_rows, no_root, root_bytes,
 use Rattle.definition.specs.Outcomes.{subtype_answer, is_subtype, unlisted, listed_in, is_short, unless_refused, origins_of, extensions_in}
 use Rattle.definition.specs.Outcomes.{implementers_of, iter_origins, extensions, implementers_map}
 use Rattle.api.specs.LookupRefusal.{lookup_refusal}
+use Rattle.std.specs.Prelude.{Ok}
+use Rattle.definition.specs.Numbers.{subtype_lookup}
 use Rattle.api.specs.Promised.{SameField, SameSubtype}
 
 -- ---- Each lookup's outcome.
@@ -129,3 +131,7 @@ finds_field r outcome e = (e, (ap field_refusal e, ap field_number e, ap field_m
 
 pub tells_subtype : (r outcome : SubtypeLookup) → r ≡ outcome → (r ≡ outcome) × SameSubtype r outcome
 tells_subtype r outcome e = (e, (ap subtype_refusal e, ap subtype_number e))
+
+pub subtype_told : (b : Bool) → subtype_lookup (Ok b) ≡ choose b Subtype NotSubtype
+subtype_told true = refl
+subtype_told false = refl

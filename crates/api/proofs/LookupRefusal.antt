@@ -11,6 +11,12 @@ use Rattle.definition.specs.Lists.{choose, all}
 use Rattle.definition.specs.Headings.{Document}
 use Rattle.definition.specs.Store.{account_in, too_short, sound, store_refusal}
 use Rattle.definition.specs.LentRows.{held, lent_rows, rows_refusal, row_clauses, passes}
+use Rattle.std.specs.Prelude.{Result, Ok, Err}
+use Rattle.definition.specs.declared.refusal.Refusal.{Refusal}
+use Rattle.definition.specs.declared.refusal.Refusal.TheVariants as R
+use Rattle.definition.specs.Numbers.{refusal_number}
+use Rattle.schema_rows.specs.Walk.{told_number}
+use Rattle.store_check.specs.Check.{Checked}
 use Rattle.store_check.proofs.Sound.{accepted}
 use Rattle.api.specs.LookupRefusal.{lookup_refusal}
 
@@ -40,26 +46,36 @@ module _ (text words rows : List ℕ) where
 
 -- ---- The number, return by return.
 
--- 26 is the only number that lent rows are refused with.
-pub rows_number : (ds : List Document) (ws : List ℕ) → eqb (rows_refusal ds ws) 0 ≡ false → rows_refusal ds ws ≡ 26
-unfolding rows_refusal
-rows_number ds ws e = go (eqb (length ws % 3) 0) (all (passes (held ds) (lent_rows ws)) row_clauses) e
-  where
-    go : (b c : Bool) → eqb (choose b (choose c 0 26) 26) 0 ≡ false → ◌≡◌ {A = ℕ} (choose b (choose c 0 26) 26) 26
-    go true true e = absurd (let y : ◌≡◌ {A = ℕ} 0 1 = cc in omega arith)
-    go true false e = refl
-    go false c e = refl
+-- No refusal has the number 0, which stands for none.
+pub numbered : (r : Refusal) → refusal_number r ≡ 0 → ⊥
+numbered R.CardsNotWhole e = omega arith
+numbered R.UnknownKind e = omega arith
+numbered R.ItemMisplaced e = omega arith
+numbered R.NameMisplaced e = omega arith
+numbered R.PartMisplaced e = omega arith
+numbered R.BuiltInsFaulty e = omega arith
+numbered R.SliceTooShort e = omega arith
+numbered R.StoreTooShort e = omega arith
+numbered R.StoreUnsound e = omega arith
+numbered R.DocumentsFull e = omega arith
+numbered R.TextFull e = omega arith
+numbered R.CardsFull e = omega arith
+numbered R.RowsUnsound e = omega arith
+numbered R.NamePresence e = omega arith
+numbered R.NameBytes e = omega arith
+numbered R.NotInGrammar e = omega arith
+numbered R.NestedTooDeep e = omega arith
+numbered R.CardSliceTooShort e = omega arith
+
+pub store_number : (r : Result Unit Refusal) (text words : List ℕ) → Checked r text words → told_number r ≡ store_refusal text words
+store_number (Ok u) text words c = c.number
+store_number (Err e) text words c = c.number
 
 module _ (text words rows : List ℕ) where
-  pub store_refused : (n : ℕ) → n ≡ store_refusal text words → (n ≡ 0 → ⊥) → n ≡ lookup_refusal text words rows
+  pub store_refused : (r : Refusal) → refusal_number r ≡ store_refusal text words → refusal_number r ≡ lookup_refusal text words rows
   unfolding lookup_refusal
-  store_refused n e z = rw (← e, ne_eqb n 0 z)
+  store_refused r e = rw (← e, ne_eqb (refusal_number r) 0 (numbered r))
 
-  module _ (s : store_refusal text words ≡ 0) where
-    pub rows_refused : eqb (rows_refusal (account_in text words).documents rows) 0 ≡ false → 26 ≡ lookup_refusal text words rows
-    unfolding lookup_refusal
-    rows_refused e = rw (s, rows_number (account_in text words).documents rows e)
-
-    pub none_refused : eqb (rows_refusal (account_in text words).documents rows) 0 ≡ true → 0 ≡ lookup_refusal text words rows
-    unfolding lookup_refusal
-    none_refused e = rw (s, eqb-true (rows_refusal (account_in text words).documents rows) 0 e)
+  pub rows_told : store_refusal text words ≡ 0 → rows_refusal (account_in text words).documents rows ≡ lookup_refusal text words rows
+  unfolding lookup_refusal
+  rows_told s = rw s

@@ -1,8 +1,10 @@
 // The numbers that 01 gives to an answer, for the entries of C and for the lines of calls.
 ghost use Rattle.std.specs.Prelude.{◌≡◌};
 ghost use Rattle.definition.specs.Answers.{meta_number, explicit_card, field_refusal, field_number, field_meta, field_card, subtype_refusal, subtype_number};
+ghost use Rattle.definition.specs.Numbers.{field_lookup, subtype_lookup};
 
-use definition::{ABSENT, FieldFound, FieldLookup, SubtypeLookup};
+use definition::refusal::Refusal;
+use definition::{ABSENT, FieldFound, FieldLookupError};
 
 fn meta_number(found: FieldFound) -> u32
     ensures { result ≡ meta_number found }
@@ -20,72 +22,63 @@ fn explicit_card(found: FieldFound) -> u32
 {
     match found {
         FieldFound::Explicit(card) => card,
-        FieldFound::Typename => ABSENT,
-        FieldFound::Schema => ABSENT,
-        FieldFound::Type => ABSENT,
+        _ => ABSENT,
     }
 }
 
-pub fn field_refusal(answer: FieldLookup) -> u32
-    ensures { result ≡ field_refusal answer }
+pub fn field_refusal(answer: Result<FieldFound, FieldLookupError>) -> u32
+    ensures { result ≡ field_refusal (field_lookup answer) }
 {
     match answer {
-        FieldLookup::Found(_) => 0,
-        FieldLookup::NoSuchType => 0,
-        FieldLookup::NoSuchField(_) => 0,
-        FieldLookup::Refused(number) => number,
+        Err(FieldLookupError::Refused(refusal)) => refusal.number(),
+        _ => 0,
     }
 }
 
-pub fn field_number(answer: FieldLookup) -> u32
-    ensures { result ≡ field_number answer }
+pub fn field_number(answer: Result<FieldFound, FieldLookupError>) -> u32
+    ensures { result ≡ field_number (field_lookup answer) }
 {
     match answer {
-        FieldLookup::Found(_) => 1,
-        FieldLookup::NoSuchType => 2,
-        FieldLookup::NoSuchField(_) => 3,
-        FieldLookup::Refused(_) => 0,
+        Err(FieldLookupError::Refused(_)) => 0,
+        Ok(_) => 1,
+        Err(FieldLookupError::NoSuchType) => 2,
+        Err(FieldLookupError::NoSuchField(_)) => 3,
     }
 }
 
-pub fn field_meta(answer: FieldLookup) -> u32
-    ensures { result ≡ field_meta answer }
+pub fn field_meta(answer: Result<FieldFound, FieldLookupError>) -> u32
+    ensures { result ≡ field_meta (field_lookup answer) }
 {
     match answer {
-        FieldLookup::Found(found) => meta_number(found),
-        FieldLookup::NoSuchType => ABSENT,
-        FieldLookup::NoSuchField(_) => ABSENT,
-        FieldLookup::Refused(_) => ABSENT,
+        Ok(found) => meta_number(found),
+        Err(_) => ABSENT,
     }
 }
 
-pub fn field_card(answer: FieldLookup) -> u32
-    ensures { result ≡ field_card answer }
+pub fn field_card(answer: Result<FieldFound, FieldLookupError>) -> u32
+    ensures { result ≡ field_card (field_lookup answer) }
 {
     match answer {
-        FieldLookup::Found(found) => explicit_card(found),
-        FieldLookup::NoSuchType => ABSENT,
-        FieldLookup::NoSuchField(card) => card,
-        FieldLookup::Refused(_) => ABSENT,
+        Ok(found) => explicit_card(found),
+        Err(FieldLookupError::NoSuchField(card)) => card,
+        Err(_) => ABSENT,
     }
 }
 
-pub fn subtype_refusal(answer: SubtypeLookup) -> u32
-    ensures { result ≡ subtype_refusal answer }
+pub fn subtype_refusal(answer: Result<bool, Refusal>) -> u32
+    ensures { result ≡ subtype_refusal (subtype_lookup answer) }
 {
     match answer {
-        SubtypeLookup::Subtype => 0,
-        SubtypeLookup::NotSubtype => 0,
-        SubtypeLookup::Refused(number) => number,
+        Ok(_) => 0,
+        Err(refusal) => refusal.number(),
     }
 }
 
-pub fn subtype_number(answer: SubtypeLookup) -> u32
-    ensures { result ≡ subtype_number answer }
+pub fn subtype_number(answer: Result<bool, Refusal>) -> u32
+    ensures { result ≡ subtype_number (subtype_lookup answer) }
 {
     match answer {
-        SubtypeLookup::Subtype => 1,
-        SubtypeLookup::NotSubtype => 0,
-        SubtypeLookup::Refused(_) => 0,
+        Ok(true) => 1,
+        _ => 0,
     }
 }

@@ -2,66 +2,80 @@
 // what the crates below do; none asks anything of its caller.
 #![tactic(auto)]
 
+ghost use Rattle.definition.specs.Numbers.{done_answer, count_answer, drawing_answer, field_lookup, subtype_lookup};
 ghost use Rattle.api.specs.Promised.{Opens, Files, Adopts, Ignores, Builds};
 ghost use Rattle.api.specs.Promised.{ChecksRows, part_in, LiesIn, NamesRoot, FindsField, TellsSubtype, ListsOrigins, ListsExtensions, MapsImplementers};
 ghost use Rattle.api.specs.Promised.{Parses};
 
 use definition::layout::{GROUPS_CAPACITY, ORIGINS_CAPACITY};
-use definition::{Answer, Drawing, FieldLookup, OperationType, SubtypeLookup};
+use definition::refusal::{Refusal, Refused};
+use definition::{Drawn, FieldFound, FieldLookupError, OperationType};
+use refusals::{checked, checked_list};
 
 pub mod answers;
 pub mod refusals;
 
 // Files document 0 with both switches off, over whatever the store held.
-pub fn open(text: &mut [u8], words: &mut [u32], lent: &[u8], cards: &[u32]) -> Answer
-    ensures { Opens text.old words.old lent.now cards.now result text.new
+pub fn open(text: &mut [u8], words: &mut [u32], lent: &[u8], cards: &[u32]) -> Result<(), Refused>
+    ensures { Opens text.old words.old lent.now cards.now (done_answer result) text.new
         words.new }
 {
     store::open(text, words, lent, cards)
 }
 
 // Files a document after those held.
-pub fn add_ast(text: &mut [u8], words: &mut [u32], lent: &[u8], cards: &[u32]) -> Answer
-    ensures { Files text.old words.old lent.now cards.now result text.new
+pub fn add_ast(
+    text: &mut [u8],
+    words: &mut [u32],
+    lent: &[u8],
+    cards: &[u32],
+) -> Result<(), Refused>
+    ensures { Files text.old words.old lent.now cards.now (done_answer result) text.new
         words.new }
 {
     store::add_ast(text, words, lent, cards)
 }
 
 // Extensions without a definition are adopted from now on.
-pub fn adopt_orphan_extensions(text: &[u8], words: &mut [u32]) -> Answer
-    ensures { Adopts text.now words.old result text.now words.new }
+pub fn adopt_orphan_extensions(text: &[u8], words: &mut [u32]) -> Result<(), Refused>
+    ensures { Adopts text.now words.old (done_answer result) text.now words.new }
 {
     store::adopt_orphan_extensions(text, words)
 }
 
 // Documents filed from now on may define the types of document 0 again.
-pub fn ignore_builtin_redefinitions(text: &[u8], words: &mut [u32]) -> Answer
-    ensures { Ignores text.now words.old result text.now words.new }
+pub fn ignore_builtin_redefinitions(text: &[u8], words: &mut [u32]) -> Result<(), Refused>
+    ensures { Ignores text.now words.old (done_answer result) text.now words.new }
 {
     store::ignore_builtin_redefinitions(text, words)
 }
 
 // Draws the store's documents: rows and errors, with their counts and tallies.
-pub fn build(text: &[u8], words: &[u32], rows: &mut [u32], errors: &mut [u32]) -> Drawing
-    ensures { Builds text.now words.now rows.old errors.old result rows.new
+pub fn build(
+    text: &[u8],
+    words: &[u32],
+    rows: &mut [u32],
+    errors: &mut [u32],
+) -> Result<Drawn, Refusal>
+    ensures { Builds text.now words.now rows.old errors.old (drawing_answer result) rows.new
         errors.new }
 {
-    let number = crate::refusals::build_refusal(text, words, rows.len(), errors.len());
-    if number != 0 {
-        return crate::refusals::refused_drawing(number);
-    }
-    from_ast::build_inner(text, words, rows, errors)
+    crate::refusals::check_build(text, words, rows.len(), errors.len())?;
+    let drawing = from_ast::build_inner(text, words, rows, errors);
+    Ok(Drawn {
+        rows: drawing.rows,
+        reading_errors: drawing.reading_errors,
+        drawing_errors: drawing.drawing_errors,
+        tallies: drawing.tallies,
+    })
 }
 
 // What a lookup over this store and these rows is refused with, which tells a refused `root_operation` from one that found no root.
-pub fn check_rows(text: &[u8], words: &[u32], rows: &[u32]) -> Answer
-    ensures { ChecksRows text.now words.now rows.now result }
+pub fn check_rows(text: &[u8], words: &[u32], rows: &[u32]) -> Result<(), Refused>
+    ensures { ChecksRows text.now words.now rows.now (done_answer result) }
 {
-    Answer {
-        number: crate::refusals::lookup_refusal(text, words, rows),
-        card: 0,
-    }
+    checked(text, words, rows)?;
+    Ok(())
 }
 
 // The name of a root operation's type, as a part of the store's text; empty where there is none or the call is refused.
@@ -74,10 +88,10 @@ pub fn root_operation<'a>(
     ensures { NamesRoot text.now words.now rows.now op (part_in text.entry result)
         × LiesIn text.entry result }
 {
-    if crate::refusals::lookup_refusal(text, words, rows) != 0 {
-        return &text[0..0];
+    match checked(text, words, rows) {
+        Ok(schema) => schema::roots::root_operation(schema, op),
+        Err(_) => &text[0..0],
     }
-    schema::roots::root_operation(text, words, rows, op)
 }
 
 // The field of a type, by both names.
@@ -87,15 +101,11 @@ pub fn type_field(
     rows: &[u32],
     type_name: &[u8],
     field: &[u8],
-) -> FieldLookup
+) -> Result<FieldFound, FieldLookupError>
     ensures { FindsField text.now words.now rows.now type_name.now
-        field.now result }
+        field.now (field_lookup result) }
 {
-    let number = crate::refusals::lookup_refusal(text, words, rows);
-    if number != 0 {
-        return FieldLookup::Refused(number);
-    }
-    schema::lookup::type_field(text, words, rows, type_name, field)
+    schema::lookup::type_field(checked(text, words, rows)?, type_name, field)
 }
 
 // Whether the type of the other name implements the interface or is a member of the union of the general name.
@@ -105,68 +115,59 @@ pub fn is_subtype(
     rows: &[u32],
     general: &[u8],
     other: &[u8],
-) -> SubtypeLookup
+) -> Result<bool, Refusal>
     ensures { TellsSubtype text.now words.now rows.now general.now
-        other.now result }
+        other.now (subtype_lookup result) }
 {
-    let number = crate::refusals::lookup_refusal(text, words, rows);
-    if number != 0 {
-        return SubtypeLookup::Refused(number);
-    }
-    schema::lookup::is_subtype(text, words, rows, general, other)
+    let schema = checked(text, words, rows)?;
+    Ok(schema::lookup::is_subtype(schema, general, other))
 }
 
 // Writes the origin of each part of the schema definition.
-pub fn iter_origins(text: &[u8], words: &[u32], rows: &[u32], list: &mut [u32]) -> Answer
-    ensures { ListsOrigins text.now words.now rows.now list.old result
+pub fn iter_origins(
+    text: &[u8],
+    words: &[u32],
+    rows: &[u32],
+    list: &mut [u32],
+) -> Result<usize, Refused>
+    ensures { ListsOrigins text.now words.now rows.now list.old (count_answer result)
         list.new }
 {
-    let number = crate::refusals::list_refusal(text, words, rows, ORIGINS_CAPACITY, list.len());
-    if number != 0 {
-        return Answer { number, card: 0 };
-    }
-    let count = schema::origins::iter_origins(rows, list);
-    Answer {
-        number: 0,
-        card: count,
-    }
+    let schema = checked_list(text, words, rows, ORIGINS_CAPACITY, list.len())?;
+    Ok(schema::origins::iter_origins(schema, list))
 }
 
 // Writes the extensions that added to the schema definition, each once.
-pub fn extensions(text: &[u8], words: &[u32], rows: &[u32], list: &mut [u32]) -> Answer
-    ensures { ListsExtensions text.now words.now rows.now list.old result
+pub fn extensions(
+    text: &[u8],
+    words: &[u32],
+    rows: &[u32],
+    list: &mut [u32],
+) -> Result<usize, Refused>
+    ensures { ListsExtensions text.now words.now rows.now list.old (count_answer result)
         list.new }
 {
-    let number = crate::refusals::list_refusal(text, words, rows, ORIGINS_CAPACITY, list.len());
-    if number != 0 {
-        return Answer { number, card: 0 };
-    }
-    let count = schema::origins::extensions(rows, list);
-    Answer {
-        number: 0,
-        card: count,
-    }
+    let schema = checked_list(text, words, rows, ORIGINS_CAPACITY, list.len())?;
+    Ok(schema::origins::extensions(schema, list))
 }
 
 // The types that implement each interface, group by group. How many groups there are is answered.
-pub fn implementers_map(text: &[u8], words: &[u32], rows: &[u32], list: &mut [u32]) -> Answer
-    ensures { MapsImplementers text.now words.now rows.now list.old result
+pub fn implementers_map(
+    text: &[u8],
+    words: &[u32],
+    rows: &[u32],
+    list: &mut [u32],
+) -> Result<usize, Refused>
+    ensures { MapsImplementers text.now words.now rows.now list.old (count_answer result)
         list.new }
 {
-    let number = crate::refusals::list_refusal(text, words, rows, GROUPS_CAPACITY, list.len());
-    if number != 0 {
-        return Answer { number, card: 0 };
-    }
-    let groups = schema::implementers::implementers_map(text, words, rows, list);
-    Answer {
-        number: 0,
-        card: groups,
-    }
+    let schema = checked_list(text, words, rows, GROUPS_CAPACITY, list.len())?;
+    Ok(schema::implementers::implementers_map(schema, list))
 }
 
 // Reads a text of the type language into cards, as they are filed with it. No store is needed.
-pub fn parse(text: &[u8], cards: &mut [u32]) -> Answer
-    ensures { Parses text.now cards.old result cards.new }
+pub fn parse(text: &[u8], cards: &mut [u32]) -> Result<usize, Refused>
+    ensures { Parses text.now cards.old (count_answer result) cards.new }
 {
     parser::parse(text, cards)
 }

@@ -1,83 +1,61 @@
-// What the entries refuse before they draw or look up: each refusal's number in the fixed order, 0 where nothing is refused.
-ghost use Rattle.std.specs.Prelude.{◌≡◌, []};
-ghost use Rattle.definition.specs.Store.{store_refusal};
-ghost use Rattle.definition.specs.Outcomes.{unbuilt};
+// What the entries refuse before they draw or look up, in the fixed order.
+ghost use Rattle.std.specs.Prelude.{◌≡◌, MatchResult};
+ghost use Rattle.definition.specs.Numbers.{refusal_number};
+ghost use Rattle.schema_rows.specs.Walk.{told_number};
 ghost use Rattle.api.specs.LookupRefusal.{lookup_refusal, list_refusal};
 ghost use Rattle.api.specs.BuildRefusal.{build_refusal};
 
-use definition::build_error::ERROR_NUMBERS;
 use definition::layout::{ERRORS_CAPACITY, ROWS_CAPACITY};
-use definition::{Drawing, Tallies, refusal};
-use store_check::StoreCheck;
+use definition::refusal::Refusal;
+use schema_rows::Schema;
 
-// 21 and 22, which every call but opening asks first. 0 where neither holds.
-fn store_refusal(text: &[u8], words: &[u32]) -> u32
-    ensures { result ≡ store_refusal text.now words.now }
+// 21 and 22, and then 7 where a slice to be drawn into is too short.
+#[tactic(auto, using(crate::proofs::LookupRefusal::store_number, crate::proofs::LookupRefusal::numbered), unfolding(crate::specs::BuildRefusal::build_refusal, crate::specs::BuildRefusal::capacity_refusal))]
+pub fn check_build(text: &[u8], words: &[u32], rows: usize, errors: usize) -> Result<(), Refusal>
+    ensures { told_number result ≡ build_refusal text.now words.now rows errors }
 {
-    let StoreCheck::Refused(number) = store_check::check_store(text, words) else {
-        return 0;
-    };
-    number
+    store_check::check_store(text, words)?;
+    if rows < ROWS_CAPACITY || errors < ERRORS_CAPACITY {
+        return Err(Refusal::SliceTooShort);
+    }
+    Ok(())
 }
 
-// 21 and 22, and then 7 where a slice to be drawn into is too short. 0 where none holds.
-pub fn build_refusal(text: &[u8], words: &[u32], rows: usize, errors: usize) -> u32
-    ensures { result ≡ build_refusal text.now words.now rows errors }
+// 21, 22 and 26: what every lookup asks first.
+#[tactic(auto, using(crate::proofs::LookupRefusal::store_number, crate::proofs::LookupRefusal::store_refused, crate::proofs::LookupRefusal::rows_told, store_check::proofs::Sound::accepted))]
+pub fn checked<'text, 'lent>(
+    text: &'text [u8],
+    words: &'lent [u32],
+    rows: &'lent [u32],
+) -> Result<Schema<'text, 'lent>, Refusal>
+    ensures { MatchResult result
+        (λ schema. (lookup_refusal text.now words.now rows.now ≡ 0)
+        × (schema ≡ record { text = text.entry; words = words.entry; rows = rows.entry }))
+        (λ refusal. refusal_number refusal ≡ lookup_refusal text.now words.now rows.now) }
 {
-    let unsound = store_refusal(text, words);
-    if unsound != 0 {
-        return unsound;
-    }
-    if rows < ROWS_CAPACITY {
-        return refusal::SLICE_TOO_SHORT;
-    }
-    if errors < ERRORS_CAPACITY {
-        return refusal::SLICE_TOO_SHORT;
-    }
-    0
-}
-
-// The answer of a drawing that is refused: all counts and tallies are 0.
-pub fn refused_drawing(number: u32) -> Drawing
-    ensures { result ≡ (unbuilt [] [] number).drawing }
-{
-    let tallies = Tallies {
-        counts: [0u32; ERROR_NUMBERS],
-        total: 0,
-    };
-    Drawing {
-        number,
-        rows: 0,
-        reading_errors: 0,
-        drawing_errors: 0,
-        tallies,
-    }
-}
-
-// 21, 22 and 26: what every lookup asks first. 0 where none holds.
-pub fn lookup_refusal(text: &[u8], words: &[u32], rows: &[u32]) -> u32
-    ensures { result ≡ lookup_refusal text.now words.now rows.now }
-{
-    let number = store_refusal(text, words);
-    if number != 0 {
-        return number;
-    }
-    if !schema_rows::check_lent_rows(text, words, rows) {
-        return refusal::ROWS_UNSOUND;
-    }
-    0
+    let schema = Schema { text, words, rows };
+    store_check::check_store(schema.text, schema.words)?;
+    schema.check_rows()?;
+    Ok(schema)
 }
 
 // What a lookup that fills a slice asks first: the same, and then 7, that the slice has the room.
-pub fn list_refusal(text: &[u8], words: &[u32], rows: &[u32], capacity: usize, len: usize) -> u32
-    ensures { result ≡ list_refusal text.now words.now rows.now capacity len }
+#[tactic(auto, using(crate::proofs::LookupRefusal::numbered), unfolding(crate::specs::LookupRefusal::list_refusal))]
+pub fn checked_list<'text, 'lent>(
+    text: &'text [u8],
+    words: &'lent [u32],
+    rows: &'lent [u32],
+    capacity: usize,
+    len: usize,
+) -> Result<Schema<'text, 'lent>, Refusal>
+    ensures { MatchResult result
+        (λ schema. (list_refusal text.now words.now rows.now capacity len ≡ 0)
+        × (schema ≡ record { text = text.entry; words = words.entry; rows = rows.entry }))
+        (λ refusal. refusal_number refusal ≡ list_refusal text.now words.now rows.now capacity len) }
 {
-    let earlier = lookup_refusal(text, words, rows);
-    if earlier != 0 {
-        return earlier;
-    }
+    let schema = checked(text, words, rows)?;
     if len < capacity {
-        return refusal::SLICE_TOO_SHORT;
+        return Err(Refusal::SliceTooShort);
     }
-    0
+    Ok(schema)
 }

@@ -1,2 +1,1 @@
-mod Places
 pub mod Walk

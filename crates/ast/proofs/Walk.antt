@@ -1,28 +1,27 @@
 -- The card of a number, and the cards of a document one after the other.
 use mathlib.Core.Path.{◌≡◌}
 use mathlib.Core.List.{List, [], ◌∷◌}
-use Prim.Native.Nat.{ℕ, suc, ◌+◌, ◌-◌, ◌*◌, ◌/◌, ◌<◌, ◌≤◌}
-use native.Mathlib.Nat.{add-zero, sub-zero}
+use Prim.Native.Nat.{ℕ, min, suc, ◌+◌, ◌-◌, ◌*◌, ◌<◌, ◌≤◌}
+use native.Mathlib.Nat.{sub-zero}
 use native.Mathlib.Omega.{arith}
-use lib.ListN.{length, get_or, take, drop, drop_of_length-le}
-use lib.Seq.{drop-drop, get_or-drop, get_or-take}
+use lib.ListN.{length, get_or, take, drop, length-drop}
+use lib.Seq.{drop-drop, get_or-take, take_all}
+use Rattle.std.proofs.lemmas.List.{drop_min}
 use Rattle.definition.specs.Lists.{chunks}
 use Rattle.definition.specs.Cards.{Card, card_words, card_from, cards_from}
 use Rattle.ast.specs.Cards.{kind_word, item_at_word, item_len_word, name_at_word, name_len_word, cards_between}
 
 -- ---- The card of a number.
 
-pub card_missing : (ws : List ℕ) (i : ℕ) → length ws / card_words < i
-    → record { kind = 0; item_at = 0; item_len = 0; name_at = 0; name_len = 0 } ≡ card_from (drop (card_words * i) ws)
+pub card_read : (ws : List ℕ) (n from : ℕ) → from ≡ min n (length ws) → (k a b c d : ℕ) → (let rest : List ℕ = take (length ws - from) (drop from ws) in
+    k ≡ get_or rest kind_word 0 → a ≡ get_or rest item_at_word 0 → b ≡ get_or rest item_len_word 0
+    → c ≡ get_or rest name_at_word 0 → d ≡ get_or rest name_len_word 0
+    → record { kind = k; item_at = a; item_len = b; name_at = c; name_len = d } ≡ card_from (drop n ws))
 unfolding card_from
-card_missing ws i h = let l : length ws ≤ card_words * i = omega arith in rw (drop_of_length-le ws l)
-
-pub card_words_lem : (ws : List ℕ) (n k a b c d : ℕ)
-    → k ≡ get_or ws (n + kind_word) 0 → a ≡ get_or ws (n + item_at_word) 0 → b ≡ get_or ws (n + item_len_word) 0
-    → c ≡ get_or ws (n + name_at_word) 0 → d ≡ get_or ws (n + name_len_word) 0
-    → record { kind = k; item_at = a; item_len = b; name_at = c; name_len = d } ≡ card_from (drop n ws)
-unfolding card_from
-card_words_lem ws n k a b c d ek ea eb ec ed = simp (ek, ea, eb, ec, ed, get_or-drop, add-zero)
+card_read ws n from h k a b c d ek ea eb ec ed =
+    let all : take (length ws - from) (drop from ws) ≡ drop from ws = take_all (length ws - from) (drop from ws) (simp length-drop (omega arith)) in
+    let clipped : drop from ws ≡ drop n ws = rw h (drop_min n ws) in
+    rw (ek, ea, eb, ec, ed, all, clipped)
 
 -- A card is in the first words.
 pub card_front : (n : ℕ) (ws : List ℕ) → card_words ≤ n → card_from (take n ws) ≡ card_from ws

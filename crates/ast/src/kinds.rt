@@ -1,4 +1,5 @@
 // The kinds of cards and where parts may stand. Headings follow `ast::Definition`, in its order.
+// Stays: a kind is a word of a lent card, which nothing has vouched for where it is read, and each function answers for every word; an enum would have one more case for all other words, and a conversion before each call.
 ghost use Rattle.std.specs.Prelude.{◌≡◌, [], ◌∷◌, ◌&&◌, ◌+◌, ◌≤◌, eqb, leb, length};
 ghost use Rattle.definition.specs.Cards.{is_heading, is_part, is_root, is_type, is_extension, definition_of, part_order, place_in};
 
@@ -57,58 +58,45 @@ pub const SUBSCRIPTION: u32 = 28;
 // How much more an extension's kind is than its definition's.
 const EXTENSION_STEP: u32 = 7;
 
+#[tactic(auto, unfolding(definition::specs::Cards::is_heading))]
 pub fn is_heading(kind: u32) -> bool
     ensures { result ≡ is_heading kind }
 {
-    if kind < OPERATION_DEFINITION {
-        return false;
-    }
-    kind <= INPUT_OBJECT_TYPE_EXTENSION
+    matches!(kind, OPERATION_DEFINITION..=INPUT_OBJECT_TYPE_EXTENSION)
 }
 
+#[tactic(auto, unfolding(definition::specs::Cards::is_part))]
 pub fn is_part(kind: u32) -> bool
     ensures { result ≡ is_part kind }
 {
-    if kind < DIRECTIVE {
-        return false;
-    }
-    kind <= SUBSCRIPTION
+    matches!(kind, DIRECTIVE..=SUBSCRIPTION)
 }
 
+#[tactic(auto, unfolding(definition::specs::Cards::is_root))]
 pub fn is_root(kind: u32) -> bool
     ensures { result ≡ is_root kind }
 {
-    if kind < QUERY {
-        return false;
-    }
-    kind <= SUBSCRIPTION
+    matches!(kind, QUERY..=SUBSCRIPTION)
 }
 
+#[tactic(auto, unfolding(definition::specs::Cards::is_type))]
 pub fn is_type(kind: u32) -> bool
     ensures { result ≡ is_type kind }
 {
-    if kind < SCALAR_TYPE_DEFINITION {
-        return false;
-    }
-    kind <= INPUT_OBJECT_TYPE_DEFINITION
+    matches!(kind, SCALAR_TYPE_DEFINITION..=INPUT_OBJECT_TYPE_DEFINITION)
 }
 
+#[tactic(auto, unfolding(definition::specs::Cards::is_extension))]
 pub fn is_extension(kind: u32) -> bool
     ensures { result ≡ is_extension kind }
 {
-    if kind < SCHEMA_EXTENSION {
-        return false;
-    }
-    kind <= INPUT_OBJECT_TYPE_EXTENSION
+    matches!(kind, SCHEMA_EXTENSION..=INPUT_OBJECT_TYPE_EXTENSION)
 }
 
 pub fn is_type_extension(kind: u32) -> bool
     ensures { result ≡ (leb 12 kind && leb kind 17) }
 {
-    if kind < SCALAR_TYPE_EXTENSION {
-        return false;
-    }
-    kind <= INPUT_OBJECT_TYPE_EXTENSION
+    matches!(kind, SCALAR_TYPE_EXTENSION..=INPUT_OBJECT_TYPE_EXTENSION)
 }
 
 // The kind of the extensions of what a definition of the kind defines.
@@ -123,128 +111,84 @@ pub fn extension_of(kind: u32) -> u32
 pub fn is_extension_of(kind: u32, definition: u32) -> bool
     ensures { result ≡ eqb kind (definition + 7) }
 {
-    if kind < EXTENSION_STEP {
-        return false;
-    }
-    if kind - EXTENSION_STEP == definition {
-        return true;
-    }
-    false
+    kind.checked_sub(EXTENSION_STEP) == Some(definition)
 }
 
 // The definition's kind of what a heading defines or extends; 0 for operations, fragments and directives.
+#[tactic(auto, unfolding(definition::specs::Cards::definition_of))]
 pub fn definition_of(kind: u32) -> u32
     ensures { result ≡ definition_of kind }
 {
-    if SCHEMA_EXTENSION <= kind {
-        return kind - EXTENSION_STEP;
+    match kind {
+        SCHEMA_EXTENSION.. => kind - EXTENSION_STEP,
+        SCHEMA_DEFINITION.. => kind,
+        _ => 0,
     }
-    if kind < SCHEMA_DEFINITION {
-        return 0;
-    }
-    kind
 }
 
 // The place of a part under a schema: directive uses, then roots.
+#[tactic(auto, unfolding(definition::specs::Cards::part_order, definition::specs::Cards::place_in, definition::specs::Lists::any))]
 fn place_in_schema(part: u32) -> u32
     ensures { result ≡ place_in (part_order 4) part }
 {
-    if part == DIRECTIVE {
-        return 0;
+    match part {
+        DIRECTIVE => 0,
+        QUERY..=SUBSCRIPTION => 1,
+        _ => 2,
     }
-    if is_root(part) {
-        return 1;
-    }
-    2
-}
-
-// The place of a part under a scalar: directive uses alone.
-fn place_in_scalar(part: u32) -> u32
-    ensures { result ≡ place_in (part_order 5) part }
-{
-    if part == DIRECTIVE {
-        return 0;
-    }
-    1
 }
 
 // The place of a part under an object or an interface.
+#[tactic(auto, unfolding(definition::specs::Cards::part_order, definition::specs::Cards::place_in, definition::specs::Lists::any))]
 fn place_in_object(part: u32) -> u32
     ensures { result ≡ place_in (part_order 6) part }
 {
-    if part == IMPLEMENTS_INTERFACE {
-        return 0;
+    match part {
+        IMPLEMENTS_INTERFACE => 0,
+        DIRECTIVE => 1,
+        FIELD_DEFINITION => 2,
+        _ => 3,
     }
-    if part == DIRECTIVE {
-        return 1;
-    }
-    if part == FIELD_DEFINITION {
-        return 2;
-    }
-    3
 }
 
 // The place of a part under a heading whose own parts follow its directive uses.
+#[tactic(auto, unfolding(definition::specs::Cards::part_order, definition::specs::Cards::place_in, definition::specs::Lists::any))]
 fn place_after_directives(part: u32, own: u32) -> u32
     ensures { result ≡ place_in ((20 ∷ []) ∷ (own ∷ []) ∷ []) part }
 {
-    if part == DIRECTIVE {
-        return 0;
+    match part {
+        DIRECTIVE => 0,
+        _ if part == own => 1,
+        _ => 2,
     }
-    if part == own {
-        return 1;
-    }
-    2
 }
 
 // The place of a part's kind in the order under a heading, from 0; as many as `places_under` has where it has none.
+// Stays: places are compared, and a part without one comes after all others, as a number past the last does; None is before every Some.
+#[tactic(auto, unfolding(definition::specs::Cards::part_order, definition::specs::Cards::place_in, definition::specs::Lists::any))]
 pub fn place_of(heading: u32, part: u32) -> u32
     ensures { result ≡ place_in (part_order (definition_of heading)) part }
 {
-    let definition = definition_of(heading);
-    if definition == SCHEMA_DEFINITION {
-        return place_in_schema(part);
+    match definition_of(heading) {
+        SCHEMA_DEFINITION => place_in_schema(part),
+        SCALAR_TYPE_DEFINITION => u32::from(part != DIRECTIVE),
+        OBJECT_TYPE_DEFINITION | INTERFACE_TYPE_DEFINITION => place_in_object(part),
+        UNION_TYPE_DEFINITION => place_after_directives(part, UNION_MEMBER),
+        ENUM_TYPE_DEFINITION => place_after_directives(part, ENUM_VALUE_DEFINITION),
+        INPUT_OBJECT_TYPE_DEFINITION => place_after_directives(part, INPUT_VALUE_DEFINITION),
+        _ => 0,
     }
-    if definition == SCALAR_TYPE_DEFINITION {
-        return place_in_scalar(part);
-    }
-    if definition == OBJECT_TYPE_DEFINITION {
-        return place_in_object(part);
-    }
-    if definition == INTERFACE_TYPE_DEFINITION {
-        return place_in_object(part);
-    }
-    if definition == UNION_TYPE_DEFINITION {
-        return place_after_directives(part, UNION_MEMBER);
-    }
-    if definition == ENUM_TYPE_DEFINITION {
-        return place_after_directives(part, ENUM_VALUE_DEFINITION);
-    }
-    if definition == INPUT_OBJECT_TYPE_DEFINITION {
-        return place_after_directives(part, INPUT_VALUE_DEFINITION);
-    }
-    0
 }
 
 // How many places there are for parts under a heading.
+#[tactic(auto, unfolding(definition::specs::Cards::part_order))]
 pub fn places_under(heading: u32) -> u32
     ensures { result ≡ length (part_order (definition_of heading)) }
 {
-    let definition = definition_of(heading);
-    if definition < SCHEMA_DEFINITION {
-        return 0;
+    match definition_of(heading) {
+        SCALAR_TYPE_DEFINITION => 1,
+        OBJECT_TYPE_DEFINITION | INTERFACE_TYPE_DEFINITION => 3,
+        SCHEMA_DEFINITION | UNION_TYPE_DEFINITION..=INPUT_OBJECT_TYPE_DEFINITION => 2,
+        _ => 0,
     }
-    if INPUT_OBJECT_TYPE_DEFINITION < definition {
-        return 0;
-    }
-    if definition == SCALAR_TYPE_DEFINITION {
-        return 1;
-    }
-    if definition == OBJECT_TYPE_DEFINITION {
-        return 3;
-    }
-    if definition == INTERFACE_TYPE_DEFINITION {
-        return 3;
-    }
-    2
 }

@@ -34,32 +34,21 @@ pub struct Card {
 pub fn word(words: &[u32], i: usize) -> u32
     ensures { result ≡ get_or words.now i 0 }
 {
-    if i < words.len() {
-        return words[i];
-    }
-    0
+    words.get(i).copied().unwrap_or(0)
 }
 
 // The card of a number; words that are missing count as 0.
 pub fn card_at(cards: &[u32], i: usize) -> Card
     ensures { card_of result ≡ card_from (drop (card_words * i) cards.now) }
 {
-    if cards.len() / CARD_WORDS < i {
-        return Card {
-            kind: 0,
-            item_at: 0,
-            item_len: 0,
-            name_at: 0,
-            name_len: 0,
-        };
-    }
-    let at = CARD_WORDS * i;
+    let from = i.saturating_mul(CARD_WORDS).min(cards.len());
+    let words = &cards[from..];
     Card {
-        kind: word(cards, at + CARD_KIND),
-        item_at: word(cards, at + CARD_ITEM_AT),
-        item_len: word(cards, at + CARD_ITEM_LEN),
-        name_at: word(cards, at + CARD_NAME_AT),
-        name_len: word(cards, at + CARD_NAME_LEN),
+        kind: word(words, CARD_KIND),
+        item_at: word(words, CARD_ITEM_AT),
+        item_len: word(words, CARD_ITEM_LEN),
+        name_at: word(words, CARD_NAME_AT),
+        name_len: word(words, CARD_NAME_LEN),
     }
 }
 

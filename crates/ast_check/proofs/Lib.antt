@@ -1,2 +1,3 @@
+-- Told is for callers.
 mod Walk
-mod CardFaults
+pub mod Told

@@ -6,27 +6,17 @@ use mathlib.Core.Option.{Option, none, some}
 use Prim.Native.Nat.{ℕ, ◌+◌, ◌*◌, ◌/◌, ◌%◌, ◌<◌, ◌≤◌}
 use borrow.Author.Tests.{eq-eqb, ne_eqb}
 use lib.ListN.{length, drop}
+use Rattle.std.specs.Prelude.{None}
 use Rattle.definition.specs.declared.Answer.{Answer}
 use Rattle.definition.specs.Answers.{answer}
-use Rattle.definition.specs.Cards.{Card as DefinedCard, Place, Fault, card_words, card_from, cards_of, is_part}
+use Rattle.definition.specs.Cards.{card_words, card_from, cards_of, is_part}
 use Rattle.definition.specs.Cards.{fault_among, faults, place_after, fault_from, card_fault, broken_cards, document_fault}
 use Rattle.ast.specs.declared.Card.{Card}
 use Rattle.ast.specs.Cards.{card_of, cards_between}
 use Rattle.ast.proofs.Walk.{between_all, between_next, between_end}
-use Rattle.ast_check.specs.declared.faults.Neighbour.TheVariants.{Nothing}
 use Rattle.ast_check.specs.declared.faults.Neighbours.{Neighbours}
 use Rattle.ast_check.specs.Neighbours.{neighbour_of}
 use Rattle.ast_check.specs.Checks.{place_of, place_with, judged_of, next_of}
-
--- ---- The faults of one card.
-module _ (p : Place) (c : DefinedCard) (f : Fault) (fs : List Fault) where
-  pub fault_holds : f.holds p c ≡ true → fault_among p c (f ∷ fs) ≡ f.number
-  unfolding fault_among
-  fault_holds e = rw e
-
-  pub fault_passed : f.holds p c ≡ false → fault_among p c (f ∷ fs) ≡ fault_among p c fs
-  unfolding fault_among
-  fault_passed e = rw e
 
 pub judged_place : (bytes : List ℕ) (base size : ℕ) (n : Neighbours) (c : Card)
     → place_of bytes base size (judged_of n c) ≡ place_with bytes base size n c
@@ -44,7 +34,7 @@ module _ (bytes : List ℕ) (base size : ℕ) (ws : List ℕ) where
   unfoldable pub faults_from : ℕ → Neighbours → Option Answer
   faults_from i n = fault_from bytes base size i (neighbour_of n.heading) (neighbour_of n.sibling) (cards_between ws i (length ws / card_words))
 
-  pub faults_all : card_fault bytes base size (cards_of ws) ≡ faults_from 0 (record { heading = Nothing; sibling = Nothing })
+  pub faults_all : card_fault bytes base size (cards_of ws) ≡ faults_from 0 (record { heading = None; sibling = None })
   unfolding faults_from card_fault cards_of
   faults_all = rw (between_all ws (length ws / card_words))
 

@@ -1,16 +1,16 @@
 -- What a card is judged by, and what the checks answer.
 use Rattle.std.proofs.Math.Option.{Option, none, some}
-use Rattle.std.specs.Prelude.{List, ℕ}
+use Rattle.std.specs.Prelude.{List, ℕ, Some, None, Result, Ok, Err}
 use Rattle.definition.specs.declared.Answer.{Answer}
+use Rattle.definition.specs.declared.refusal.Refusal.{Refusal}
+use Rattle.definition.specs.declared.refusal.Refused.{Refused}
+use Rattle.definition.specs.Numbers.{refusal_number, refused_answer}
 use Rattle.definition.specs.Lists.{choose}
 use Rattle.definition.specs.Cards.{Place, is_part, place_after}
 use Rattle.ast.specs.declared.Card.{Card}
 use Rattle.ast.specs.Cards.{card_of}
-use Rattle.ast_check.specs.declared.faults.Neighbour.TheVariants.{At, Nothing}
 use Rattle.ast_check.specs.declared.faults.Neighbours.{Neighbours}
 use Rattle.ast_check.specs.Neighbours.{neighbour_of}
-use Rattle.ast_check.specs.declared.CardCheck.{CardCheck}
-use Rattle.ast_check.specs.declared.CardCheck.TheVariants.{Sound, Faulty}
 
 -- A place with these neighbours.
 abbrev pub place_of : List ℕ → ℕ → ℕ → Neighbours → Place
@@ -22,12 +22,17 @@ place_with bytes base size before c = place_after bytes base size (neighbour_of 
 
 -- What a card is judged by, and what stands before the card after it.
 unfoldable pub judged_of : Neighbours → Card → Neighbours
-judged_of n c = choose (is_part c.kind) n (record { heading = Nothing; sibling = n.heading })
+judged_of n c = choose (is_part c.kind) n (record { heading = None; sibling = n.heading })
 
 unfoldable pub next_of : Neighbours → Card → Neighbours
-next_of n c = choose (is_part c.kind) (record { heading = n.heading; sibling = At c }) (record { heading = At c; sibling = Nothing })
+next_of n c = choose (is_part c.kind) (record { heading = n.heading; sibling = Some c }) (record { heading = Some c; sibling = None })
+
+-- The number of the refusal that is told, 0 where there is none.
+abbrev pub told_number : Result Unit Refusal → ℕ
+told_number (Ok _) = 0
+told_number (Err r) = refusal_number r
 
 -- The refusal that a check answers.
-abbrev pub check_option : CardCheck → Option Answer
-check_option Sound = none
-check_option (Faulty a) = some a
+abbrev pub check_option : Result Unit Refused → Option Answer
+check_option (Ok _) = none
+check_option (Err r) = some (refused_answer r)

@@ -4,132 +4,127 @@
 ghost use Rattle.std.specs.Prelude.{◌≡◌};
 ghost use Rattle.definition.specs.Cards.{faults, fault_among, cards_of, card_fault, document_fault};
 ghost use Rattle.ast.specs.Cards.{card_of};
-ghost use Rattle.ast_check.specs.Checks.{place_of, place_with, judged_of, next_of, check_option};
+ghost use Rattle.ast_check.specs.Checks.{place_of, place_with, judged_of, next_of, told_number, check_option};
 
-use crate::faults::{Neighbour, Neighbours};
+use crate::faults::{DocumentText, Neighbours};
 use ast::{Card, kinds};
 use definition::layout::CARD_WORDS;
-use definition::{Answer, refusal};
+use definition::refusal::{Refusal, Refused};
 
 pub mod faults;
 
-// Whether cards are sound, or the refusal of the first faulty one.
+// A document: its text, and the words of its cards.
 #[derive(Clone, Copy)]
-pub enum CardCheck {
-    Sound,
-    Faulty(Answer),
+pub struct Document<'a> {
+    pub text: &'a [u8],
+    pub cards: &'a [u32],
 }
 
 // What a card is judged by: a part by its heading and the part before it, a heading by the heading before it.
+#[tactic(auto, unfolding(crate::specs::Checks::judged_of))]
 fn judged(before: Neighbours, card: Card) -> Neighbours
     ensures { result ≡ judged_of before card }
 {
     if kinds::is_part(card.kind) {
-        return before;
-    }
-    let previous = before.heading;
-    Neighbours {
-        heading: Neighbour::Nothing,
-        sibling: previous,
+        before
+    } else {
+        Neighbours {
+            heading: None,
+            sibling: before.heading,
+        }
     }
 }
 
 // What stands before the next card.
+#[tactic(auto, unfolding(crate::specs::Checks::next_of))]
 fn next_neighbours(before: Neighbours, card: Card) -> Neighbours
     ensures { result ≡ next_of before card }
 {
     if kinds::is_part(card.kind) {
-        let heading = before.heading;
-        return Neighbours {
-            heading,
-            sibling: Neighbour::At(card),
-        };
-    }
-    Neighbours {
-        heading: Neighbour::At(card),
-        sibling: Neighbour::Nothing,
+        Neighbours {
+            heading: before.heading,
+            sibling: Some(card),
+        }
+    } else {
+        Neighbours {
+            heading: Some(card),
+            sibling: None,
+        }
     }
 }
 
-// The number of the first of a card's faults among its neighbours, 0 where it has none.
+// The first of a card's faults among its neighbours.
 #[tactic(auto, unfolding(definition::specs::Cards::faults, definition::specs::Cards::fault, definition::specs::Cards::fault_among))]
-fn fault_among(text: &[u8], base: usize, size: usize, near: Neighbours, card: Card) -> u32
-    ensures { result ≡ fault_among (place_of text.now base size near) (card_of card) faults }
+fn fault_among(document: DocumentText, near: Neighbours, card: Card) -> Result<(), Refusal>
+    ensures { told_number result
+        ≡ fault_among (place_of document.entry.text.now document.entry.base document.entry.size near) (card_of card) faults }
 {
-    let heading = near.heading;
-    let sibling = near.sibling;
     if crate::faults::unknown_kind(card) {
-        return refusal::UNKNOWN_KIND;
+        return Err(Refusal::UnknownKind);
     }
-    if crate::faults::empty_item(card) {
-        return refusal::ITEM_MISPLACED;
+    if crate::faults::empty_item(card)
+        || crate::faults::item_outside_text(document, card)
+        || crate::faults::item_before_sibling_end(near.sibling, card)
+        || crate::faults::item_outside_heading(near.heading, card)
+    {
+        return Err(Refusal::ItemMisplaced);
     }
-    if crate::faults::item_outside_text(base, size, card) {
-        return refusal::ITEM_MISPLACED;
-    }
-    if crate::faults::item_before_sibling_end(sibling, card) {
-        return refusal::ITEM_MISPLACED;
-    }
-    if crate::faults::item_outside_heading(heading, card) {
-        return refusal::ITEM_MISPLACED;
-    }
-    if crate::faults::name_outside_item(card) {
-        return refusal::NAME_MISPLACED;
-    }
-    if crate::faults::name_not_item(card) {
-        return refusal::NAME_MISPLACED;
+    if crate::faults::name_outside_item(card) || crate::faults::name_not_item(card) {
+        return Err(Refusal::NameMisplaced);
     }
     if crate::faults::name_amiss(card) {
-        return refusal::NAME_PRESENCE;
+        return Err(Refusal::NamePresence);
     }
-    if crate::faults::name_no_name(text, card) {
-        return refusal::NAME_BYTES;
+    if crate::faults::name_no_name(document.text, card) {
+        return Err(Refusal::NameBytes);
     }
     if crate::faults::misplaced(near, card) {
-        return refusal::PART_MISPLACED;
+        return Err(Refusal::PartMisplaced);
     }
-    0
+    Ok(())
 }
 
-// The number of the first of a card's faults, with the heading and the part that stand before it.
-fn fault_after(text: &[u8], base: usize, size: usize, before: Neighbours, card: Card) -> u32
-    ensures { result ≡ fault_among (place_with text.now base size before card) (card_of card) faults }
+// The first of a card's faults, with the heading and the part that stand before it.
+#[tactic(auto, using(crate::proofs::Walk::judged_place))]
+fn fault_after(document: DocumentText, before: Neighbours, card: Card) -> Result<(), Refusal>
+    ensures { told_number result
+        ≡ fault_among (place_with document.entry.text.now document.entry.base document.entry.size before card) (card_of card) faults }
 {
-    fault_among(text, base, size, judged(before, card), card)
+    fault_among(document, judged(before, card), card)
 }
 
-// The first faulty card among the cards of a document, with the number of the first of its faults. Offsets count in `text`, of which the document has
-// the `size` bytes from `base` on. Words past the last whole card are not looked at.
-pub fn check_cards(text: &[u8], base: usize, size: usize, cards: &[u32]) -> CardCheck
-    ensures { check_option result ≡ card_fault text.now base size (cards_of cards.now) }
+// The first faulty card among the cards of a document, with the first of its faults. Words past the last whole card are not looked at.
+pub fn check_cards(document: DocumentText, cards: &[u32]) -> Result<(), Refused>
+    ensures { check_option result ≡ card_fault document.entry.text.now document.entry.base document.entry.size (cards_of cards.now) }
 {
-    let count = cards.len() / CARD_WORDS;
     let mut before = Neighbours {
-        heading: Neighbour::Nothing,
-        sibling: Neighbour::Nothing,
+        heading: None,
+        sibling: None,
     };
-    let mut i = 0;
-    while i < count {
-        let card = ast::card_at(cards, i);
-        let number = fault_after(text, base, size, before, card);
-        if number != 0 {
-            return CardCheck::Faulty(Answer { number, card: i });
+    for place in 0..cards.len() / CARD_WORDS {
+        let card = ast::card_at(cards, place);
+        if let Err(refusal) = fault_after(document, before, card) {
+            return Err(Refused { refusal, place });
         }
         before = next_neighbours(before, card);
-        i += 1;
     }
-    CardCheck::Sound
+    Ok(())
 }
 
-// The refusals 1 to 5 of a lent document.
-pub fn check_document(text: &[u8], cards: &[u32]) -> CardCheck
-    ensures { check_option result ≡ document_fault text.now cards.now }
-{
-    if cards.len() % CARD_WORDS != 0 {
-        return CardCheck::Faulty(Answer {
-            number: refusal::CARDS_NOT_WHOLE,
-            card: 0,
-        });
+impl<'a> Document<'a> {
+    // The refusals 1 to 5 of a lent document.
+    #[tactic(auto, using(crate::proofs::Walk::broken, crate::proofs::Walk::unbroken))]
+    pub fn check(self) -> Result<(), Refused>
+        ensures { check_option result ≡ document_fault self.entry.text.now self.entry.cards.now }
+    {
+        if self.cards.len() % CARD_WORDS != 0 {
+            return Err(Refusal::CardsNotWhole.into());
+        }
+        let whole = DocumentText {
+            text: self.text,
+            base: 0,
+            size: self.text.len(),
+        };
+        check_cards(whole, self.cards)
     }
-    check_cards(text, 0, text.len(), cards)
 }

@@ -18,7 +18,7 @@ use Rattle.definition.proofs.Lists.{filter_yes, filter_no}
 use Rattle.definition.proofs.All.{all_filter}
 use Rattle.from_ast_index.specs.Index.{same_cards}
 use Rattle.from_ast_index.proofs.Lists.{drop_next, drop_end, all_places, all_at}
-use Rattle.component.specs.RowsByCards.{Stored, extension_kind, is_matching, matching, Matched, lists_at, type_row_at, type_rows_at}
+use Rattle.component.specs.RowsByCards.{Stored, extension_kind, is_matching, matching, lists_at, type_row_at, type_rows_at}
 use Rattle.component.proofs.Turns.{and_false}
 
 -- ---- The kind that is sought.
@@ -57,43 +57,32 @@ module _ (text words : List ℕ) (ext owner n : ℕ) where
 
 -- ---- A walk that lists the cards that pass a test: those listed so far, then what is left.
 
-module _ (p : ℕ → Bool) (ns : List ℕ) (i : ℕ) where
-  pub kept_end : (mine : List ℕ) (count : ℕ) → length ns ≤ i → take count mine ++ filter p (drop i ns) ≡ take count mine
+module _ (p : ℕ → Bool) (ns : List ℕ) (i : ℕ) (mine : List ℕ) where
+  pub kept_end : length ns ≤ i → mine ++ filter p (drop i ns) ≡ mine
   unfolding filter
-  kept_end mine count h = ap (λ (l : List ℕ). take count mine ++ filter p l) (drop_end ns i h) ∙ append-nil (take count mine)
+  kept_end h = ap (λ (l : List ℕ). mine ++ filter p l) (drop_end ns i h) ∙ append-nil mine
 
   module _ (h : i < length ns) where
-    pub kept_miss : (mine : List ℕ) (count : ℕ) → p (get_or ns i 0) ≡ false →
-        take count mine ++ filter p (drop (i + 1) ns) ≡ take count mine ++ filter p (drop i ns)
-    kept_miss mine count e =
-        sym (ap (λ (l : List ℕ). take count mine ++ l) (ap (filter p) (drop_next ns i h) ∙ filter_no p (get_or ns i 0) (drop (i + 1) ns) e))
+    pub kept_miss : p (get_or ns i 0) ≡ false → mine ++ filter p (drop (i + 1) ns) ≡ mine ++ filter p (drop i ns)
+    kept_miss e = sym (ap (λ (l : List ℕ). mine ++ l) (ap (filter p) (drop_next ns i h) ∙ filter_no p (get_or ns i 0) (drop (i + 1) ns) e))
 
-    pub kept_hit : (mine : List ℕ) (count : ℕ) → count < length mine → p (get_or ns i 0) ≡ true →
-        take (count + 1) (set mine count (get_or ns i 0)) ++ filter p (drop (i + 1) ns) ≡ take count mine ++ filter p (drop i ns)
-    kept_hit mine count capacity e =
-        let one : count + 1 ≡ suc count = omega arith in
-        let rest = filter p (drop (i + 1) ns) in
-        ap (λ (m : ℕ). take m (set mine count (get_or ns i 0)) ++ rest) one
-        ∙ ap (λ (l : List ℕ). l ++ rest) (take-suc-set mine count (get_or ns i 0) capacity)
-        ∙ append_assoc (take count mine) (get_or ns i 0 ∷ []) rest
-        ∙ sym (ap (λ (l : List ℕ). take count mine ++ l) (ap (filter p) (drop_next ns i h) ∙ filter_yes p (get_or ns i 0) (drop (i + 1) ns) e))
+    pub kept_hit : p (get_or ns i 0) ≡ true → (mine ++ (get_or ns i 0 ∷ [])) ++ filter p (drop (i + 1) ns) ≡ mine ++ filter p (drop i ns)
+    kept_hit e =
+        append_assoc mine (get_or ns i 0 ∷ []) (filter p (drop (i + 1) ns))
+        ∙ sym (ap (λ (l : List ℕ). mine ++ l) (ap (filter p) (drop_next ns i h) ∙ filter_yes p (get_or ns i 0) (drop (i + 1) ns) e))
 
 -- ---- All that are listed are stored.
 
--- The front of the array, lent.
-module _ {text words extensions : List ℕ} {card : ℕ} {mine : List ℕ} {r : ℕ} (m : Matched text words extensions card mine r) where
-  front_is : take (r - 0) mine ≡ matching text words extensions card
-  front_is = rw (sub-zero r) m.cards_are
-
-  pub matching_stored : Stored words extensions → Stored words (take (r - 0) mine)
+module _ (text words extensions mine : List ℕ) (card : ℕ) (is : mine ≡ matching text words extensions card) where
+  pub matching_stored : Stored words extensions → Stored words mine
   unfolding matching
   matching_stored s = record {
     stored =
-        all_at (λ c. c < cards_used_of words) (take (r - 0) mine)
-        (rw front_is (all_filter (λ c. c < cards_used_of words) (is_matching text words (extension_kind words card) card) extensions
+        all_at (λ c. c < cards_used_of words) mine
+        (rw is (all_filter (λ c. c < cards_used_of words) (is_matching text words (extension_kind words card) card) extensions
         (all_places (λ c. c < cards_used_of words) extensions s.stored)));
   }
 
-  pub type_cut : type_rows_at text words extensions card ≡ (type_row_at words card ∷ []) ++ lists_at text words (take (r - 0) mine) card
+  pub type_cut : type_rows_at text words extensions card ≡ (type_row_at words card ∷ []) ++ lists_at text words mine card
   unfolding type_rows_at
-  type_cut = ap (λ (l : List ℕ). type_row_at words card ∷ lists_at text words l card) (sym front_is)
+  type_cut = ap (λ (l : List ℕ). type_row_at words card ∷ lists_at text words l card) (sym is)

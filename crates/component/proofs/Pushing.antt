@@ -2,13 +2,14 @@
 use mathlib.Core.Path.{◌≡◌, refl, sym, ap, ◌∙◌}
 use mathlib.Core.List.{List, [], ◌∷◌, ◌++◌, append_assoc, append-nil}
 use Prim.Native.Nat.{ℕ, zero, suc, ◌+◌, ◌-◌, ◌*◌, ◌≤◌, ◌<◌}
-use native.Mathlib.Nat.{add-zero, zero-add}
+use native.Mathlib.Nat.{add-zero}
 use native.Mathlib.Omega.{arith}
 use borrow.Rule.Slice.PartMut.{put_mid}
-use lib.ListN.{length, get_or, take, drop, set, drop_of_length-le, length-append, length-drop, get_or-append}
-use lib.Seq.{take_all, sets-eq, take-length, length-take-le, take_at, drop_at, drop-drop, paste-zero, get_or-take, get_or-append-add}
+use lib.ListN.{length, get_or, take, drop, length-append, length-drop, get_or-append}
+use Rattle.std.proofs.lemmas.Slice.{put_mid-paste}
+use lib.Seq.{take-length, length-take-le, take_at, drop_at, drop-drop, paste-zero, get_or-take, get_or-append-add}
 use Rattle.definition.specs.Lists.{flat_map, written}
-use Rattle.definition.specs.Catalogue.{Row, row}
+use Rattle.definition.specs.Catalogue.{Row}
 use Rattle.definition.specs.Outcomes.{words_of_row}
 use Rattle.definition.proofs.Lists.{flat_map_nil, flat_map_cons, flat_map_append}
 use Rattle.component.specs.Pushed.{Filled, filled, Fits, pushed, row_in, rows_from, used_from}
@@ -177,29 +178,13 @@ module _ (start : ℕ) where
       ∙ ap (λ (l : List Row). l ++ rs) (used_one s r h (omega arith))
       ∙ append_assoc (used_from start s) (r ∷ []) rs
 
--- ---- A row written into the lent tail.
+-- ---- A row written after those used.
 
-pub three_set : (l : List ℕ) (a b c : ℕ) → 3 ≤ length l → set (set (set l 0 a) 1 b) 2 c ≡ written l 0 (words_of_row (row a b c))
-unfolding words_of_row
-three_set l a b c h = sets-eq (a ∷ (b ∷ (c ∷ []))) l 0 h ∙ sym (written_is l 0 (a ∷ (b ∷ (c ∷ []))))
-
--- What stands in the whole once the tail from a on was lent and came back with ws at its front.
-tail_written : (a : ℕ) (l ws ys : List ℕ) → a ≤ length l → ys ≡ written (take (length l - a) (drop a l)) 0 ws → put_mid a (length l - a) l ys ≡ written l a ws
-tail_written a l ws ys h e =
-    let whole : take (length l - a) (drop a l) ≡ drop a l = take_all (length l - a) (drop a l) (simp length-drop (omega arith)) in
-    let back : put_mid a (length l - a) l ys ≡ take a l ++ ys = rw (drop_of_length-le (drop a l) {i = length l - a} (simp length-drop (omega arith)))
-    (ap (λ (x : List ℕ). take a l ++ x) (append-nil ys)) in
-    back
-    ∙ ap (λ (x : List ℕ). take a l ++ x) (e ∙ ap (λ (x : List ℕ). written x 0 ws) whole ∙ written_is (drop a l) 0 ws
-    ∙ ap (λ (m : ℕ). ws ++ drop m (drop a l)) (zero-add (length ws)) ∙ ap (λ (x : List ℕ). ws ++ x) (drop-drop (length ws) a l))
-    ∙ sym (append_assoc (take a l) ws (drop (a + length ws) l))
-    ∙ sym (written_is l a ws)
-
-pub row_pushed : (l ys : List ℕ) (used : ℕ) (r : Row) → 3 * used ≤ length l → ys ≡ written (take (length l - 3 * used) (drop (3 * used) l)) 0 (words_of_row r)
-    → filled (put_mid (3 * used) (length l - 3 * used) l ys) (used + 1) ≡ pushed (r ∷ []) (filled l used)
-unfolding pushed flat_map
-row_pushed l ys used r h e =
-    λ j. filled ((tail_written (3 * used) l (words_of_row r) ys h e ∙ ap (written l (3 * used)) (sym (append-nil (words_of_row r)))) j) (used + 1)
+pub row_pushed : (ws ys : List ℕ) (used : ℕ) (r : Row) → ys ≡ words_of_row r →
+    filled (put_mid (3 * used) (3 * used + 3 - 3 * used) ws ys) (used + 1) ≡ pushed (r ∷ []) (filled ws used)
+unfolding pushed flat_map words_of_row written
+row_pushed ws ys used r e =
+    ap (λ (l : List ℕ). filled l (used + 1)) (put_mid-paste (3 * used) (3 * used + 3 - 3 * used) ws ys (r.what ∷ (r.card ∷ (r.origin ∷ []))) 3 e (omega arith) refl)
 
 pub pushed_capacity : (rs : List Row) (s : Filled) (n : ℕ) → 3 * (pushed rs s).used ≤ n → 3 * (s.used + length rs) ≤ n
 unfolding pushed

@@ -1,8 +1,10 @@
 -- One law for each way that a turn of a loop, or a branch, can go.
-use mathlib.Core.Path.{◌≡◌, refl, sym, ap, ◌∙◌, subst}
+use mathlib.Core.Path.{◌≡◌, refl, sym, ap, ◌∙◌}
 use mathlib.Core.Bool.{Bool, true, false, ◌&&◌}
 use mathlib.Core.List.{List, [], ◌∷◌, ◌++◌, map}
-use Prim.Native.Nat.{ℕ, zero, suc, ◌+◌, ◌-◌, ◌*◌, ◌≤◌, ◌<◌}
+use Rattle.std.specs.Prelude.{Option, Some, None}
+use Rattle.std.specs.Option.{is_some}
+use Prim.Native.Nat.{ℕ, suc, ◌+◌, ◌-◌, ◌*◌, ◌≤◌, ◌<◌}
 use native.Mathlib.Omega.{arith}
 use borrow.Author.Tests.{eq-eqb, ne_eqb, lt-ltb, le-ltb}
 use lib.Dec.{eqb, leb}
@@ -15,10 +17,10 @@ use Rattle.definition.specs.Catalogue.{component, components, Row, row, componen
 use Rattle.definition.specs.Store.{cards_used_of}
 use Rattle.definition.proofs.Lists.{filter_yes, filter_no}
 use Rattle.from_ast_index.specs.Index.{same_cards, is_type_extension_kind}
-use Rattle.from_ast_index.proofs.Lists.{drop_next, drop_end}
+use Rattle.from_ast_index.proofs.Lists.{never, drop_next, drop_end}
 use Rattle.store_reader.specs.Stored.{card_kind, card_at, built_in_count, built_in_at, parts_from, stored_parts}
 use Rattle.store_reader.proofs.Words.{parts_next, parts_stop, parts_end}
-use Rattle.component.specs.Pushed.{Filled, filled, Fits, row_in, rows_from, used_from, place_of, alike_rows, pushed, extend_sticky, rows_of_kind}
+use Rattle.component.specs.Pushed.{Filled, Fits, row_in, rows_from, used_from, place_of, alike_rows, pushed, extend_sticky, rows_of_kind}
 use Rattle.component.specs.RowsByCards.{same_stored, head_rows, extend_by_card, extend_by_heading, extension_rows, list_rows, list_at, lists_at}
 use Rattle.component.specs.RowsByCards.{type_row_at, standing_card, names_directive, standing_at, directive_rows_of, directive_rows_at}
 use Rattle.component.proofs.Pushing.{Left, rest_begin}
@@ -46,107 +48,92 @@ pub and_false : (b : Bool) → (b && false) ≡ false
 and_false true = refl
 and_false false = refl
 
-module _ (same : ℕ → ℕ → Bool) (kind card : ℕ) where
-  use_unlike : (s : Row) → kind ≡ 20 → alike_rows same (row kind card 0) s ≡ false
+module _ (same : ℕ → ℕ → Bool) (r : Row) where
+  use_unlike : (s : Row) → r.what ≡ 20 → alike_rows same r s ≡ false
   unfolding alike_rows is_root
   use_unlike s e = rw e (and_false (eqb 20 s.what))
 
-  pub alike_use : (used i : ℕ) (rs : List Row) → kind ≡ 20 → place_of (alike_rows same (row kind card 0)) used i rs ≡ used
+  pub alike_use : (i : ℕ) (rs : List Row) → r.what ≡ 20 → place_of (alike_rows same r) i rs ≡ None
   unfolding place_of
-  alike_use used i [] e = refl
-  alike_use used i (r ∷ rs) e = rw (use_unlike r e, alike_use used (i + 1) rs e)
+  alike_use i [] e = refl
+  alike_use i (s ∷ rs) e = rw (use_unlike s e, alike_use (i + 1) rs e)
 
   module _ (ws : List ℕ) (used i : ℕ) where
     next_row : i < used → rows_from ws i (used - i) ≡ row_in ws i ∷ rows_from ws (i + 1) (used - (i + 1))
     unfolding rows_from
     next_row h = let e : used - i ≡ suc (used - (i + 1)) = omega arith in rw e
 
-    pub alike_root : i < used → get_or ws (3 * i) 0 ≡ kind → is_root kind ≡ true →
-        place_of (alike_rows same (row kind card 0)) used i (rows_from ws i (used - i)) ≡ i
-    unfolding place_of alike_rows row_in
-    alike_root h e l = rw (next_row h, e, eq-eqb kind kind refl, l)
+    pub alike_here : i < used → alike_rows same r (row_in ws i) ≡ true → place_of (alike_rows same r) i (rows_from ws i (used - i)) ≡ Some i
+    unfolding place_of
+    alike_here h e = rw (next_row h, e)
 
-    pub alike_hit : i < used → get_or ws (3 * i) 0 ≡ kind → is_root kind ≡ false → (kind ≡ 20 → ⊥) → same card (get_or ws (3 * i + 1) 0) ≡ true →
-        place_of (alike_rows same (row kind card 0)) used i (rows_from ws i (used - i)) ≡ i
-    unfolding place_of alike_rows row_in
-    alike_hit h e l m s = rw (next_row h, e, eq-eqb kind kind refl, l, ne_eqb kind 20 m, s)
+    pub alike_next : i < used → alike_rows same r (row_in ws i) ≡ false →
+        place_of (alike_rows same r) i (rows_from ws i (used - i)) ≡ place_of (alike_rows same r) (i + 1) (rows_from ws (i + 1) (used - (i + 1)))
+    unfolding place_of
+    alike_next h e = rw (next_row h, e)
 
-    pub alike_miss : i < used → get_or ws (3 * i) 0 ≡ kind → is_root kind ≡ false → (kind ≡ 20 → ⊥) → same card (get_or ws (3 * i + 1) 0) ≡ false →
-        place_of (alike_rows same (row kind card 0)) used i (rows_from ws i (used - i)) ≡
-        place_of (alike_rows same (row kind card 0)) used (i + 1) (rows_from ws (i + 1) (used - (i + 1)))
-    unfolding place_of alike_rows row_in
-    alike_miss h e l m s = rw (next_row h, e, eq-eqb kind kind refl, l, ne_eqb kind 20 m, s)
-
-    pub alike_other : i < used → (get_or ws (3 * i) 0 ≡ kind → ⊥) →
-        place_of (alike_rows same (row kind card 0)) used i (rows_from ws i (used - i)) ≡
-        place_of (alike_rows same (row kind card 0)) used (i + 1) (rows_from ws (i + 1) (used - (i + 1)))
-    unfolding place_of alike_rows row_in
-    alike_other h e = rw (next_row h, ne_eqb kind (get_or ws (3 * i) 0) (λ q. e (sym q)))
-
-    pub alike_end : used ≤ i → place_of (alike_rows same (row kind card 0)) used i (rows_from ws i (used - i)) ≡ used
+    pub alike_end : used ≤ i → place_of (alike_rows same r) i (rows_from ws i (used - i)) ≡ None
     unfolding place_of rows_from
     alike_end h = let e : used - i ≡ 0 = omega arith in rw e
 
--- A place among the rows is that of a row which passes; of no others is there none.
-module _ (p : Row → Bool) (none : ℕ) where
-  pub place_old : (i : ℕ) (rs : List Row) → place_of p none i rs < none → any p rs ≡ true
+  -- The test of a row, part by part.
+  module _ (s : Row) (m : r.what ≡ 20 → ⊥) where
+    pub alike_root : r.what ≡ s.what → is_root r.what ≡ true → alike_rows same r s ≡ true
+    unfolding alike_rows
+    alike_root e l = rw (eq-eqb r.what s.what e, l)
+
+    pub alike_part : r.what ≡ s.what → is_root r.what ≡ false → alike_rows same r s ≡ same r.card s.card
+    unfolding alike_rows
+    alike_part e l = rw (eq-eqb r.what s.what e, l, ne_eqb r.what 20 m)
+
+    pub alike_other : (r.what ≡ s.what → ⊥) → alike_rows same r s ≡ false
+    unfolding alike_rows
+    alike_other e = rw (ne_eqb r.what s.what e)
+
+-- Where a place is found a row passes; where none is, none does.
+module _ (p : Row → Bool) where
+  pub place_old : (i k : ℕ) (rs : List Row) → place_of p i rs ≡ Some k → any p rs ≡ true
   unfolding place_of any
-  place_old i [] h = absurd (omega arith)
-  place_old i (r ∷ rs) h = go (p r) h (place_old (i + 1) rs)
+  place_old i k [] h = absurd (cc h)
+  place_old i k (r ∷ rs) h = go (p r) h (place_old (i + 1) k rs)
     where
-      go : (b : Bool) → choose b i (place_of p none (i + 1) rs) < none → (place_of p none (i + 1) rs < none → any p rs ≡ true) →
+      go : (b : Bool) → choose b (Some i) (place_of p (i + 1) rs) ≡ Some k → (place_of p (i + 1) rs ≡ Some k → any p rs ≡ true) →
           choose b true (any p rs) ≡ true
       go true h k = refl
       go false h k = k h
 
-  pub place_new : (i : ℕ) (rs : List Row) → length rs ≤ none - i → none ≤ place_of p none i rs → (any p rs ≡ false) × (place_of p none i rs ≡ none)
+  pub place_new : (i : ℕ) (rs : List Row) → place_of p i rs ≡ None → any p rs ≡ false
   unfolding place_of any
-  place_new i [] l h = (refl, refl)
-  place_new i (r ∷ rs) l h = go (p r) h (place_new (i + 1) rs (omega arith))
+  place_new i [] h = refl
+  place_new i (r ∷ rs) h = go (p r) h (place_new (i + 1) rs)
     where
-      go : (b : Bool) → none ≤ choose b i (place_of p none (i + 1) rs) →
-          (none ≤ place_of p none (i + 1) rs → (any p rs ≡ false) × (place_of p none (i + 1) rs ≡ none)) →
-          (choose b true (any p rs) ≡ false) × (choose b i (place_of p none (i + 1) rs) ≡ none)
-      go true h k = absurd (omega arith)
+      go : (b : Bool) → choose b (Some i) (place_of p (i + 1) rs) ≡ None → (place_of p (i + 1) rs ≡ None → any p rs ≡ false) →
+          choose b true (any p rs) ≡ false
+      go true h k = absurd (cc h)
       go false h k = k h
 
--- The origin is not asked.
-alike_origin : (same : ℕ → ℕ → Bool) (kind card origin : ℕ) (rs : List Row) →
-    any (alike_rows same (row kind card 0)) rs ≡ any (alike_rows same (row kind card origin)) rs
-unfolding alike_rows
-alike_origin same kind card origin rs = refl
-
-length_rows : (ws : List ℕ) (i n : ℕ) → length (rows_from ws i n) ≡ n
-unfolding rows_from
-length_rows ws i zero = refl
-length_rows ws i (suc n) = ap suc (length_rows ws (i + 1) n)
-
 -- What is pushed of one row, by the place of the first row that it is like.
-module _ (same : ℕ → ℕ → Bool) (start kind card origin place used : ℕ) (ws : List ℕ)
-    (found : place ≡ place_of (alike_rows same (row kind card 0)) used start (used_from start (filled ws used))) where
-  pub placed_old : place < used → filled ws used ≡ extend_sticky same start (row kind card origin ∷ []) (filled ws used)
-  placed_old h =
-      let l = place_old (alike_rows same (row kind card 0)) used start (used_from start (filled ws used)) (subst (λ p. p < used) found h) in
-      sym (extended_old same start (row kind card origin) (filled ws used) (sym (alike_origin same kind card origin _) ∙ l))
+module _ (same : ℕ → ℕ → Bool) (start : ℕ) (r : Row) (s : Filled) (o : Option ℕ) (found : o ≡ place_of (alike_rows same r) start (used_from start s)) where
+  pub placed_old : is_some o ≡ true → s ≡ extend_sticky same start (r ∷ []) s
+  placed_old h = go o found h
+    where
+      go : (o : Option ℕ) → o ≡ place_of (alike_rows same r) start (used_from start s) → is_some o ≡ true → s ≡ extend_sticky same start (r ∷ []) s
+      go None e q = never (sym q)
+      go (Some k) e q = sym (extended_old same start r s (place_old (alike_rows same r) start k (used_from start s) (sym e)))
 
-  module _ (h : used ≤ place) where
-    unlike : (any (alike_rows same (row kind card 0)) (used_from start (filled ws used)) ≡ false) × (place ≡ used)
-    unfolding used_from
-    unlike =
-        let n = length_rows ws start (used - start) in
-        let l = place_new (alike_rows same (row kind card 0)) used start (rows_from ws start (used - start)) (omega arith) (subst (λ p. used ≤ p) found h) in
-        (l.0, found ∙ l.1)
+  module _ (h : is_some o ≡ false) where
+    unlike : any (alike_rows same r) (used_from start s) ≡ false
+    unlike = go o found h
+      where
+        go : (o : Option ℕ) → o ≡ place_of (alike_rows same r) start (used_from start s) → is_some o ≡ false → any (alike_rows same r) (used_from start s) ≡ false
+        go None e q = place_new (alike_rows same r) start (used_from start s) (sym e)
+        go (Some k) e q = never q
 
-    pub placed_new : pushed (row kind card origin ∷ []) (filled ws place) ≡ extend_sticky same start (row kind card origin ∷ []) (filled ws used)
-    placed_new =
-        ap (λ p. pushed (row kind card origin ∷ []) (filled ws p)) unlike.1
-        ∙ sym (extended_new same start (row kind card origin) (filled ws used) (sym (alike_origin same kind card origin _) ∙ unlike.0))
+    pub placed_new : pushed (r ∷ []) s ≡ extend_sticky same start (r ∷ []) s
+    placed_new = sym (extended_new same start r s unlike)
 
-    pub placed_capacity : (n : ℕ) → 3 * (extend_sticky same start (row kind card origin ∷ []) (filled ws used)).used ≤ n → 3 * (place + 1) ≤ n
-    placed_capacity n c =
-        let m = capacity_new same start (row kind card origin) (filled ws used) n (sym (alike_origin same kind card origin _) ∙ unlike.0) c in
-        let e = unlike.1 in
-        omega arith
+    pub placed_capacity : (n : ℕ) → 3 * (extend_sticky same start (r ∷ []) s).used ≤ n → 3 * (s.used + 1) ≤ n
+    placed_capacity n c = capacity_new same start r s n unlike c
 
 -- ---- The parts under a heading.
 

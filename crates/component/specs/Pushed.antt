@@ -1,9 +1,11 @@
 -- Rows pushed one after another into a lent slice: what stands in it so far, and how many of its rows are used.
-use Rattle.std.specs.Prelude.{List, [], ◌∷◌, map, Bool, ◌&&◌, ◌||◌, not, ℕ, zero, suc, ◌+◌, ◌-◌, ◌*◌, ◌≤◌, eqb, length, get_or}
+use Rattle.std.specs.Prelude.{◌≡◌, Option, Some, None, List, [], ◌∷◌, map, Bool, ◌&&◌, ◌||◌, not, ℕ, zero, suc, ◌+◌, ◌-◌, ◌*◌, ◌≤◌, eqb, length, get_or}
 use Rattle.definition.specs.Lists.{choose, filter, flat_map, firsts, written}
 use Rattle.definition.specs.Cards.{is_root}
 use Rattle.definition.specs.Catalogue.{Component, Row, row, component_row, is_component_of}
 use Rattle.definition.specs.Outcomes.{words_of_row}
+use Rattle.component.specs.declared.Row.{Row as CodeRow}
+use Rattle.component.specs.declared.Rows.{Rows}
 
 pub record Filled : Type 0 where
   pub rows : List ℕ
@@ -20,6 +22,21 @@ Fits rows s = 3 * s.used ≤ length rows
 unfoldable pub pushed : List Row → Filled → Filled
 pushed rs s = filled (written s.rows (3 * s.used) (flat_map words_of_row rs)) (s.used + length rs)
 
+-- ---- The code's rows: what they hold, whether a step has room, and what a step makes of them, in the slice that was lent.
+
+abbrev pub row_of : CodeRow → Row
+row_of r = row r.what r.card r.origin
+
+abbrev pub filled_of : Rows → Filled
+filled_of r = filled r.words.now r.used
+
+abbrev pub HasRoom : Rows → (Filled → Filled) → Type 0
+HasRoom r step = Fits r.words.now (step (filled_of r))
+
+pub record Becomes (before after : Rows) (step : Filled → Filled) : Type 0 where
+  pub same_slice : after.words.ghost_name ≡ before.words.ghost_name
+  pub rows_are : filled_of after ≡ step (filled_of before)
+
 -- The row at a place, n rows from a place on, and the used rows from a place on.
 unfoldable pub row_in : List ℕ → ℕ → Row
 row_in ws i = row (get_or ws (3 * i) 0) (get_or ws (3 * i + 1) 0) (get_or ws (3 * i + 2) 0)
@@ -31,10 +48,10 @@ rows_from ws i (suc n) = row_in ws i ∷ rows_from ws (i + 1) n
 unfoldable pub used_from : ℕ → Filled → List Row
 used_from start s = rows_from s.rows start (s.used - start)
 
--- The place of the first of these rows that passes, where the first of them has the place i; `none` where there is none.
-unfoldable pub place_of : (Row → Bool) → ℕ → ℕ → List Row → ℕ
-place_of p none i [] = none
-place_of p none i (r ∷ rs) = let next = place_of p none (i + 1) rs in choose (p r) i next
+-- The place of the first of these rows that passes, where the first of them has the place i.
+unfoldable pub place_of : (Row → Bool) → ℕ → List Row → Option ℕ
+place_of p i [] = None
+place_of p i (r ∷ rs) = let next = place_of p (i + 1) rs in choose (p r) (Some i) next
 
 -- ---- The first of a name stays, asked of rows: `same` says of two cards, by their numbers, whether they have one name.
 

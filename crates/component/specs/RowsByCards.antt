@@ -56,11 +56,6 @@ is_matching text words ext owner n = is_of ext (card_name text words owner) (hea
 unfoldable pub matching : List ℕ → List ℕ → List ℕ → ℕ → List ℕ
 matching text words ns card = filter (is_matching text words (extension_kind words card) card) ns
 
--- An array whose first r words are those of the extensions.
-pub record Matched (text words extensions : List ℕ) (card : ℕ) (mine : List ℕ) (r : ℕ) : Type 0 where
-  pub count_most : r ≤ length extensions
-  pub cards_are : take r mine ≡ matching text words extensions card
-
 -- The parts of kind k that extensions bring.
 unfoldable pub extension_rows_at : List ℕ → List ℕ → ℕ → ℕ → List Row
 extension_rows_at text words k n = head_rows text words n k n

@@ -2,167 +2,143 @@
 #![tactic(auto)]
 
 ghost use Rattle.std.specs.Prelude.{◌≡◌, ◌∷◌, [], ◌+◌, ◌*◌, ◌≤◌, ◌<◌, length};
-ghost use Rattle.definition.specs.Lists.{written};
-ghost use Rattle.definition.specs.Catalogue.{row};
-ghost use Rattle.definition.specs.Outcomes.{words_of_row};
 ghost use Rattle.definition.specs.Store.{cards_used_of};
-ghost use Rattle.from_ast_index.specs.Index.{Hashed};
-ghost use Rattle.component.specs.Pushed.{filled, Fits, pushed, used_from, place_of, alike_rows};
+ghost use Rattle.component.specs.Pushed.{filled_of, row_of, HasRoom, Becomes, pushed, used_from, place_of, alike_rows, row_in};
 ghost use Rattle.component.specs.RowsByCards.{same_stored, extend_by_row, extend_by_card, extend_by_heading};
 
 use ast::kinds;
 use definition::layout::ROW_WORDS;
+use from_ast_index::Collection;
 
-// Writes a row into the lent part, which begins at the unused end.
-fn write_row(what: u32, card: u32, origin: u32, rest: &mut [u32])
-    requires { 3 ≤ length rest.old }
-    ensures { rest.new ≡ written rest.old 0 (words_of_row (row what card origin)) }
-{
-    rest[0] = what;
-    rest[1] = card;
-    rest[2] = origin;
+// One row: what it is, whose card it has, and the extension that brought it, or `-`.
+#[derive(Clone, Copy)]
+pub struct Row {
+    pub what: u32,
+    pub card: u32,
+    pub origin: u32,
 }
 
-// Pushes a row after those used, and hands back how many are used then.
-pub fn push_row(what: u32, card: u32, origin: u32, rows: &mut [u32], used: usize) -> usize
-    requires { 3 * (used + 1) ≤ length rows.old }
-    ensures { filled rows.new result
-        ≡ pushed (row what card origin ∷ []) (filled rows.old used) }
-{
-    let at = ROW_WORDS * used;
-    write_row(what, card, origin, &mut rows[at..]);
-    used + 1
+// Rows in a lent slice, of which the first ones are used.
+#[derive(Drop)]
+pub struct Rows<'a> {
+    pub words: &'a mut [u32],
+    pub used: usize,
 }
 
 // Whether two numbers are those of stored cards with one name. A row's card is not trusted to be stored: a default root has none.
-fn same_stored(text: &[u8], words: &[u32], hashes: &[u32], a: u32, b: u32) -> bool
-    requires { Hashed text.now words.now hashes.now }
-    ensures { result ≡ same_stored text.now words.now a b }
+#[tactic(auto, using(crate::proofs::Turns::stored_not_first, crate::proofs::Turns::stored_not_second, crate::proofs::Turns::stored_both))]
+fn same_stored(collection: &Collection, a: u32, b: u32) -> bool
+    ensures { result ≡ same_stored collection.now.text.now collection.now.words.now a b }
 {
-    let card_count = store_reader::cards_used(words);
-    if card_count <= a as usize {
-        return false;
-    }
-    if card_count <= b as usize {
-        return false;
-    }
-    from_ast_index::same_cards(text, words, hashes, a, b)
+    let used = collection.cards_used();
+    (a as usize) < used && (b as usize) < used && collection.same_name(a, b)
 }
 
-// The place of the first row of a list that a part is like, a root of its kind or a part of its kind and name; `used` where there is none.
-// Directive uses all stay.
-fn find_alike(
-    text: &[u8],
-    words: &[u32],
-    hashes: &[u32],
-    rows: &[u32],
-    start: usize,
-    used: usize,
-    kind: u32,
-    card: u32,
-) -> usize
-    requires { Hashed text.now words.now hashes.now
-        × (3 * used ≤ length rows.now) }
+// Whether the second row is like the first, which is no directive use: a root of its kind, or a part of its kind and name.
+#[tactic(auto, using(crate::proofs::Turns::alike_root, crate::proofs::Turns::alike_part, crate::proofs::Turns::alike_other))]
+fn is_alike(collection: &Collection, a: Row, b: Row) -> bool
+    requires { a.what ≡ 20 → ⊥ }
     ensures { result
-        ≡ place_of (alike_rows (same_stored text.now words.now) (row kind card 0)) used start
-        (used_from start (filled rows.now used)) }
+        ≡ alike_rows (same_stored collection.now.text.now collection.now.words.now) (row_of a) (row_of b) }
 {
-    if kind == kinds::DIRECTIVE {
-        return used;
+    a.what == b.what && (kinds::is_root(a.what) || same_stored(collection, a.card, b.card))
+}
+
+impl<'a> Rows<'a> {
+    // Pushes a row after those used.
+    pub fn push(&mut self, row: Row)
+        requires { 3 * (self.old.used + 1) ≤ length self.old.words.now }
+        ensures { Becomes self.old self.new (pushed (row_of row ∷ [])) }
+    {
+        let at = ROW_WORDS * self.used;
+        self.words[at..at + ROW_WORDS].copy_from_slice(&[row.what, row.card, row.origin]);
+        self.used += 1;
     }
-    let mut i = start;
-    while i < used {
-        if rows[ROW_WORDS * i] == kind {
-            if kinds::is_root(kind) {
-                return i;
-            }
-            if same_stored(text, words, hashes, card, rows[ROW_WORDS * i + 1]) {
-                return i;
+
+    #[tactic(auto, unfolding(crate::specs::Pushed::row_in))]
+    fn row(&self, place: usize) -> Row
+        requires { 3 * (place + 1) ≤ length self.now.words.now }
+        ensures { row_of result ≡ row_in self.now.words.now place }
+    {
+        let at = ROW_WORDS * place;
+        Row {
+            what: self.words[at],
+            card: self.words[at + 1],
+            origin: self.words[at + 2],
+        }
+    }
+
+    // The place of the first row that a row is like, in the list from `start` on. Directive uses all stay.
+    #[tactic(auto, using(crate::proofs::Turns::alike_use, crate::proofs::Turns::alike_here, crate::proofs::Turns::alike_next, crate::proofs::Turns::alike_end), unfolding(crate::specs::Pushed::used_from))]
+    fn find_alike(&self, collection: &Collection, start: usize, row: Row) -> Option<usize>
+        requires { 3 * self.now.used ≤ length self.now.words.now }
+        ensures { result
+            ≡ place_of (alike_rows (same_stored collection.now.text.now collection.now.words.now) (row_of row)) start
+            (used_from start (filled_of self.now)) }
+    {
+        if row.what == kinds::DIRECTIVE {
+            return None;
+        }
+        for place in start..self.used {
+            if is_alike(collection, row, self.row(place)) {
+                return Some(place);
             }
         }
-        i += 1;
+        None
     }
-    used
-}
 
-// Pushes a part unless its list has one like it: the first stays.
-pub fn extend_sticky(
-    text: &[u8],
-    words: &[u32],
-    hashes: &[u32],
-    kind: u32,
-    card: u32,
-    origin: u32,
-    rows: &mut [u32],
-    start: usize,
-    used: usize,
-) -> usize
-    requires { Hashed text.now words.now hashes.now
-        × Fits rows.old (extend_by_row text.now words.now (row kind card origin) start (filled rows.old used)) }
-    ensures { filled rows.new result
-        ≡ extend_by_row text.now words.now (row kind card origin) start
-        (filled rows.old used) }
-{
-    let place = find_alike(text, words, hashes, rows, start, used, kind, card);
-    if place < used {
-        return used;
-    }
-    push_row(kind, card, origin, rows, place)
-}
-
-// Extends a list of parts of one kind by a card, if the card is of that kind.
-fn extend_part(
-    text: &[u8],
-    words: &[u32],
-    hashes: &[u32],
-    kind: u32,
-    card: u32,
-    origin: u32,
-    rows: &mut [u32],
-    start: usize,
-    used: usize,
-) -> usize
-    requires { Hashed text.now words.now hashes.now
-        × Fits rows.old (extend_by_card text.now words.now origin kind card start (filled rows.old used)) }
-    ensures { filled rows.new result
-        ≡ extend_by_card text.now words.now origin kind card start
-        (filled rows.old used) }
-{
-    if store_reader::card_kind(words, card as usize) != kind {
-        return used;
-    }
-    extend_sticky(text, words, hashes, kind, card, origin, rows, start, used)
-}
-
-// Extends a list by the parts of its kind under a heading.
-pub fn extend_ast(
-    text: &[u8],
-    words: &[u32],
-    hashes: &[u32],
-    kind: u32,
-    heading: u32,
-    origin: u32,
-    rows: &mut [u32],
-    start: usize,
-    used: usize,
-) -> usize
-    requires { Hashed text.now words.now hashes.now
-        × (heading < cards_used_of words.now)
-        × (start ≤ used)
-        × Fits rows.old (extend_by_heading text.now words.now origin kind heading start (filled rows.old used)) }
-    ensures { filled rows.new result
-        ≡ extend_by_heading text.now words.now origin kind heading start
-        (filled rows.old used) }
-{
-    let card_count = store_reader::cards_used(words);
-    let mut next = used;
-    let mut card = heading + 1;
-    while (card as usize) < card_count {
-        if !kinds::is_part(store_reader::card_kind(words, card as usize)) {
-            return next;
+    // Pushes a part unless the list from `start` on has one like it: the first stays.
+    pub fn extend_sticky(&mut self, collection: &Collection, start: usize, row: Row)
+        requires { HasRoom self.old
+            (extend_by_row collection.now.text.now collection.now.words.now (row_of row) start) }
+        ensures { Becomes self.old self.new
+            (extend_by_row collection.now.text.now collection.now.words.now (row_of row) start) }
+    {
+        let place = self.find_alike(collection, start, row);
+        if place.is_some() {
+            return;
         }
-        next = extend_part(text, words, hashes, kind, card, origin, rows, start, next);
-        card += 1;
+        self.push(row);
     }
-    next
+
+    // Extends a list of parts of one kind by a card, if the card is of that kind.
+    fn extend_part(&mut self, collection: &Collection, start: usize, row: Row)
+        requires { HasRoom self.old
+            (extend_by_card collection.now.text.now collection.now.words.now row.origin row.what row.card start) }
+        ensures { Becomes self.old self.new
+            (extend_by_card collection.now.text.now collection.now.words.now row.origin row.what row.card start) }
+    {
+        if collection.kind(row.card) == row.what {
+            self.extend_sticky(collection, start, row);
+        }
+    }
+
+    // Extends a list by the parts of its kind under a heading.
+    pub fn extend_ast(
+        &mut self,
+        collection: &Collection,
+        start: usize,
+        kind: u32,
+        heading: u32,
+        origin: u32,
+    )
+        requires stored { heading < cards_used_of collection.now.words.now }
+        requires begun { start ≤ self.old.used }
+        requires room { HasRoom self.old
+            (extend_by_heading collection.now.text.now collection.now.words.now origin kind heading start) }
+        ensures { Becomes self.old self.new
+            (extend_by_heading collection.now.text.now collection.now.words.now origin kind heading start) }
+    {
+        for card in heading + 1..collection.cards_used() as u32 {
+            if !kinds::is_part(collection.kind(card)) {
+                return;
+            }
+            let row = Row {
+                what: kind,
+                card,
+                origin,
+            };
+            self.extend_part(collection, start, row);
+        }
+    }
 }

@@ -16,7 +16,7 @@ use Rattle.definition.specs.Account.{Account}
 use Rattle.definition.specs.Refusals.{text_held, cards_held, text_capacity, document_capacity, card_capacity, zero_fault, refuse, document, capacity_refusal}
 use Rattle.definition.specs.Refusals.{opening_refusal, filing_refusal}
 use Rattle.definition.specs.Store.{zero_sound}
-use Rattle.definition.proofs.Tests.{zero_one, chosen_some, or_else_none, refuse_none}
+use Rattle.definition.proofs.Tests.{chosen_some, or_else_none, refuse_none}
 use Rattle.definition.proofs.All.{all_append}
 use Rattle.definition.proofs.CleanCards.{Faultless}
 use Rattle.definition.proofs.StoreLayout.{text_held_joined, cards_held_joined}
@@ -58,7 +58,7 @@ opening_admits text ws e =
 
 zero_joined : (ds es : List Document) → zero_sound ds ≡ true → zero_sound (ds ++ es) ≡ true
 unfolding zero_sound
-zero_joined [] es e = absurd (zero_one cc)
+zero_joined [] es e = absurd cc
 zero_joined (d ∷ ds) es e = e
 
 pub filing_admits : (a : Account) (text ws : List ℕ) → Admitted a.documents → filing_refusal a text ws ≡ none →

@@ -4,7 +4,6 @@ use mathlib.Core.List.{List, [], ◌∷◌, ◌++◌, map}
 use mathlib.Core.Bool.{Bool, true, false}
 use mathlib.Core.Option.{some}
 use Rattle.definition.specs.Lists.{All, choose, filter, any, all, find, take_until, flat_map, firsts}
-use Rattle.definition.proofs.Tests.{zero_one}
 use Rattle.definition.proofs.Lists.{flat_map_nil, flat_map_cons, filter_nil, filter_yes, filter_no, first_nil, first_yes, first_no, any_nil, any_yes}
 use Rattle.definition.proofs.Lists.{any_no, before_nil, before_yes, before_no, firsts_nil, firsts_old, firsts_new, split}
 
@@ -82,7 +81,7 @@ module _ {ℓ} {A : Type ℓ} (p : A → Bool) where
     where
       go : (b : Bool) → p x ≡ b → choose b (all p xs) false ≡ true → (all p xs ≡ true → All (λ x. p x ≡ true) xs) → All (λ x. p x ≡ true) (x ∷ xs)
       go true q e ih = (q, ih e)
-      go false q e ih = let z : false ≡ true = e in absurd (zero_one cc)
+      go false q e ih = let z : false ≡ true = e in absurd cc
 
   pub any_none : (xs : List A) → All (λ x. p x ≡ false) xs → any p xs ≡ false
   any_none [] a = any_nil p

@@ -14,7 +14,7 @@ use Rattle.definition.specs.Cards.{Card, Place, is_part, is_unnamed, item_end, n
 use Rattle.definition.specs.Cards.{item_outside_heading, name_amiss, name_outside_item, name_no_name, name_not_item, misplaced, fault, faults, fault_among}
 use Rattle.definition.specs.Cards.{place_after, fault_from, card_fault}
 use Rattle.definition.specs.Headings.{Document}
-use Rattle.definition.proofs.Tests.{zero_one, and_true, or_false, chosen_none, chosen_zero}
+use Rattle.definition.proofs.Tests.{and_true, or_false, chosen_none, chosen_zero}
 
 -- A document whose cards have none of the faults 2 to 5, 27 and 28.
 abbrev pub Faultless : Document → Type 0
@@ -130,7 +130,7 @@ module _ (bytes : List ℕ) (base size i : ℕ) (h s : Option Card) (c : Card) (
 -- Each card's name lies in its document's text.
 names_within : (own : List ℕ) (size i : ℕ) (h s : Option Card) (cs : List Card) → fault_from own 0 size i h s cs ≡ none →
     (n : ℕ) (c : Card) → get_elem? cs n ≡ some c → c.name_at + c.name_len ≤ size
-names_within own size i h s [] e n c g = absurd (zero_one cc)
+names_within own size i h s [] e n c g = absurd cc
 names_within own size i h s (c ∷ cs) e n d g = go n g (is_part c.kind) refl (names_within own size (i + 1) h (some c) cs)
     (names_within own size (i + 1) (some c) none cs)
   where

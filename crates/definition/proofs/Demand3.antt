@@ -20,7 +20,6 @@ use Rattle.definition.specs.Runs.{Accepted, Holds, Start, store_left, first_stor
 use Rattle.definition.specs.Growth.{rows_of, reading_errors_of, Grown, OrderKept}
 use Rattle.definition.specs.Demands.{OpeningHolds, FilingHolds, AdoptingHolds, IgnoringHolds, Agrees, RunsAgree, StoreHoldsAccount, NeverArise}
 use Rattle.definition.specs.Demands.{OpensAnew, Growing, GroupsKeepOrder, BuiltRowsPass, Bounded, BuildsBounded, Demand3}
-use Rattle.definition.proofs.Tests.{zero_one}
 use Rattle.definition.proofs.StoreHolds.{account_held, long_held, sound_held, opening_held, filing_held, adopting_held, ignoring_held}
 use Rattle.definition.proofs.StoreAgrees.{HoldsIn, agree, holds_after, same as account-same, sound as store_sound}
 use Rattle.definition.proofs.StoreSound.{unrefused_holds}
@@ -190,7 +189,7 @@ module _ (b : Start) (calls : List Call) where
       go : (t : Bool) → eqb k j ≡ t → ⊥
       go true e =
           let z : get_elem? calls j ≡ some (opening q.text q.cards) = rw (eqb-true k j e) at q.call in
-          zero_one (cc d.call)
+          cc d.call
       go false e = let w = eqb-false k j e in n k u (omega arith) q
 
   between : (i j : ℕ) → i < j → NoneOpenedBetween (first_store b) calls i j →

@@ -6,6 +6,7 @@ pub mod Lists
 pub mod All
 pub mod Sums
 pub mod Within
+pub mod StdLists
 -- Headings of documents, and cards as they are stored.
 pub mod AddedHeadings
 pub mod DocumentHeadings

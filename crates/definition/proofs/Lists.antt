@@ -5,11 +5,9 @@ use mathlib.Core.Bool.{Bool, true, false, ◌&&◌, ◌||◌}
 use mathlib.Core.Option.{Option, none, some}
 use Prim.Native.Nat.{ℕ}
 use Rattle.definition.specs.Lists.{Prefix, filter, any, find, take_until, flat_map, firsts, repeats}
-use Rattle.definition.specs.declared.NameOrder.{NameOrder}
-use Rattle.definition.specs.declared.NameOrder.TheVariants.{Before, Equal, After}
-use Rattle.definition.specs.Names.{compare_names, is_equal, same_name}
+use Rattle.std.proofs.Common.{Ordering, Less, Equal, Greater, is_eq}
+use Rattle.definition.specs.Names.{compare_names, same_name}
 use Rattle.definition.proofs.NamesInOrder.{equal_names, equal_itself}
-use Rattle.definition.proofs.Tests.{zero_one}
 
 module _ {ℓ κ} {A : Type ℓ} {B : Type κ} where
   pub map_append : (f : A → B) (xs ys : List A) → map f (xs ++ ys) ≡ map f xs ++ map f ys
@@ -257,7 +255,7 @@ module _ {ℓ} {A : Type ℓ} (p : A → Bool) where
     pub passes : p y ≡ true
 
   pub split : (xs : List A) (y : A) → find p xs ≡ some y → Split xs y
-  split [] y h = absurd (zero_one (cc (first_nil p)))
+  split [] y h = absurd (cc (first_nil p))
   split (x ∷ xs) y h = go (p x) refl (split xs y)
     where
       go : (b : Bool) → p x ≡ b → (find p xs ≡ some y → Split xs y) → Split (x ∷ xs) y
@@ -332,14 +330,14 @@ pub same_name_eq : (m n : List ℕ) → same_name m n ≡ true → m ≡ n
 unfolding same_name
 same_name_eq m n h = go (compare_names m n) refl h
   where
-    go : (o : NameOrder) → compare_names m n ≡ o → is_equal o ≡ true → m ≡ n
-    go Before e f = let z : false ≡ true = f in cc
+    go : (o : Ordering) → compare_names m n ≡ o → is_eq o ≡ true → m ≡ n
+    go Less e f = cc
     go Equal e f = equal_names m n e
-    go After e f = let z : false ≡ true = f in cc
+    go Greater e f = cc
 
 pub same_name_refl : (n : List ℕ) → same_name n n ≡ true
 unfolding same_name
-same_name_refl n = ap is_equal (equal_itself n)
+same_name_refl n = ap is_eq (equal_itself n)
 
 module _ {ℓ κ} {A : Type ℓ} {B : Type κ} (p : B → Bool) (f : A → B) where
   pub first_map_some : (xs : List A) (y : A) → find (λ x. p (f x)) xs ≡ some y → find p (map f xs) ≡ some (f y)

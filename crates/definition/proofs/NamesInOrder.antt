@@ -5,123 +5,71 @@ use mathlib.Core.Bool.{Bool, true, false}
 use mathlib.Core.Logic.{◌⊎◌, inl, inr}
 use Prim.Native.Nat.{ℕ, ◌<◌}
 use native.Mathlib.Omega.{arith}
-use borrow.Author.Tests.{lt-ltb, le-ltb, ltb-true, ltb-false}
-use lib.Dec.{ltb}
-use Rattle.definition.specs.declared.NameOrder.{NameOrder}
-use Rattle.definition.specs.declared.NameOrder.TheVariants.{Before, Equal, After}
+use borrow.Author.Tests.{lt-ltb, ltb-true, ltb-false, eqb-true, eqb-false}
+use lib.Dec.{ltb, eqb}
+use Rattle.std.proofs.Common.{Ordering, Less, Equal, Greater, nat_cmp, cond}
+use Rattle.std.specs.Ordering.{ordering_reverse, ordering_then}
+use Rattle.std.specs.Cmp.Lexicographic.{slice_cmp}
+use Rattle.std.proofs.lemmas.Cmp.{tied_itself, nat_cmp_total, nat_list_cmp_total}
+use Rattle.std.proofs.lemmas.Map.Lookups.{exact_bytes}
 use Rattle.definition.specs.Lists.{choose}
 use Rattle.definition.specs.Names.{compare_names}
-use Rattle.definition.specs.NameOrders.{reversed, NamesOrdered}
+use Rattle.definition.specs.NameOrders.{NamesOrdered}
 
-irreflexive : (a : ℕ) → ltb a a ≡ false
-irreflexive a = le-ltb a a (omega arith)
-
-byte_decides : (p xs ys : List ℕ) (a b : ℕ) → a < b → compare_names (p ++ (a ∷ xs)) (p ++ (b ∷ ys)) ≡ Before
+-- The order of names is std's order of lists of numbers.
+pub names_by_std : (m n : List ℕ) → compare_names m n ≡ slice_cmp nat_cmp m n
 unfolding compare_names
+names_by_std [] [] = refl
+names_by_std [] (b ∷ ys) = refl
+names_by_std (a ∷ xs) [] = refl
+names_by_std (a ∷ xs) (b ∷ ys) = go (ltb a b) (ltb b a) (eqb a b) refl refl refl (names_by_std xs ys)
+  where
+    go : (s t u : Bool) → ltb a b ≡ s → ltb b a ≡ t → eqb a b ≡ u → compare_names xs ys ≡ slice_cmp nat_cmp xs ys →
+        choose s Less (choose t Greater (compare_names xs ys)) ≡ ordering_then (cond s Less (cond u Equal Greater)) (slice_cmp nat_cmp xs ys)
+    go true t u e f g ih = refl
+    go false true true e f g ih = absurd (omega (arith, ltb-true b a f, eqb-true a b g))
+    go false true false e f g ih = refl
+    go false false true e f g ih = ih
+    go false false false e f g ih = absurd (omega (arith, ltb-false a b e, ltb-false b a f, eqb-false a b g))
+
+byte_decides : (p xs ys : List ℕ) (a b : ℕ) → a < b → slice_cmp nat_cmp (p ++ (a ∷ xs)) (p ++ (b ∷ ys)) ≡ Less
 byte_decides [] xs ys a b h = rw (lt-ltb a b h)
-byte_decides (c ∷ p) xs ys a b h = rw (irreflexive c) (byte_decides p xs ys a b h)
+byte_decides (c ∷ p) xs ys a b h = rw (tied_itself nat_cmp_total c) (byte_decides p xs ys a b h)
 
-shorter_before : (p ys : List ℕ) (b : ℕ) → compare_names p (p ++ (b ∷ ys)) ≡ Before
-unfolding compare_names
+shorter_before : (p ys : List ℕ) (b : ℕ) → slice_cmp nat_cmp p (p ++ (b ∷ ys)) ≡ Less
 shorter_before [] ys b = refl
-shorter_before (c ∷ p) ys b = rw (irreflexive c) (shorter_before p ys b)
-
--- What two names that begin with a byte compare as tells of the bytes.
-not_both : Before ≡ Equal → ⊥
-not_both e = let z : ◌≡◌ {A = ℕ} 0 1 = cc in omega arith
-
-not_after : After ≡ Equal → ⊥
-not_after e = let z : ◌≡◌ {A = ℕ} 0 1 = cc in omega arith
-
-after_not : After ≡ Before → ⊥
-after_not e = let z : ◌≡◌ {A = ℕ} 0 1 = cc in omega arith
+shorter_before (c ∷ p) ys b = rw (tied_itself nat_cmp_total c) (shorter_before p ys b)
 
 pub equal_names : (m n : List ℕ) → compare_names m n ≡ Equal → m ≡ n
-unfolding compare_names
-equal_names [] [] e = refl
-equal_names [] (b ∷ ys) e = absurd (not_both e)
-equal_names (a ∷ xs) [] e = absurd (not_after e)
-equal_names (a ∷ xs) (b ∷ ys) e = go (ltb a b) refl (ltb b a) refl (equal_names xs ys) e
-  where
-    go : (s : Bool) → ltb a b ≡ s → (t : Bool) → ltb b a ≡ t → (compare_names xs ys ≡ Equal → xs ≡ ys) →
-        choose s Before (choose t After (compare_names xs ys)) ≡ Equal → ◌≡◌ {A = List ℕ} (a ∷ xs) (b ∷ ys)
-    go true p t q ih f = absurd (not_both f)
-    go false p true q ih f = absurd (not_after f)
-    go false p false q ih f =
-        let i : a ≡ b = omega (arith, ltb-false a b p, ltb-false b a q) in
-        let j : xs ≡ ys = ih f in
-        cc
+equal_names m n e = exact_bytes m n (sym (names_by_std m n) ∙ e)
 
 pub equal_itself : (n : List ℕ) → compare_names n n ≡ Equal
-unfolding compare_names
-equal_itself [] = refl
-equal_itself (a ∷ xs) = rw (irreflexive a) (equal_itself xs)
+equal_itself n = names_by_std n n ∙ tied_itself nat_list_cmp_total n
 
-reverse_names : (m n : List ℕ) → compare_names n m ≡ reversed (compare_names m n)
-unfolding compare_names
-reverse_names [] [] = refl
-reverse_names [] (b ∷ ys) = refl
-reverse_names (a ∷ xs) [] = refl
-reverse_names (a ∷ xs) (b ∷ ys) = go (ltb a b) refl (ltb b a) refl (reverse_names xs ys)
-  where
-    go : (s : Bool) → ltb a b ≡ s → (t : Bool) → ltb b a ≡ t → compare_names ys xs ≡ reversed (compare_names xs ys) →
-        choose t Before (choose s After (compare_names ys xs)) ≡ reversed (choose s Before (choose t After (compare_names xs ys)))
-    go true p true q ih = absurd (omega (arith, ltb-true a b p, ltb-true b a q))
-    go true p false q ih = refl
-    go false p true q ih = refl
-    go false p false q ih = ih
+reverse_names : (m n : List ℕ) → compare_names n m ≡ ordering_reverse (compare_names m n)
+reverse_names m n = names_by_std n m ∙ nat_list_cmp_total.antisymm n m ∙ ap ordering_reverse (sym (names_by_std m n))
 
--- Before: a smaller byte, or the same byte and the rest before.
-pub record Less (a b : ℕ) (xs ys : List ℕ) : Type 0 where
-  pub told : (a < b) ⊎ ((a ≡ b) × (compare_names xs ys ≡ Before))
+transitive_names : (l m n : List ℕ) → compare_names l m ≡ Less → compare_names m n ≡ Less → compare_names l n ≡ Less
+transitive_names l m n e f = names_by_std l n ∙ nat_list_cmp_total.trans l m n (sym (names_by_std l m) ∙ e) (sym (names_by_std m n) ∙ f)
 
-less : (a b : ℕ) (xs ys : List ℕ) → compare_names (a ∷ xs) (b ∷ ys) ≡ Before → Less a b xs ys
-unfolding compare_names
-less a b xs ys e = go (ltb a b) refl (ltb b a) refl e
-  where
-    go : (s : Bool) → ltb a b ≡ s → (t : Bool) → ltb b a ≡ t → choose s Before (choose t After (compare_names xs ys)) ≡ Before → Less a b xs ys
-    go true p t q f = record { told = inl (ltb-true a b p) }
-    go false p true q f = absurd (after_not f)
-    go false p false q f = record { told = inr (omega (arith, ltb-false a b p, ltb-false b a q), f) }
-
-same_first : (a b : ℕ) (xs ys : List ℕ) → a ≡ b → compare_names xs ys ≡ Before → compare_names (a ∷ xs) (b ∷ ys) ≡ Before
-unfolding compare_names
-same_first a b xs ys e f = rw (le-ltb a b (omega arith), le-ltb b a (omega arith)) f
-
-transitive_names : (l m n : List ℕ) → compare_names l m ≡ Before → compare_names m n ≡ Before → compare_names l n ≡ Before
-unfolding compare_names
-transitive_names [] [] n e f = absurd (not_both (sym e))
-transitive_names [] (b ∷ m) [] e f = absurd (after_not f)
-transitive_names [] (b ∷ m) (c ∷ n) e f = refl
-transitive_names (a ∷ l) [] n e f = absurd (after_not e)
-transitive_names (a ∷ l) (b ∷ m) [] e f = absurd (after_not f)
-transitive_names (a ∷ l) (b ∷ m) (c ∷ n) e f = go (less a b l m e).told (less b c m n f).told (transitive_names l m n)
-  where
-    go : (a < b) ⊎ ((a ≡ b) × (compare_names l m ≡ Before)) → (b < c) ⊎ ((b ≡ c) × (compare_names m n ≡ Before)) →
-        (compare_names l m ≡ Before → compare_names m n ≡ Before → compare_names l n ≡ Before) → compare_names (a ∷ l) (c ∷ n) ≡ Before
-    go (inl p) (inl q) ih = byte_decides [] l n a c (omega arith)
-    go (inl p) (inr q) ih = byte_decides [] l n a c (omega (arith, q.0))
-    go (inr p) (inl q) ih = byte_decides [] l n a c (omega (arith, p.0))
-    go (inr p) (inr q) ih = same_first a c l n (p.0 ∙ q.0) (ih p.1 q.1)
-
-one_holds_lem : (m n : List ℕ) → (compare_names m n ≡ Before) ⊎ ((m ≡ n) ⊎ (compare_names n m ≡ Before))
+one_holds_lem : (m n : List ℕ) → (compare_names m n ≡ Less) ⊎ ((m ≡ n) ⊎ (compare_names n m ≡ Less))
 one_holds_lem m n = go (compare_names m n) refl
   where
-    go : (o : NameOrder) → compare_names m n ≡ o → (compare_names m n ≡ Before) ⊎ ((m ≡ n) ⊎ (compare_names n m ≡ Before))
-    go Before e = inl e
+    go : (o : Ordering) → compare_names m n ≡ o → (compare_names m n ≡ Less) ⊎ ((m ≡ n) ⊎ (compare_names n m ≡ Less))
+    go Less e = inl e
     go Equal e = inr (inl (equal_names m n e))
-    go After e = inr (inr (reverse_names m n ∙ ap reversed e))
+    go Greater e = inr (inr (reverse_names m n ∙ ap ordering_reverse e))
 
-no_two_lem : (m n : List ℕ) → compare_names m n ≡ Before → (m ≡ n → ⊥) × (compare_names n m ≡ Before → ⊥)
+no_two_lem : (m n : List ℕ) → compare_names m n ≡ Less → (m ≡ n → ⊥) × (compare_names n m ≡ Less → ⊥)
 no_two_lem m n e = (
-  (λ f. not_both (sym e ∙ (rw f (equal_itself n)))),
-  (λ f. after_not (ap reversed (sym e) ∙ sym (reverse_names m n) ∙ f)),
+  (λ f. let g : compare_names m n ≡ Equal = rw f (equal_itself n) in cc),
+  (λ f. let g : Greater ≡ Less = ap ordering_reverse (sym e) ∙ sym (reverse_names m n) ∙ f in cc),
 )
 
 pub names_ordered : NamesOrdered
 names_ordered = record {
-  byte = byte_decides;
-  shorter = shorter_before;
+  byte = λ p xs ys a b h. names_by_std (p ++ (a ∷ xs)) (p ++ (b ∷ ys)) ∙ byte_decides p xs ys a b h;
+  shorter = λ p ys b. names_by_std p (p ++ (b ∷ ys)) ∙ shorter_before p ys b;
   equal = equal_names;
   itself = equal_itself;
   reverse = reverse_names;

@@ -17,14 +17,13 @@ use Rattle.definition.specs.Account.{Account}
 use Rattle.definition.specs.LentRows.{cards_named, held_from, held, lent_rows, name_numbered, rows_refusal}
 use Rattle.definition.specs.Lookups.{Span, span, span_in, root_card, root_row, root_span}
 use Rattle.definition.specs.Outcomes.{RootName, no_root, root_bytes, root_of, part_of}
-use Rattle.definition.proofs.Tests.{zero_one}
 use Rattle.definition.proofs.CleanCards.{Faultless, name_in_text}
 use Rattle.definition.proofs.StoreLayout.{text_of, bytes_inside, text_here, text_next, length_next}
 
 named_here : (t : List ℕ) (k : ℕ) (cs : List Card) (rest : List NamedCard) (n : ℕ) (c : Card) → get_elem? cs n ≡ some c →
     name_numbered (cards_named t k cs ++ rest) n ≡ bytes_at t c.name_at c.name_len
 unfolding name_numbered cards_named named_card name_of
-named_here t k [] rest n c e = absurd (zero_one cc)
+named_here t k [] rest n c e = absurd cc
 named_here t k (x ∷ cs) rest zero c e = let same : x ≡ c = cc in ap (λ (x : Card). bytes_at t x.name_at x.name_len) same
 named_here t k (x ∷ cs) rest (suc n) c e = named_here t (k + 1) cs rest n c e
 
@@ -32,7 +31,7 @@ named_later : (t : List ℕ) (k : ℕ) (cs : List Card) (rest : List NamedCard) 
     name_numbered (cards_named t k cs ++ rest) n ≡ name_numbered rest (n - length cs)
 unfolding name_numbered cards_named
 named_later t k [] rest n e = ap (name_numbered rest) (sym (sub-zero n))
-named_later t k (x ∷ cs) rest zero e = absurd (zero_one cc)
+named_later t k (x ∷ cs) rest zero e = absurd cc
 named_later t k (x ∷ cs) rest (suc n) e = named_later t (k + 1) cs rest n e ∙ ap (name_numbered rest) (sym (suc-sub-suc n (length cs)))
 
 span_here : (at : ℕ) (d : Document) (ds : List Document) (n : ℕ) (c : Card) → get_elem? d.cards n ≡ some c →

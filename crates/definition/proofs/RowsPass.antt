@@ -18,7 +18,7 @@ use Rattle.definition.specs.Refusals.{cards_held, card_capacity}
 use Rattle.definition.specs.LentRows.{held, is_type_row, first_type_row, is_default_root, same_card, cards_once, wanted_kind, card_passes, cards_pass, origin_passes}
 use Rattle.definition.specs.LentRows.{origins_pass, default_root_passes, default_roots_pass, row_clauses, passes, rows_refusal}
 use Rattle.definition.specs.Outcomes.{words_of_row}
-use Rattle.definition.proofs.Tests.{zero_one, and_true}
+use Rattle.definition.proofs.Tests.{and_true}
 use Rattle.definition.proofs.Lists.{repeats_nil, repeats_new, split}
 use Rattle.definition.proofs.All.{all_to, all_pass}
 use Rattle.definition.proofs.Sums.{sum, gate, sum_append, count}
@@ -36,7 +36,7 @@ abbrev pub Has : List NamedCard → ℕ → ℕ → Type 0
 Has ps k i = (c : NamedCard) × (get_elem? ps i ≡ some c) × (c.kind ≡ k)
 
 elem_bound : (ps : List NamedCard) (i : ℕ) (c : NamedCard) → get_elem? ps i ≡ some c → i < length ps
-elem_bound [] i c e = absurd (zero_one cc)
+elem_bound [] i c e = absurd cc
 elem_bound (p ∷ ps) zero c e = omega arith
 elem_bound (p ∷ ps) (suc i) c e = omega (arith, elem_bound ps i c e)
 
@@ -127,7 +127,7 @@ seen_counts x y seen e =
     let s = split (same_card x) seen y e in
     let (p, q) = and_true (eqb x.card y.card) (not (eqb x.card absent)) s.passes in
     let g : gate (eqb y.card x.card) 1 ≡ 1 = rw (eq-eqb y.card x.card (sym (eqb-true x.card y.card p))) in (
-      (λ z. let w : false ≡ true = rw (eq-eqb x.card absent z) at q in zero_one cc),
+      (λ z. let w : false ≡ true = rw (eq-eqb x.card absent z) at q in cc),
       omega (
         arith,
         ap (sum (λ r. gate (eqb r.card x.card) 1)) s.whole,

@@ -18,13 +18,13 @@ use Rattle.definition.specs.Refusals.{cards_held}
 use Rattle.definition.specs.LentRows.{held_from, held, name_numbered, lent_rows, is_row_named, is_type_row, is_type_row_named, first_type_row, is_default_root}
 use Rattle.definition.specs.LentRows.{order_passes, cards_once, wanted_kind, card_passes, cards_pass, origin_passes, origins_pass, default_root_passes}
 use Rattle.definition.specs.LentRows.{default_roots_pass, row_clauses, passes, rows_refusal}
-use Rattle.definition.proofs.Tests.{zero_one, and_true}
+use Rattle.definition.proofs.Tests.{and_true}
 use Rattle.definition.proofs.DocumentHeadings.{held_joined}
 use Rattle.definition.proofs.All.{all_to, first_cong, all_pass, pass_all}
 
 -- The cards held stay held by their numbers.
 still_there : (cs more : List NamedCard) (i : ℕ) (c : NamedCard) → get_elem? cs i ≡ some c → get_elem? (cs ++ more) i ≡ some c
-still_there [] more i c e = absurd (zero_one cc)
+still_there [] more i c e = absurd cc
 still_there (x ∷ cs) more zero c e = e
 still_there (x ∷ cs) more (suc i) c e = still_there cs more i c e
 

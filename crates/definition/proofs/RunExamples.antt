@@ -26,7 +26,6 @@ use Rattle.definition.specs.Runs.{Accepted, Start, first_store, store_after, sto
 use Rattle.definition.specs.Growth.{Brings, list_in, list_of, Names, NamesBefore, ImplementedBy, rows_of, documents_in, cards_in, built_rows, Grown}
 use Rattle.definition.specs.Unfolded.{unfolded}
 use Rattle.definition.specs.Shown.{Source, source, scalar_int}
-use Rattle.definition.proofs.Tests.{zero_one}
 use Rattle.definition.proofs.Demand3.{agrees, opens_anew_lem, growing, groups_keep_order, built_rows_pass_lem}
 
 abbrev type_a : Source
@@ -105,14 +104,14 @@ module _ (text words : List ℕ) (long_text : text_capacity ≤ length text) (lo
           some_injective c d q = cc
 
       go : (b c : Bool) → eqb k 2 ≡ b → eqb k 3 ≡ c → ⊥
-      go true c p q = no adopting (ap (get_elem? calls) (eqb-true k 2 p)) (λ t w e. zero_one (cc e))
+      go true c p q = no adopting (ap (get_elem? calls) (eqb-true k 2 p)) (λ t w e. cc e)
       go false true p q = no (filing type_a.text (6 ∷ 0 ∷ 13 ∷ 5 ∷ 1 ∷ 22 ∷ 7 ∷ 7 ∷ 7 ∷ 1 ∷ [])) (ap (get_elem? calls) (eqb-true k 3 q))
-          (λ t w e. zero_one (cc e))
+          (λ t w e. cc e)
       go false false p q =
           let u = eqb-false k 2 p in
           let v = eqb-false k 3 q in
           let w : k ≡ 4 = omega arith in
-          no (filing extend_a.text extend_a.words) (ap (get_elem? calls) w) (λ t w e. zero_one (cc e))
+          no (filing extend_a.text extend_a.words) (ap (get_elem? calls) w) (λ t w e. cc e)
 
   grows : Grown (store_at (first_store start) calls 1) (store_at (first_store start) calls 5) earlier later
   grows = growing start calls 1 5 (omega arith) none_opened earlier later earlier_built later_built
@@ -205,7 +204,7 @@ named_then = refl
 
 -- and the group of 2, which stood before that of 8, stands before it again: 2 is a 21 of `Q`, which a definition had brought.
 filing_opens_none : (text words lent cards : List ℕ) → ◌≡◌ {A = Option Call} (some (filing text words)) (some (opening lent cards)) → ⊥
-filing_opens_none text words lent cards e = zero_one cc
+filing_opens_none text words lent cards e = cc
 
 none_opened_between : NoneOpenedBetween (first_store zeros) adoptions 2 4
 none_opened_between k low high o =

@@ -18,7 +18,6 @@ use Rattle.definition.specs.Calls.{extensions_asked, implementers_asked, parsing
 use Rattle.definition.specs.Calls.{step}
 use Rattle.definition.specs.Calls.{account_after, Store, step_store, run_store}
 use Rattle.definition.specs.Runs.{store_after, OpenedAt, NoneOpenedBetween}
-use Rattle.definition.proofs.Tests.{zero_one}
 use Rattle.definition.proofs.StoreAgrees.{HoldsIn, kept, holds_after}
 
 -- ---- The call at place k.
@@ -26,21 +25,21 @@ use Rattle.definition.proofs.StoreAgrees.{HoldsIn, kept, holds_after}
 pub reply_at : (s : Store) (calls : List Call) (k : ℕ) (c : Call) → get_elem? calls k ≡ some c →
     get_elem? (run_store s calls) k ≡ some (step_store (store_after s (take k calls)) c).1
 unfolding run_store store_after
-reply_at s [] k c e = absurd (zero_one cc)
+reply_at s [] k c e = absurd cc
 reply_at s (x ∷ cs) zero c e = let q : x ≡ c = cc in ap (λ y. some (step_store s y).1) q
 reply_at s (x ∷ cs) (suc k) c e = reply_at (step_store s x).0 cs k c e
 
 pub account_next : (a : Account) (calls : List Call) (k : ℕ) (c : Call) → get_elem? calls k ≡ some c →
     account_after a (take (suc k) calls) ≡ (step (account_after a (take k calls)) c).0
 unfolding account_after
-account_next a [] k c e = absurd (zero_one cc)
+account_next a [] k c e = absurd cc
 account_next a (x ∷ cs) zero c e = let q : x ≡ c = cc in ap (λ y. (step a y).0) q
 account_next a (x ∷ cs) (suc k) c e = account_next (step a x).0 cs k c e
 
 past_end : (calls : List Call) (k : ℕ) → get_elem? calls k ≡ none → take (suc k) calls ≡ take k calls
 past_end [] zero e = refl
 past_end [] (suc k) e = refl
-past_end (x ∷ cs) zero e = absurd (zero_one cc)
+past_end (x ∷ cs) zero e = absurd cc
 past_end (x ∷ cs) (suc k) e = ap (λ l. x ∷ l) (past_end cs k e)
 
 -- ---- A later account: more documents at the end, and switches as they may be.

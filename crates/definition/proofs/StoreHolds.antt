@@ -19,7 +19,7 @@ use Rattle.definition.specs.Store.{documents_at, document_words, cards_at, words
 use Rattle.definition.specs.Store.{text_used_of, cards_used_of, document_rows, stored_cards, account_in, too_short, counts_sound, rows_sound, switches_rise}
 use Rattle.definition.specs.Store.{zero_unignored, cards_sound, zero_sound, sound, store_refusal, moved_words, opened_words, opened_text, filed_row, filed_counts}
 use Rattle.definition.specs.Store.{filed_words, filed_text, adopting_words, ignoring_words}
-use Rattle.definition.proofs.Tests.{zero_one, or_false}
+use Rattle.definition.proofs.Tests.{or_false}
 use Rattle.definition.proofs.Lists.{flat_map_append}
 use Rattle.definition.proofs.StoreLayout.{bit, bit_back, bit_le, rows_of, words_of_rows, stored_of, text_of, text_held_cons, text_held_nil, cards_held_cons}
 use Rattle.definition.proofs.StoreLayout.{cards_held_nil, text_held_joined, cards_held_joined, length_text_of, length_rows, length_stored, text_of_joined}
@@ -52,7 +52,7 @@ pub record LaidOut (text words : List ℕ) (ds : List Document) (ad ig : Bool) :
 
 some_held : (ds : List Document) → zero_sound ds ≡ true → 1 ≤ length ds
 unfolding zero_sound
-some_held [] e = absurd (zero_one cc)
+some_held [] e = absurd cc
 some_held (d ∷ ds) e = omega arith
 
 module _ (text words : List ℕ) (ds : List Document) (ad ig : Bool) (h : LaidOut text words ds ad ig) where
@@ -288,7 +288,7 @@ filed_long words d long few =
 
 bare_joined : (ds : List Document) (d : Document) → zero_unignored (rows_of 0 ds) ≡ true → zero_unignored (rows_of 0 (ds ++ (d ∷ []))) ≡ true
 unfolding zero_unignored
-bare_joined [] d e = absurd (zero_one cc)
+bare_joined [] d e = absurd cc
 bare_joined (x ∷ ds) d e = e
 
 moved_words_lem : (base : ℕ) (cs : List Card) → flat_map words_of_card (map (moved base) cs) ≡ moved_words base cs

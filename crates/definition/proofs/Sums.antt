@@ -56,7 +56,7 @@ module _ {ℓ} {A : Type ℓ} where
   sum_filter f p (x ∷ xs) = omega (arith, sum_gate f p x xs, gate_le (p x) (f x), sum_filter f p xs)
 
   pub sum_first : (f : A → ℕ) (p : A → Bool) (xs : List A) (y : A) → find p xs ≡ some y → f y ≤ sum f (filter p xs)
-  sum_first f p [] y h = let z : none ≡ some y = sym (first_nil p) ∙ h in let z : ◌≡◌ {A = ℕ} 0 1 = cc in omega arith
+  sum_first f p [] y h = let z : none ≡ some y = sym (first_nil p) ∙ h in cc
   sum_first f p (x ∷ xs) y h = go (p x) refl (sum_first f p xs y)
     where
       go : (b : Bool) → p x ≡ b → (find p xs ≡ some y → f y ≤ sum f (filter p xs)) → f y ≤ sum f (filter p (x ∷ xs))

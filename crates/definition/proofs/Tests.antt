@@ -42,7 +42,7 @@ choices false false n r s e f = f refl
 
 pub or_else_none {ℓ} : {A : Type ℓ} (o p : Option A) → or_else o p ≡ none → (o ≡ none) × (p ≡ none)
 or_else_none none p e = (refl, e)
-or_else_none (some x) p e = absurd (zero_one cc)
+or_else_none (some x) p e = absurd cc
 
 pub refuse_none : (n : ℕ) (b : Bool) → refuse n b ≡ none → b ≡ false
 unfolding refuse
@@ -51,7 +51,7 @@ refuse_none n false e = refl
 
 pub unfound {ℓ} : {A : Type ℓ} (o : Option A) (r : Bool) → found o (λ f. false) r ≡ true → (o ≡ none) × (r ≡ true)
 unfound none r e = (refl, e)
-unfound (some x) r e = absurd (zero_one cc)
+unfound (some x) r e = absurd cc
 
 -- Tests on numbers of which both are raised.
 pub eqb_shift : (a b k : ℕ) → eqb (a + k) (b + k) ≡ eqb a b

@@ -21,7 +21,6 @@ use Rattle.definition.specs.LentRows.{is_type_row, is_row_named, is_type_row_nam
 use Rattle.definition.specs.Lookups.{Block, is_block_named, type_named, is_row_of, is_part_named, is_query_root, meta_field, field_of, field_named, lists, subtype_of}
 use Rattle.definition.specs.Lookups.{is_subtype_of}
 use Rattle.definition.specs.Growth.{place_of, list_in, list_of}
-use Rattle.definition.proofs.Tests.{zero_one}
 use Rattle.definition.proofs.Tests.{and_true}
 use Rattle.definition.proofs.Lists.{first_append_some, first_map_some, first_both, any_both, any_append, before_append, before_both, before_map}
 use Rattle.definition.proofs.All.{all_append, all_left, all_filter, all_firsts, all_map, all_flat_map, all_every, all_to, all_with, first_cong, any_cong}
@@ -119,10 +118,10 @@ no_explicit ps rs k n f c e =
     (is_query_root ps rs n && same_name f (bytes "__type")) e
   where
     go : (u v w : Bool) → choose u (some Typename) (choose v (some Schema) (choose w (some MetaType) none)) ≡ some (Explicit c) → ⊥
-    go true v w e = let z : some Typename ≡ some (Explicit c) = e in zero_one cc
-    go false true w e = let z : some Schema ≡ some (Explicit c) = e in zero_one cc
-    go false false true e = let z : some MetaType ≡ some (Explicit c) = e in zero_one cc
-    go false false false e = let z : none ≡ some (Explicit c) = e in zero_one cc
+    go true v w e = let z : some Typename ≡ some (Explicit c) = e in cc
+    go false true w e = let z : some Schema ≡ some (Explicit c) = e in cc
+    go false false true e = let z : some MetaType ≡ some (Explicit c) = e in cc
+    go false false false e = let z : none ≡ some (Explicit c) = e in cc
 
 explicit_of : (ps : List NamedCard) (rs : List Row) (n f : List ℕ) (b : Block) (c : ℕ) → field_of ps rs n f b ≡ Found (Explicit c) →
     (r : Row) × (find (is_part_named ps 22 f) b.parts ≡ some r) × (r.card ≡ c)
@@ -136,7 +135,7 @@ explicit_of ps rs n f b c e = go (find (is_part_named ps 22 f) b.parts) (meta_fi
         let z : Found m ≡ Found (Explicit c) = rw (o, i) at e in
         let q : m ≡ Explicit c = cc in
         absurd (no_explicit ps rs b.head.what n f c (i ∙ ap some q))
-    go none none o i = let z : NoSuchField b.head.card ≡ Found (Explicit c) = rw (o, i) at e in absurd (zero_one cc)
+    go none none o i = let z : NoSuchField b.head.card ≡ Found (Explicit c) = rw (o, i) at e in absurd cc
 
 of_explicit : (ps : List NamedCard) (rs : List Row) (n f : List ℕ) (b : Block) (r : Row) → find (is_part_named ps 22 f) b.parts ≡ some r →
     field_of ps rs n f b ≡ Found (Explicit r.card)

@@ -1,8 +1,8 @@
 -- The numbers and values of each answer's cases: 01's where it gives them, else chosen here (docs/DECISIONS.md, 37).
 use Rattle.std.specs.Prelude.{ℕ}
 use Rattle.definition.specs.declared.Answer.{Answer}
-use Rattle.definition.specs.declared.NameOrder.{NameOrder}
-use Rattle.definition.specs.declared.NameOrder.TheVariants.{Before, Equal, After}
+use Rattle.std.specs.declared.cmp.Ordering.{Ordering}
+use Rattle.std.specs.declared.cmp.Ordering.TheVariants.{Less, Equal, Greater}
 use Rattle.definition.specs.declared.OperationType.{OperationType}
 use Rattle.definition.specs.declared.OperationType.TheVariants.{Query, Mutation, Subscription}
 use Rattle.definition.specs.declared.FieldFound.{FieldFound}
@@ -21,10 +21,10 @@ abbrev pub answer : ℕ → ℕ → Answer
 answer n c = record { number = n; card = c }
 
 -- How a name stands to another: 0 before, 1 equal, 2 after.
-abbrev pub order_number : NameOrder → ℕ
-order_number Before = 0
+abbrev pub order_number : Ordering → ℕ
+order_number Less = 0
 order_number Equal = 1
-order_number After = 2
+order_number Greater = 2
 
 -- "26 query, 27 mutation, 28 subscription"
 abbrev pub root_kind : OperationType → ℕ

@@ -31,6 +31,8 @@ pub mod LentRows
 -- The public entries.
 pub mod Lookups
 pub mod Outcomes
+-- What code tells by name, as numbers.
+pub mod Numbers
 -- What is promised of reading a text.
 pub mod Promise
 pub mod ReadCards

@@ -1,9 +1,10 @@
 -- 01, "Names and spans"; specification, section 2.1.9.
-use Rattle.std.specs.Prelude.{List, [], ◌∷◌, Bool, true, false, ◌&&◌, ◌||◌, ℕ, eqb, leb, ltb, take, drop}
+use Rattle.std.specs.Prelude.{List, [], ◌∷◌, Bool, false, ◌&&◌, ◌||◌, ℕ, eqb, leb, ltb, take, drop}
 use Prim.Native.Char.{code}
 use Prim.Native.String.{String, [] as [·], ◌∷◌ as ◌∷·◌}
-use Rattle.definition.specs.declared.NameOrder.{NameOrder}
-use Rattle.definition.specs.declared.NameOrder.TheVariants.{Before, Equal, After}
+use Rattle.std.specs.declared.cmp.Ordering.{Ordering}
+use Rattle.std.specs.declared.cmp.Ordering.TheVariants.{Less, Equal, Greater}
+use Rattle.std.specs.Ordering.{is_eq}
 use Rattle.definition.specs.Lists.{choose, all}
 
 -- NameStart: a letter `A` to `Z` or `a` to `z`, or an underscore.
@@ -25,22 +26,17 @@ bytes_at text at size = take size (drop at text)
 
 -- "Names compare by bytes only." Two names compare "before, equal or after by byte order, a shorter beginning being before" (2.4). A byte is a number from 0
 -- to 255, so the order is that of unsigned bytes.
-unfoldable pub compare_names : List ℕ → List ℕ → NameOrder
+unfoldable pub compare_names : List ℕ → List ℕ → Ordering
 compare_names [] [] = Equal
-compare_names [] (b ∷ ys) = Before
-compare_names (a ∷ xs) [] = After
+compare_names [] (b ∷ ys) = Less
+compare_names (a ∷ xs) [] = Greater
 compare_names (a ∷ xs) (b ∷ ys) =
     let r = compare_names xs ys in
-    choose (ltb a b) Before (choose (ltb b a) After r)
-
-abbrev pub is_equal : NameOrder → Bool
-is_equal Before = false
-is_equal Equal = true
-is_equal After = false
+    choose (ltb a b) Less (choose (ltb b a) Greater r)
 
 -- Names are the same where they compare equal.
 unfoldable pub same_name : List ℕ → List ℕ → Bool
-same_name m n = is_equal (compare_names m n)
+same_name m n = is_eq (compare_names m n)
 
 -- The bytes of a quoted text, for the names and the examples that are written out. Only ASCII is quoted, so a character is one byte.
 unfoldable pub bytes : String → List ℕ

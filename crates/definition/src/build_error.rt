@@ -1,35 +1,34 @@
-// The numbers of errors: the variants of the Rust's `BuildError`, in its order. specs/Errors.antt has the same numbers under the same names.
-pub const EXECUTABLE_DEFINITION: u32 = 1;
+// The errors of a merge: the variants of the Rust's `BuildError`, in its order, each with its number, which specs/Numbers.antt gives too.
+ghost use Rattle.std.specs.Prelude.{◌≡◌};
+ghost use Rattle.definition.specs.Numbers.{error_number};
 
-pub const SCHEMA_DEFINITION_COLLISION: u32 = 2;
+#[derive(Clone, Copy, PartialEq, Eq)]
+pub enum BuildError {
+    ExecutableDefinition = 1,
+    SchemaDefinitionCollision = 2,
+    DirectiveDefinitionCollision = 3,
+    TypeDefinitionCollision = 4,
+    BuiltInScalarTypeRedefinition = 5,
+    OrphanSchemaExtension = 6,
+    OrphanTypeExtension = 7,
+    TypeExtensionKindMismatch = 8,
+    DuplicateRootOperation = 9,
+    DuplicateImplementsInterfaceInObject = 10,
+    DuplicateImplementsInterfaceInInterface = 11,
+    ObjectFieldNameCollision = 12,
+    InterfaceFieldNameCollision = 13,
+    EnumValueNameCollision = 14,
+    UnionMemberNameCollision = 15,
+    InputFieldNameCollision = 16,
+}
 
-pub const DIRECTIVE_DEFINITION_COLLISION: u32 = 3;
-
-pub const TYPE_DEFINITION_COLLISION: u32 = 4;
-
-pub const BUILT_IN_SCALAR_TYPE_REDEFINITION: u32 = 5;
-
-pub const ORPHAN_SCHEMA_EXTENSION: u32 = 6;
-
-pub const ORPHAN_TYPE_EXTENSION: u32 = 7;
-
-pub const TYPE_EXTENSION_KIND_MISMATCH: u32 = 8;
-
-pub const DUPLICATE_ROOT_OPERATION: u32 = 9;
-
-pub const DUPLICATE_IMPLEMENTS_INTERFACE_IN_OBJECT: u32 = 10;
-
-pub const DUPLICATE_IMPLEMENTS_INTERFACE_IN_INTERFACE: u32 = 11;
-
-pub const OBJECT_FIELD_NAME_COLLISION: u32 = 12;
-
-pub const INTERFACE_FIELD_NAME_COLLISION: u32 = 13;
-
-pub const ENUM_VALUE_NAME_COLLISION: u32 = 14;
-
-pub const UNION_MEMBER_NAME_COLLISION: u32 = 15;
-
-pub const INPUT_FIELD_NAME_COLLISION: u32 = 16;
+impl BuildError {
+    pub fn number(self) -> u32
+        ensures { result ≡ error_number self }
+    {
+        self as u32
+    }
+}
 
 // How many there are.
 pub const ERROR_NUMBERS: usize = 16;

@@ -1,42 +1,53 @@
-// The numbers of refusals, by what is wrong.
+// What a call is refused for, each refusal with its number, which specs/Numbers.antt gives too.
+ghost use Rattle.std.specs.Prelude.{◌≡◌};
+ghost use Rattle.definition.specs.Numbers.{refusal_number};
 
-// Of what is lent.
-pub const CARDS_NOT_WHOLE: u32 = 1;
+// The variants are named by what is wrong: first of what is lent, then of what the store is, then of a text that is read.
+#[derive(Clone, Copy, PartialEq, Eq)]
+pub enum Refusal {
+    CardsNotWhole = 1,
+    UnknownKind = 2,
+    ItemMisplaced = 3,
+    // A name outside its item or, of an interface or a member, another span than it.
+    NameMisplaced = 4,
+    PartMisplaced = 5,
+    BuiltInsFaulty = 6,
+    SliceTooShort = 7,
+    StoreTooShort = 21,
+    StoreUnsound = 22,
+    DocumentsFull = 23,
+    TextFull = 24,
+    CardsFull = 25,
+    RowsUnsound = 26,
+    // A name that is wrongly present or absent, and bytes that are no Name: asked after `NameMisplaced` and before `PartMisplaced`.
+    NamePresence = 27,
+    NameBytes = 28,
+    // What no text of the grammar has there, a level too deep, and a slice with no room for the cards.
+    NotInGrammar = 29,
+    NestedTooDeep = 30,
+    CardSliceTooShort = 31,
+}
 
-pub const UNKNOWN_KIND: u32 = 2;
+impl Refusal {
+    pub fn number(self) -> u32
+        ensures { result ≡ refusal_number self }
+    {
+        self as u32
+    }
+}
 
-pub const ITEM_MISPLACED: u32 = 3;
+// A refusal, and where: the number of a card in its document, a place in the text, or 0.
+#[derive(Clone, Copy, PartialEq, Eq)]
+pub struct Refused {
+    pub refusal: Refusal,
+    pub place: usize,
+}
 
-// A name outside its item or, of an interface or a member, another span than it.
-pub const NAME_MISPLACED: u32 = 4;
+// A refusal that is of no card and no place.
+impl From<Refusal> for Refused {
+    ghost from_gives = { λ refusal r. r ≡ record { refusal = refusal; place = 0 } };
 
-// A name that is wrongly present or absent, and bytes that are no Name: asked after 4 and before 5.
-pub const NAME_PRESENCE: u32 = 27;
-
-pub const NAME_BYTES: u32 = 28;
-
-pub const PART_MISPLACED: u32 = 5;
-
-pub const BUILT_INS_FAULTY: u32 = 6;
-
-pub const SLICE_TOO_SHORT: u32 = 7;
-
-// Of what the store is.
-pub const STORE_TOO_SHORT: u32 = 21;
-
-pub const STORE_UNSOUND: u32 = 22;
-
-pub const DOCUMENTS_FULL: u32 = 23;
-
-pub const TEXT_FULL: u32 = 24;
-
-pub const CARDS_FULL: u32 = 25;
-
-pub const ROWS_UNSOUND: u32 = 26;
-
-// Of a text that is read: what no text of the grammar has there, a level too deep, and a slice with no room for the cards.
-pub const NOT_IN_GRAMMAR: u32 = 29;
-
-pub const NESTED_TOO_DEEP: u32 = 30;
-
-pub const CARD_SLICE_TOO_SHORT: u32 = 31;
+    fn from(refusal: Refusal) -> Refused {
+        Refused { refusal, place: 0 }
+    }
+}

@@ -5,7 +5,7 @@ use mathlib.Core.Bool.{Bool, true}
 use Prim.Native.Nat.{ℕ, ◌*◌, ◌≤◌}
 use native.Mathlib.Omega.{arith}
 use lib.Dec.{eqb}
-use lib.ListN.{length, take, drop}
+use lib.ListN.{length, take, drop, length-take}
 use lib.Seq.{take_at}
 use Rattle.definition.specs.Lists.{flat_map, written}
 use Rattle.definition.specs.Headings.{Heading}
@@ -14,7 +14,8 @@ use Rattle.definition.specs.Errors.{reading_errors, drawing_errors}
 use Rattle.definition.specs.Merge.{Merged, merge}
 use Rattle.definition.specs.Refusals.{rows_capacity, errors_capacity}
 use Rattle.definition.specs.Store.{adopt_word, sound, account_in}
-use Rattle.definition.specs.declared.Drawing.{Drawing}
+use Rattle.definition.specs.Numbers.{drawing_answer}
+use Rattle.std.specs.Prelude.{Ok}
 use Rattle.definition.specs.Outcomes.{BuildOutcome, words_of_row, merged_into}
 use Rattle.definition.proofs.StoreLayout.{written_at}
 use Rattle.definition.proofs.BuiltWords.{words_length}
@@ -23,7 +24,7 @@ use Rattle.store_reader.proofs.Laws.{headings_stored}
 use Rattle.from_ast_errors.specs.declared.ErrorCounts.{ErrorCounts}
 use Rattle.from_ast_errors.specs.Written.{all_errors, ErrorsWritten}
 use Rattle.from_ast_errors.proofs.Fits.{rows_fit_lem, errors_fit_lem}
-use Rattle.from_ast.specs.Built.{drawing_of, Built}
+use Rattle.from_ast.specs.Built.{drawn, Built}
 
 -- The catalogue of headings.
 unfoldable built_headings : Bool → List Heading → Merged
@@ -31,7 +32,7 @@ built_headings a hs = record { rows = rows a hs; reading_errors = reading_errors
 
 -- A build's answer and slices.
 abbrev outcome : ℕ → ErrorCounts → List ℕ → List ℕ → BuildOutcome
-outcome n r rows errors = record { drawing = drawing_of n r; rows = rows; errors = errors }
+outcome n r rows errors = record { drawing = drawing_answer (Ok (drawn n r)); rows = rows; errors = errors }
 
 module _ (text words : List ℕ) (ok : sound text words ≡ true) where
   built_is : (a : Bool) → merge a (account_in text words).documents ≡ built_headings a (stored_headings text words)
@@ -50,6 +51,11 @@ pub rows_stand : (xs : List ℕ) (rs : List Row) (n : ℕ) (out : List ℕ) → 
 rows_stand xs rs n out k e =
     ap (take (3 * n)) (e ∙ written_at [] xs (flat_map words_of_row rs) 0 refl)
     ∙ take_at (flat_map words_of_row rs) (drop (length (flat_map words_of_row rs)) xs) (3 * n) (omega (arith, words_length rs))
+
+-- They lie within the slice.
+pub rows_within : (xs : List ℕ) (rs : List Row) (n : ℕ) (out : List ℕ) → n ≡ length rs → out ≡ written xs 0 (flat_map words_of_row rs) → 3 * n ≤ length out
+rows_within xs rs n out k e =
+    omega (arith, ap length (rows_stand xs rs n out k e), words_length rs, length-take (3 * n) out)
 
 -- What the rows and the errors leave is the outcome of the build.
 module _ (text words : List ℕ) (ok : sound text words ≡ true) (before told : List ℕ) where
@@ -72,11 +78,10 @@ module _ (text words : List ℕ) (ok : sound text words ≡ true) (before told :
     errors = e.errors_are i;
   }
 
-  pub built : (n : ℕ) (r : ErrorCounts) (after said : List ℕ) (d : Drawing) → d ≡ drawing_of n r →
+  pub built : (n : ℕ) (r : ErrorCounts) (after said : List ℕ) →
       after ≡ written before 0 (flat_map words_of_row (rows (eqb (adopt_word words) 1) stored)) → n ≡ length (rows (eqb (adopt_word words) 1) stored) →
-      ErrorsWritten (eqb (adopt_word words) 1) stored told said r → Built text words before told d after said
+      ErrorsWritten (eqb (adopt_word words) 1) stored told said r → Built text words before told (drawn n r) after said
   unfolding account_in
-  built n r after said d f p q e =
-      ap (λ (d : Drawing). record { drawing = d; rows = after; errors = said }) f
-      ∙ of_headings (eqb (adopt_word words) 1) n r after said p q e
+  built n r after said p q e =
+      of_headings (eqb (adopt_word words) 1) n r after said p q e
       ∙ ap (merged_into before told) (sym (built_is text words ok (eqb (adopt_word words) 1)))

@@ -1,2 +1,1 @@
-mod Arrays
 mod Bounds

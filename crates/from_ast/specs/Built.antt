@@ -1,15 +1,16 @@
 -- What a build asks: a sound store, and slices that 7 does not refuse. What it leaves: the defined catalogue.
-use Rattle.std.specs.Prelude.{◌≡◌, List, true, ℕ, ◌≤◌, length}
+use Rattle.std.specs.Prelude.{◌≡◌, List, true, ℕ, ◌≤◌, length, Ok}
 use Rattle.definition.specs.Merge.{merge}
+use Rattle.definition.specs.Numbers.{drawing_answer}
 use Rattle.definition.specs.Refusals.{rows_capacity, errors_capacity}
 use Rattle.definition.specs.Store.{words_capacity, sound, account_in}
 use Rattle.definition.specs.Outcomes.{merged_into}
-use Rattle.definition.specs.declared.Drawing.{Drawing}
+use Rattle.definition.specs.declared.Drawn.{Drawn}
 use Rattle.from_ast_errors.specs.declared.ErrorCounts.{ErrorCounts}
 
 -- A build that is not refused, with n rows and the errors that r counts.
-abbrev pub drawing_of : ℕ → ErrorCounts → Drawing
-drawing_of n r = record { number = 0; rows = n; reading_errors = r.reading; drawing_errors = r.drawing; tallies = r.tallies }
+abbrev pub drawn : ℕ → ErrorCounts → Drawn
+drawn n r = record { rows = n; reading_errors = r.reading; drawing_errors = r.drawing; tallies = r.tallies }
 
 pub record BuildAsked (text words rows errors : List ℕ) : Type 0 where
   pub store_sound : sound text words ≡ true
@@ -17,7 +18,7 @@ pub record BuildAsked (text words rows errors : List ℕ) : Type 0 where
   pub rows_length : rows_capacity ≤ length rows
   pub errors_length : errors_capacity ≤ length errors
 
-abbrev pub Built : (text words rows₀ errors₀ : List ℕ) (r : Drawing) (rows errors : List ℕ) → Type 0
+abbrev pub Built : (text words rows₀ errors₀ : List ℕ) (r : Drawn) (rows errors : List ℕ) → Type 0
 Built text words rows₀ errors₀ r rows errors =
-    record { drawing = r; rows = rows; errors = errors }
+    record { drawing = drawing_answer (Ok r); rows = rows; errors = errors }
     ≡ merged_into rows₀ errors₀ (merge (account_in text words).adopt (account_in text words).documents)

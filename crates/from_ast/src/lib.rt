@@ -1,214 +1,156 @@
 // `SchemaBuilder::build_inner` of schema/from_ast.rs: a store is indexed and built over local arrays of one of three sizes.
 #![tactic(auto)]
 
-ghost use Rattle.std.specs.Prelude.{◌≡◌, ◌≤◌, length, take};
-ghost use Rattle.definition.specs.Refusals.{card_capacity};
+ghost use Rattle.std.specs.Prelude.{◌≡◌, ◌≤◌, ◌<◌, length, take};
 ghost use Rattle.definition.specs.Store.{cards_used_of};
 ghost use Rattle.from_ast_index.specs.Index.{Indexed, Spanned};
-ghost use Rattle.from_ast_indexing.specs.Steps.{IndexAsked};
-ghost use Rattle.from_ast.specs.Built.{drawing_of, BuildAsked, Built};
-ghost use Rattle.from_ast.specs.Sizes.{small_cards, medium_cards};
+ghost use Rattle.from_ast.specs.Built.{BuildAsked, Built};
 
-use crate::sizes::{LARGE_BUCKETS, MEDIUM_BUCKETS, MEDIUM_CARDS, SMALL_BUCKETS, SMALL_CARDS, Size};
 use definition::layout::CARD_CAPACITY;
-use definition::{ABSENT, Drawing, layout};
-use from_ast_errors::ErrorCounts;
-use from_ast_index::Counts;
+use definition::{ABSENT, Drawn, layout};
+use from_ast_index::{Collection, Counts, Index};
 
-pub mod sizes;
+// Most stores are small, and to make arrays for all cards that a store can hold takes longer than to build those. There are more buckets than cards, so
+// that few names share one.
+const SMALL_CARDS: usize = 64;
 
-// What a build answers, by the counts of its rows and errors.
-fn drawing_of(rows: u32, told: ErrorCounts) -> Drawing
-    ensures { result ≡ drawing_of rows told }
+const SMALL_HEADINGS: usize = SMALL_CARDS + 1;
+
+const SMALL_BUCKETS: usize = 128;
+
+const MEDIUM_CARDS: usize = 512;
+
+const MEDIUM_HEADINGS: usize = MEDIUM_CARDS + 1;
+
+const MEDIUM_BUCKETS: usize = 1024;
+
+const LARGE_HEADINGS: usize = CARD_CAPACITY + 1;
+
+const LARGE_BUCKETS: usize = 8192;
+
+// Builds an indexed store: rows first, then errors by the rows. The scratch serves the rows and then the errors.
+fn build_indexed(index: &Index, scratch: &mut [u32], rows: &mut [u32], errors: &mut [u32]) -> Drawn
+    requires asked { BuildAsked index.now.collection.text.now index.now.collection.words.now rows.old errors.old }
+    requires scratch { cards_used_of index.now.collection.words.now ≤ length scratch.old }
+    ensures { Built index.now.collection.text.now index.now.collection.words.now rows.old errors.old result
+        rows.new errors.new }
 {
-    let tallies = told.tallies;
-    Drawing {
-        number: 0,
-        rows,
+    let adopt = index.collection.words[layout::ADOPT_SWITCH] == 1;
+    let used = from_ast_rows::write_rows(index, adopt, scratch, rows);
+    let drawn = &rows[..layout::ROW_WORDS * used];
+    let told = from_ast_errors::write_errors(index, adopt, drawn, scratch, errors);
+    Drawn {
+        rows: used as u32,
         reading_errors: told.reading,
         drawing_errors: told.drawing,
-        tallies,
+        tallies: told.tallies,
     }
 }
 
-// Builds an indexed store: rows first, then errors by the rows. The scratch serves the rows and then the errors.
-fn build_indexed(
-    text: &[u8],
-    words: &[u32],
-    headings: &[u32],
-    hashes: &[u32],
-    owners: &[u32],
-    types: &[u32],
-    orphans: &[u32],
-    extensions: &[u32],
-    starts: &[u32],
-    ends: &[u32],
+// What the arrays hold, of each what is used of it.
+fn indexed<'a>(
+    text: &'a [u8],
+    words: &'a [u32],
+    headings: &'a [u32],
+    hashes: &'a [u32],
+    owners: &'a [u32],
+    types: &'a [u32],
+    orphans: &'a [u32],
+    extensions: &'a [u32],
+    starts: &'a [u32],
+    ends: &'a [u32],
     counts: Counts,
-    scratch: &mut [u32],
-    rows: &mut [u32],
-    errors: &mut [u32],
-) -> Drawing
-    requires { BuildAsked text.now words.now rows.old errors.old
-        × Indexed text.now words.now headings.now hashes.now owners.now types.now orphans.now extensions.now
-        counts.headings counts.types counts.orphans counts.extensions
-        × Spanned words.now owners.now (take counts.extensions extensions.now) starts.now ends.now
-        × (cards_used_of words.now ≤ length scratch.old) }
-    ensures { Built text.now words.now rows.old errors.old result
-        rows.new errors.new }
+) -> Index<'a>
+    requires filled { Indexed text.now words.now headings.now hashes.now owners.now types.now orphans.now extensions.now
+        counts.headings counts.types counts.orphans counts.extensions }
+    requires spanned { Spanned words.now owners.now (take counts.extensions extensions.now) starts.now ends.now }
+    ensures text { result.collection.text.now ≡ text.now }
+    ensures words { result.collection.words.now ≡ words.now }
 {
-    let adopt = words[layout::ADOPT_SWITCH] == 1;
-    let used = from_ast_rows::write_rows(
-        text, words, headings, hashes, types, orphans, extensions, starts, ends, counts, adopt,
-        scratch, rows,
-    );
-    let told = from_ast_errors::write_errors(
-        text, words, headings, hashes, owners, orphans, extensions, starts, ends, counts, adopt,
-        rows, used, scratch, errors,
-    );
-    drawing_of(used as u32, told)
+    let collection = Collection {
+        text,
+        words,
+        hashes,
+    };
+    Index {
+        collection,
+        headings: &headings[..counts.headings],
+        owners,
+        types: &types[..counts.types],
+        orphans: &orphans[..counts.orphans],
+        extensions: &extensions[..counts.extensions],
+        starts,
+        ends,
+    }
 }
 
 // Builds a sound store over arrays that have a word for each of its cards; one more heading marks the end. With more words in `buckets` than
 // types, each larger than any place, a type's name is seldom sought among others; `build_indexed` then uses them as its scratch.
-fn build_store(
+fn build_over<const CARDS: usize, const HEADINGS: usize, const BUCKETS: usize>(
     text: &[u8],
     words: &[u32],
-    headings: &mut [u32],
-    hashes: &mut [u32],
-    owners: &mut [u32],
-    types: &mut [u32],
-    orphans: &mut [u32],
-    extensions: &mut [u32],
-    starts: &mut [u32],
-    ends: &mut [u32],
-    buckets: &mut [u32],
     rows: &mut [u32],
     errors: &mut [u32],
-) -> Drawing
-    requires { BuildAsked text.now words.now rows.old errors.old
-        × IndexAsked text.now words.now headings.old hashes.old owners.old types.old orphans.old extensions.old
-        starts.old ends.old buckets.old
-        × (cards_used_of words.now ≤ length buckets.old) }
+) -> Drawn
+    requires asked { BuildAsked text.now words.now rows.old errors.old }
+    requires cards { cards_used_of words.now ≤ CARDS }
+    requires headings { CARDS < HEADINGS }
+    requires few_headings { HEADINGS < 65536 }
+    requires buckets { CARDS < BUCKETS }
+    requires few_buckets { BUCKETS < 65536 }
     ensures { Built text.now words.now rows.old errors.old result
         rows.new errors.new }
 {
+    let mut headings = [0; HEADINGS];
+    let mut hashes = [0; CARDS];
+    let mut owners = [0; CARDS];
+    let mut types = [0; CARDS];
+    let mut orphans = [0; CARDS];
+    let mut extensions = [0; CARDS];
+    let mut starts = [0; CARDS];
+    let mut ends = [0; CARDS];
+    let mut buckets = [ABSENT; BUCKETS];
     let counts = from_ast_indexing::index(
-        text, words, headings, hashes, owners, types, orphans, extensions, starts, ends, buckets,
+        text,
+        words,
+        &mut headings,
+        &mut hashes,
+        &mut owners,
+        &mut types,
+        &mut orphans,
+        &mut extensions,
+        &mut starts,
+        &mut ends,
+        &mut buckets,
     );
-    build_indexed(
-        text, words, headings, hashes, owners, types, orphans, extensions, starts, ends, counts,
-        buckets, rows, errors,
-    )
-}
-
-// Builds a store of few cards.
-fn build_small(text: &[u8], words: &[u32], rows: &mut [u32], errors: &mut [u32]) -> Drawing
-    requires { BuildAsked text.now words.now rows.old errors.old
-        × (cards_used_of words.now ≤ small_cards) }
-    ensures { Built text.now words.now rows.old errors.old result
-        rows.new errors.new }
-{
-    let mut headings = [0u32; SMALL_CARDS + 1];
-    let mut hashes = [0u32; SMALL_CARDS];
-    let mut owners = [0u32; SMALL_CARDS];
-    let mut types = [0u32; SMALL_CARDS];
-    let mut orphans = [0u32; SMALL_CARDS];
-    let mut extensions = [0u32; SMALL_CARDS];
-    let mut starts = [0u32; SMALL_CARDS];
-    let mut ends = [0u32; SMALL_CARDS];
-    let mut buckets = [ABSENT; SMALL_BUCKETS];
-    build_store(
+    let index = indexed(
         text,
         words,
-        &mut headings,
-        &mut hashes,
-        &mut owners,
-        &mut types,
-        &mut orphans,
-        &mut extensions,
-        &mut starts,
-        &mut ends,
-        &mut buckets,
-        rows,
-        errors,
-    )
-}
-
-// Builds a store of more.
-fn build_medium(text: &[u8], words: &[u32], rows: &mut [u32], errors: &mut [u32]) -> Drawing
-    requires { BuildAsked text.now words.now rows.old errors.old
-        × (cards_used_of words.now ≤ medium_cards) }
-    ensures { Built text.now words.now rows.old errors.old result
-        rows.new errors.new }
-{
-    let mut headings = [0u32; MEDIUM_CARDS + 1];
-    let mut hashes = [0u32; MEDIUM_CARDS];
-    let mut owners = [0u32; MEDIUM_CARDS];
-    let mut types = [0u32; MEDIUM_CARDS];
-    let mut orphans = [0u32; MEDIUM_CARDS];
-    let mut extensions = [0u32; MEDIUM_CARDS];
-    let mut starts = [0u32; MEDIUM_CARDS];
-    let mut ends = [0u32; MEDIUM_CARDS];
-    let mut buckets = [ABSENT; MEDIUM_BUCKETS];
-    build_store(
-        text,
-        words,
-        &mut headings,
-        &mut hashes,
-        &mut owners,
-        &mut types,
-        &mut orphans,
-        &mut extensions,
-        &mut starts,
-        &mut ends,
-        &mut buckets,
-        rows,
-        errors,
-    )
-}
-
-// Builds a store of as many cards as a store holds.
-fn build_large(text: &[u8], words: &[u32], rows: &mut [u32], errors: &mut [u32]) -> Drawing
-    requires { BuildAsked text.now words.now rows.old errors.old
-        × (cards_used_of words.now ≤ card_capacity) }
-    ensures { Built text.now words.now rows.old errors.old result
-        rows.new errors.new }
-{
-    let mut headings = [0u32; CARD_CAPACITY + 1];
-    let mut hashes = [0u32; CARD_CAPACITY];
-    let mut owners = [0u32; CARD_CAPACITY];
-    let mut types = [0u32; CARD_CAPACITY];
-    let mut orphans = [0u32; CARD_CAPACITY];
-    let mut extensions = [0u32; CARD_CAPACITY];
-    let mut starts = [0u32; CARD_CAPACITY];
-    let mut ends = [0u32; CARD_CAPACITY];
-    let mut buckets = [ABSENT; LARGE_BUCKETS];
-    build_store(
-        text,
-        words,
-        &mut headings,
-        &mut hashes,
-        &mut owners,
-        &mut types,
-        &mut orphans,
-        &mut extensions,
-        &mut starts,
-        &mut ends,
-        &mut buckets,
-        rows,
-        errors,
-    )
+        &headings,
+        &hashes,
+        &owners,
+        &types,
+        &orphans,
+        &extensions,
+        &starts,
+        &ends,
+        counts,
+    );
+    build_indexed(&index, &mut buckets, rows, errors)
 }
 
 // Builds a sound store, over arrays of the size that it needs.
-pub fn build_inner(text: &[u8], words: &[u32], rows: &mut [u32], errors: &mut [u32]) -> Drawing
+pub fn build_inner(text: &[u8], words: &[u32], rows: &mut [u32], errors: &mut [u32]) -> Drawn
     requires { BuildAsked text.now words.now rows.old errors.old }
     ensures { Built text.now words.now rows.old errors.old result
         rows.new errors.new }
 {
-    match crate::sizes::size_for(store_reader::cards_used(words)) {
-        Size::Small => return build_small(text, words, rows, errors),
-        Size::Medium => return build_medium(text, words, rows, errors),
-        Size::Large => return build_large(text, words, rows, errors),
+    let cards = store_reader::cards_used(words);
+    if cards <= SMALL_CARDS {
+        build_over::<SMALL_CARDS, SMALL_HEADINGS, SMALL_BUCKETS>(text, words, rows, errors)
+    } else if cards <= MEDIUM_CARDS {
+        build_over::<MEDIUM_CARDS, MEDIUM_HEADINGS, MEDIUM_BUCKETS>(text, words, rows, errors)
+    } else {
+        build_over::<CARD_CAPACITY, LARGE_HEADINGS, LARGE_BUCKETS>(text, words, rows, errors)
     }
 }

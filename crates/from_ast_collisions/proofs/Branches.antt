@@ -16,12 +16,14 @@ use Rattle.definition.specs.Answers.{absent}
 use Rattle.definition.specs.Cards.{is_type, definition_of}
 use Rattle.definition.specs.Errors.{Error, error}
 use Rattle.store_reader.specs.Stored.{card_kind, card_name, built_in_at, ignored_at}
+use Rattle.from_ast_collisions.specs.declared.owner.Owner.{Owner}
+use Rattle.from_ast_collisions.specs.Views.{merged, schema_merged}
 use Rattle.from_ast_collisions.specs.Earlier.{View, stands_for, collision_under, merge_errors}
 use Rattle.from_ast_collisions.specs.ErrorsByCards.{collides, directive_errors_at, schema_merge_errors, schema_errors_at, schema_extension_errors_at}
 use Rattle.from_ast_collisions.specs.ErrorsByCards.{redefinition_errors_at, is_early, early_errors, type_errors_at, late_errors_at}
 use Rattle.from_ast_collisions.specs.ErrorsByCards.{type_extension_errors_at, errors_at_card, reading_errors_at, is_orphan_of, adoption_errors_at}
 use Rattle.from_ast_collisions.specs.ErrorsByCards.{unadopted_errors_at, orphan_errors_at, unmet_errors, is_bare, no_schema_errors_at, drawing_errors_at}
-use Rattle.from_ast_collisions.specs.Views.{view_of, card_view, cards_view, Ascending}
+use Rattle.from_ast_collisions.specs.Views.{view_of, card_view, Ascending}
 use Rattle.definition.proofs.Lists.{flat_map_nil, flat_map_cons, first_nil, first_yes, first_no}
 use Rattle.definition.proofs.All.{all_to}
 use Rattle.from_ast_collisions.proofs.Merge.{merge_owners}
@@ -67,7 +69,16 @@ module _ (v : View) (before : List ℕ) (h : ℕ) where
   unfolding directive_errors_at
   directive_none e = rw e
 
+-- What is merged into the row of a kind and a card.
+pub owner_merged : (v : View) (o : Owner) (rows : List ℕ) (k d h : ℕ) → o.rows.now ≡ rows → o.kind ≡ k → o.card ≡ d → merge_errors v rows k d h ≡ merged v o h
+owner_merged v o rows k d h e f g = cc
+
 -- ---- The schema.
+
+-- The parts of a schema extension, merged into the row of the schema.
+pub schema_merged_is : (v : View) (o : Owner) (c : ℕ) → o.kind ≡ 4 → v.kind c ≡ 11 → schema_merged v o c ≡ merged v o c
+unfolding schema_merge_errors
+schema_merged_is v o c k e = rw (eq-eqb (v.kind c) 11 e, k)
 
 module _ (v : View) (rows : List ℕ) (s : ℕ) where
   pub schema_merge_other : (c : ℕ) → (v.kind c ≡ 11 → ⊥) → schema_merge_errors v rows s c ≡ []
@@ -94,6 +105,16 @@ module _ (v : View) (rows : List ℕ) (s : ℕ) where
   pub extension_merged : (h : ℕ) → s < h → schema_extension_errors_at v rows s h ≡ merge_errors v rows 4 s h
   unfolding schema_extension_errors_at
   extension_merged h l = rw (lt-ltb s h l)
+
+-- The same by the schema's row.
+module _ (v : View) (o : Owner) (k : o.kind ≡ 4) (h : ℕ) where
+  pub schema_first_merged : (before : List ℕ) → h ≤ o.card → schema_errors_at v o.rows.now o.card before h ≡ merged v o h ++ flat_map (schema_merged v o) before
+  schema_first_merged before l =
+      schema_first v o.rows.now o.card before h l
+      ∙ ap (λ n. merge_errors v o.rows.now n o.card h ++ flat_map (schema_merged v o) before) (sym k)
+
+  pub schema_extended : o.card < h → schema_extension_errors_at v o.rows.now o.card h ≡ merged v o h
+  schema_extended l = extension_merged v o.rows.now o.card h l ∙ ap (λ n. merge_errors v o.rows.now n o.card h) (sym k)
 
 -- ---- A second type definition.
 
@@ -169,31 +190,25 @@ module _ (v : View) (rows : List ℕ) (h : ℕ) where
   unfolding type_extension_errors_at late_errors_at
   type_merged l e = rw (lt-ltb (v.owner h) h l, eq-eqb (v.kind h) (v.kind (v.owner h) + 7) e)
 
--- What is pushed for a second definition does not hang on names.
-pub redefined_names : (text words owners : List ℕ) (h : ℕ) → redefinition_errors_at (view_of text words owners) h ≡
-    redefinition_errors_at (cards_view words owners) h
-unfolding redefinition_errors_at
-redefined_names text words owners h = refl
-
 -- ---- The same by what was read: owners, kinds and switches.
 
-module _ (words owners : List ℕ) (h o : ℕ) (e : o ≡ get_or owners h 0) (b : Bool) (f : b ≡ built_in_at words o) where
+module _ (text words owners : List ℕ) (h o : ℕ) (e : o ≡ get_or owners h 0) (b : Bool) (f : b ≡ built_in_at words o) where
   built : b ≡ built_in_at words (get_or owners h 0)
   built = f ∙ ap (built_in_at words) e
 
-  pub second_own : b ≡ false → redefinition_errors_at (cards_view words owners) h ≡ error 4 h o ∷ []
-  second_own t = redefined_own (cards_view words owners) h (sym built ∙ t) ∙ ap (λ c. error 4 h c ∷ []) (sym e)
+  pub second_own : b ≡ false → redefinition_errors_at (view_of text words owners) h ≡ error 4 h o ∷ []
+  second_own t = redefined_own (view_of text words owners) h (sym built ∙ t) ∙ ap (λ c. error 4 h c ∷ []) (sym e)
 
   module _ (t : b ≡ true) (i : Bool) (g : i ≡ ignored_at words h) where
-    pub second_ignored : i ≡ true → redefinition_errors_at (cards_view words owners) h ≡ []
-    second_ignored u = redefined_ignored (cards_view words owners) h (sym built ∙ t) (sym g ∙ u)
+    pub second_ignored : i ≡ true → redefinition_errors_at (view_of text words owners) h ≡ []
+    second_ignored u = redefined_ignored (view_of text words owners) h (sym built ∙ t) (sym g ∙ u)
 
     module _ (u : i ≡ false) (k : ℕ) (q : k ≡ card_kind words h) where
-      pub second_scalar : k ≡ 5 → redefinition_errors_at (cards_view words owners) h ≡ error 5 h absent ∷ []
-      second_scalar s = redefined_scalar (cards_view words owners) h (sym built ∙ t) (sym g ∙ u) (sym q ∙ s)
+      pub second_scalar : k ≡ 5 → redefinition_errors_at (view_of text words owners) h ≡ error 5 h absent ∷ []
+      second_scalar s = redefined_scalar (view_of text words owners) h (sym built ∙ t) (sym g ∙ u) (sym q ∙ s)
 
-      pub second_other : (k ≡ 5 → ⊥) → redefinition_errors_at (cards_view words owners) h ≡ error 4 h o ∷ []
-      second_other s = redefined_other (cards_view words owners) h (sym built ∙ t) (sym g ∙ u) (λ z. s (q ∙ z)) ∙ ap (λ c. error 4 h c ∷ []) (sym e)
+      pub second_other : (k ≡ 5 → ⊥) → redefinition_errors_at (view_of text words owners) h ≡ error 4 h o ∷ []
+      second_other s = redefined_other (view_of text words owners) h (sym built ∙ t) (sym g ∙ u) (λ z. s (q ∙ z)) ∙ ap (λ c. error 4 h c ∷ []) (sym e)
 
 module _ (text words owners rows : List ℕ) (h c kind : ℕ) (q : kind ≡ card_kind words h) (l : c < h) (k : ℕ) (e : k ≡ card_kind words c) where
   pub early_other_kind : (k ≡ kind + 7 → ⊥) → early_errors (view_of text words owners) rows h c ≡ []
@@ -228,8 +243,8 @@ module _ (text words owners rows : List ℕ) (h o : ℕ) (e : o ≡ get_or owner
         ∙ ap₂ (λ m d. merge_errors (card_view text words) rows m d h) (sym (q ∙ ap (card_kind words) e)) (sym e))
 
 module _ (text words owners rows extensions : List ℕ) (h o : ℕ) (e : o ≡ get_or owners h 0) where
-  pub defined_again : o < h → type_errors_at (view_of text words owners) rows extensions h ≡ redefinition_errors_at (cards_view words owners) h
-  defined_again l = type_second (view_of text words owners) rows extensions h (omega arith) ∙ redefined_names text words owners h
+  pub defined_again : o < h → type_errors_at (view_of text words owners) rows extensions h ≡ redefinition_errors_at (view_of text words owners) h
+  defined_again l = type_second (view_of text words owners) rows extensions h (omega arith)
 
   pub defined_first : h ≤ o → (kind : ℕ) → kind ≡ card_kind words h →
       type_errors_at (view_of text words owners) rows extensions h ≡ merge_errors (card_view text words) rows kind h h
@@ -373,7 +388,7 @@ module _ (text words rows headings : List ℕ) (b : Bool) where
   no_schema_adopted e = rw e
 
   module _ (e : b ≡ false) (c : Bool) (f : c ≡ is_bare rows) where
-    pub no_schema_unmet : c ≡ true → no_schema_errors_at b (card_view text words) rows headings ≡ flat_map (unmet_errors (card_view [] words)) headings
+    pub no_schema_unmet : c ≡ true → no_schema_errors_at b (card_view text words) rows headings ≡ flat_map (unmet_errors (card_view text words)) headings
     unfolding no_schema_errors_at unmet_errors
     no_schema_unmet g = rw (e, ← f, g)
 

@@ -8,7 +8,7 @@ use lib.Dec.{eqb}
 use Rattle.definition.specs.Lists.{All, choose, found, find, flat_map}
 use Rattle.definition.specs.Headings.{NamedCard, alike}
 use Rattle.definition.specs.Errors.{error, collision, collisions, collision_number}
-use Rattle.from_ast_collisions.specs.declared.merging.Earlier.TheVariants.{Card, Nothing}
+use Rattle.std.specs.Prelude.{Some, None}
 use Rattle.from_ast_collisions.specs.Earlier.{View, stands_for, earlier_under, collision_with, collision_under}
 use Rattle.from_ast_collisions.proofs.Walks.{flat_cong, map_flat}
 use Rattle.from_ast_collisions.proofs.Repeats.{times, repeat_in, repeat_use, repeats_whole}
@@ -24,7 +24,7 @@ collision_with_lem k ps x = go (find (alike x) ps)
     one y true = refl
     one y false = refl
 
-    go : (o : Option NamedCard) → collision_with k x (found o (λ p. Card p.number) Nothing) ≡
+    go : (o : Option NamedCard) → collision_with k x (found o (λ p. Some p.number) None) ≡
         map (collision k) (found o (λ y. choose (eqb y.number x.number) [] ((x, y) ∷ [])) [])
     go none = refl
     go (some y) = one y (eqb y.number x.number)

@@ -12,8 +12,7 @@ use Rattle.definition.specs.Cards.{is_root}
 use Rattle.definition.specs.Headings.{NamedCard, alike}
 use Rattle.definition.specs.Catalogue.{Component, Row, part_in, alike_components, kept, component_row, is_component_of, list_of_kind}
 use Rattle.definition.specs.Outcomes.{words_of_row}
-use Rattle.from_ast_collisions.specs.declared.merging.Earlier.{Earlier}
-use Rattle.from_ast_collisions.specs.declared.merging.Earlier.TheVariants.{Card, Nothing}
+use Rattle.std.specs.Prelude.{Option as Answer, Some, None}
 use Rattle.from_ast_collisions.specs.Earlier.{View, stands_for, earlier_in, is_row_of, earlier_under}
 use Rattle.definition.proofs.Lists.{flat_map_nil, flat_map_cons, filter_nil, filter_yes, filter_no, filter_none, filter_append, first_nil, first_yes}
 use Rattle.definition.proofs.Lists.{first_no, any_nil, any_no, first_both, first_firsts}
@@ -51,16 +50,16 @@ Stops (r ∷ rs) = ltb r.what 20 ≡ true
 abbrev pub row_test : (ℕ → ℕ → Bool) → Row → Bool
 row_test test r = test r.what r.card
 
-unfoldable pub card_of : Option Row → Earlier
-card_of o = found o (λ r. Card r.card) Nothing
+unfoldable pub card_of : Option Row → Answer ℕ
+card_of o = found o (λ r. Some r.card) None
 
 module _ (test : ℕ → ℕ → Bool) where
-  in_end : (rs : List Row) → Stops rs → earlier_in test (row_words rs) ≡ Nothing
+  in_end : (rs : List Row) → Stops rs → earlier_in test (row_words rs) ≡ None
   unfolding earlier_in flat_map words_of_row
   in_end [] s = refl
   in_end (r ∷ rs) s = rw s
 
-  in_hit : (r : Row) (rs : List Row) → ltb r.what 20 ≡ false → row_test test r ≡ true → earlier_in test (row_words (r ∷ rs)) ≡ Card r.card
+  in_hit : (r : Row) (rs : List Row) → ltb r.what 20 ≡ false → row_test test r ≡ true → earlier_in test (row_words (r ∷ rs)) ≡ Some r.card
   unfolding earlier_in flat_map words_of_row
   in_hit r rs l e = rw (l, e)
 
@@ -139,8 +138,8 @@ list_of cs k js f h = list_in_lem cs k js ∙ rw (once k js f h, flat_map_cons (
 -- ---- The first component alike a part.
 
 -- The card of the first of some parts that is alike a part.
-unfoldable pub standing_among : List NamedCard → NamedCard → Earlier
-standing_among ps x = found (find (alike x) ps) (λ p. Card p.number) Nothing
+unfoldable pub standing_among : List NamedCard → NamedCard → Answer ℕ
+standing_among ps x = found (find (alike x) ps) (λ p. Some p.number) None
 
 -- Components whose names are told by their numbers; roots need none.
 abbrev pub Told : View → NamedCard → Component → Type 0
@@ -174,11 +173,11 @@ module _ (v : View) (x : NamedCard) (plain : eqb x.kind 20 ≡ false) (cs : List
   standing_listed js f h =
       ap card_of (first_both (of_kind x.kind) q (flat_map (list_of_kind (kept cs)) js))
       ∙ (ap (λ l. card_of (find q l)) (list_of (kept cs) x.kind js f h)
-      ∙ (first_mapped q component_row (λ r. Card r.card) Nothing (filter (is_component_of x.kind) (kept cs))
-      ∙ (ap (λ o. found o (λ c. Card c.part.number) Nothing)
+      ∙ (first_mapped q component_row (λ r. Some r.card) None (filter (is_component_of x.kind) (kept cs))
+      ∙ (ap (λ o. found o (λ c. Some c.part.number) None)
       (sym (first_both (is_component_of x.kind) (λ c. q (component_row c)) (kept cs))
       ∙ (first_cong (λ c. is_component_of x.kind c && q (component_row c)) alike_in (kept cs)
       (all_to (Told v x) (λ c. (is_component_of x.kind c && q (component_row c)) ≡ alike_in c) (λ c t. alike_told v x c plain t) (kept cs)
       (all_firsts (Told v x) alike_components [] cs told))
       ∙ first_firsts alike_components alike_in (λ a b t. alike_both x a.part b.part t) [] cs (any_nil alike_in)))
-      ∙ sym (first_mapped (alike x) part_in (λ p. Card p.number) Nothing cs))))
+      ∙ sym (first_mapped (alike x) part_in (λ p. Some p.number) None cs))))

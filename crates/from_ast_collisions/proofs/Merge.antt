@@ -10,36 +10,48 @@ use Rattle.definition.specs.Lists.{flat_map}
 use Rattle.definition.specs.Cards.{is_part}
 use Rattle.definition.specs.Headings.{NamedCard}
 use Rattle.definition.specs.Errors.{Error, error, collision_number}
+use Rattle.definition.specs.Merge.{error_numbers}
 use Rattle.definition.specs.Store.{cards_used_of}
 use Rattle.store_reader.specs.Stored.{stored_parts, card_kind, card_at, parts_from}
 use Rattle.store_reader.proofs.Words.{parts_next, parts_stop, parts_end}
-use Rattle.from_ast_collisions.specs.declared.merging.Earlier.{Earlier}
-use Rattle.from_ast_collisions.specs.declared.merging.Earlier.TheVariants.{Card, Nothing}
-use Rattle.from_ast_collisions.specs.Earlier.{View, stands_for, earlier_under, collision_with, collision_under, merge_errors}
+use Rattle.std.specs.Prelude.{Some, None}
+use Rattle.from_ast_collisions.specs.declared.pushing.Errors.{Errors}
+use Rattle.from_ast_collisions.specs.Pushing.{Capacity}
+use Rattle.from_ast_collisions.specs.Earlier.{View, stands_for, earlier_in, rows_under, collision_with, collision_under, merge_errors}
+use Rattle.from_ast_collisions.proofs.Turns.{under_after_lem}
 use Rattle.from_ast_collisions.specs.Views.{view_of, card_view}
 use Rattle.definition.proofs.Lists.{flat_map_nil, flat_map_cons}
 use Rattle.definition.proofs.Tests.{zero_one}
 
--- ---- One part.
+-- ---- One part, by the rows under its owner's.
 
 module _ (v : View) (rows : List ℕ) (k d : ℕ) (p : NamedCard) where
   pub collision_use : p.kind ≡ 20 → collision_under v rows k d p ≡ []
   unfolding collision_under
   collision_use e = rw (eq-eqb p.kind 20 e)
 
-  pub collision_nothing : (p.kind ≡ 20 → ⊥) → (s : Earlier) → s ≡ earlier_under k d (stands_for v p) rows → s ≡ Nothing → collision_under v rows k d p ≡ []
-  unfolding collision_under collision_with
-  collision_nothing e s f g = rw (ne_eqb p.kind 20 e, ← f, g)
+  module _ (under : List ℕ) (u : under ≡ rows_under k d rows) (e : p.kind ≡ 20 → ⊥) where
+    by_under : collision_under v rows k d p ≡ collision_with k p (earlier_in (stands_for v p) under)
+    unfolding collision_under
+    by_under = rw (ne_eqb p.kind 20 e, u) (ap (collision_with k p) (under_after_lem k d (stands_for v p) rows))
 
-  pub collision_own : (p.kind ≡ 20 → ⊥) → (s : Earlier) (c : ℕ) → s ≡ earlier_under k d (stands_for v p) rows → s ≡ Card c → c ≡ p.number →
-      collision_under v rows k d p ≡ []
-  unfolding collision_under collision_with
-  collision_own e s c f g h = rw (ne_eqb p.kind 20 e, ← f, g, eq-eqb c p.number h)
+    pub collision_nothing : earlier_in (stands_for v p) under ≡ None → collision_under v rows k d p ≡ []
+    unfolding collision_with
+    collision_nothing f = by_under ∙ rw f refl
 
-  pub collision_other : (p.kind ≡ 20 → ⊥) → (s : Earlier) (c : ℕ) → s ≡ earlier_under k d (stands_for v p) rows → s ≡ Card c → (c ≡ p.number → ⊥) →
-      collision_under v rows k d p ≡ error (collision_number k p.kind) p.number c ∷ []
-  unfolding collision_under collision_with
-  collision_other e s c f g h = rw (ne_eqb p.kind 20 e, ← f, g, ne_eqb c p.number h)
+    pub collision_own : (c : ℕ) → earlier_in (stands_for v p) under ≡ Some c → c ≡ p.number → collision_under v rows k d p ≡ []
+    unfolding collision_with
+    collision_own c f h = by_under ∙ rw (f, eq-eqb c p.number h) refl
+
+    pub collision_other : (c n : ℕ) → earlier_in (stands_for v p) under ≡ Some c → (c ≡ p.number → ⊥) → n ≡ collision_number k p.kind →
+        collision_under v rows k d p ≡ error n p.number c ∷ []
+    unfolding collision_with
+    collision_other c n f h q = by_under ∙ rw (f, ne_eqb c p.number h, q) refl
+
+-- An error that there is room for has one of the numbers.
+pub number_most : (l : Errors) (n c e : ℕ) → Capacity l (error n c e ∷ []) → n ≤ error_numbers
+unfolding Capacity error
+number_most l n c e r = r.0.most
 
 -- A part that is no directive use has a kind of 21 to 28.
 pub collision_kind : (n : ℕ) → is_part n ≡ true → (n ≡ 20 → ⊥) → (21 ≤ n) × (n ≤ 28)

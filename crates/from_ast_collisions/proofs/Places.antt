@@ -1,36 +1,23 @@
--- Places of cards: cleared, and given from the last row to the first.
+-- Places of cards, given from the last row to the first.
 use mathlib.Core.Path.{◌≡◌, refl, sym, ◌∙◌, ap, subst}
 use mathlib.Core.List.{List}
 use mathlib.Core.Bool.{Bool, true, false}
 use mathlib.Core.Logic.{◌⊎◌, inl, inr, ⊎_elim}
-use Prim.Native.Nat.{ℕ, ◌+◌, ◌≤◌, ◌<◌}
+use Prim.Native.Nat.{ℕ, zero, suc, ◌+◌, ◌≤◌, ◌<◌}
 use native.Mathlib.Omega.{arith}
 use lib.Dec.{eqb, ltb}
-use lib.ListN.{length, get_or, set, drop, get_or-eq_default}
+use lib.ListN.{length, get_or, set, drop, replicate, get_or-eq_default}
 use lib.Seq.{get_or-set_same, get_or-set_other}
 use borrow.Author.Tests.{eqb-true, eqb-false, ltb-true, ltb-false}
-use Rattle.from_ast_collisions.specs.Earlier.{is_row_of, row_offset}
+use Rattle.from_ast_collisions.specs.Earlier.{is_row_of, rows_under}
 use Rattle.from_ast_collisions.specs.Placing.{SameEnd, PlacedFrom, Placed}
-use Rattle.from_ast_collisions.proofs.Turns.{row_no_what, row_no_card, row_miss}
+use Rattle.from_ast_collisions.proofs.Turns.{row_no_what, row_no_card, row_miss, under_from}
 
--- ---- Cleared.
-
-pub cleared_more : (places : List ℕ) (i : ℕ) → i < length places → ((c : ℕ) → c < i → get_or places c 0 ≡ 0) → (c : ℕ) → c < i + 1 →
-    get_or (set places i 0) c 0 ≡ 0
-cleared_more places i l below c h = go (eqb c i) refl
-  where
-    go : (b : Bool) → eqb c i ≡ b → get_or (set places i 0) c 0 ≡ 0
-    go true e = ap (λ j. get_or (set places i 0) j 0) (eqb-true c i e) ∙ get_or-set_same places i 0 0 l
-    go false e = let n = eqb-false c i e in get_or-set_other places i c 0 0 n ∙ below c (omega arith)
-
-pub cleared_all : (places : List ℕ) (i : ℕ) → length places ≤ i → ((c : ℕ) → c < i → get_or places c 0 ≡ 0) → (c : ℕ) → get_or places c 0 ≡ 0
-cleared_all places i l below c = go (ltb c i) refl
-  where
-    go : (b : Bool) → ltb c i ≡ b → get_or places c 0 ≡ 0
-    go true e = below c (ltb-true c i e)
-    go false e = let h = ltb-false c i e in get_or-eq_default places 0 (omega arith)
-
--- ---- Given.
+-- No card has a place yet.
+pub no_place : (n card : ℕ) → let zero_word : ℕ = 0 in get_or (replicate n zero_word) card 0 ≡ 0
+no_place zero card = refl
+no_place (suc n) zero = refl
+no_place (suc n) (suc card) = no_place n card
 
 module _ (rows places : List ℕ) (i : ℕ) (h : i + 2 < length rows) (placed : PlacedFrom rows places (i + 3)) where
   -- A row of another is passed over.
@@ -72,6 +59,6 @@ placed_all rows places placed card = ⊎_elim (λ e. rw e (record { inside = ome
 
 -- The search for a heading's row begins at its card's place.
 pub search_from : (rows places : List ℕ) (what card from : ℕ) → Placed rows places → what < 20 → from ≡ get_or places card 0 →
-    (from ≤ length rows) × (row_offset what card rows ≡ from + row_offset what card (drop from rows))
+    rows_under what card (drop from rows) ≡ rows_under what card rows
 search_from rows places what card from placed l e =
-    rw e ((placed card).inside, omega (arith, (placed card).same what l))
+    under_from what card rows from (rw e (omega (arith, (placed card).same what l)))

@@ -1,72 +1,78 @@
 -- Pushing errors: what one push does to the slice, pushes one after another, and the room that they need.
-use mathlib.Core.Path.{◌≡◌, refl, sym, ◌∙◌, ap, ap₂, subst}
-use mathlib.Core.List.{List, [], ◌∷◌, ◌++◌, append_assoc, append-nil}
+use mathlib.Core.Path.{◌≡◌, refl, sym, ◌∙◌, ap, subst}
+use mathlib.Core.List.{List, [], ◌∷◌, ◌++◌, append_assoc}
 use Prim.Native.Nat.{ℕ, ◌+◌, ◌-◌, ◌*◌, ◌≤◌, ◌<◌}
 use native.Mathlib.Omega.{arith}
-use native.Mathlib.Nat.{zero-add}
 use native.Mathlib.Numerals.{add-one}
-use lib.ListN.{length, take, drop, get_or, set, length-drop, drop_of_length-le}
-use lib.Seq.{sets-eq, take_all, drop-drop, drop-cons}
+use lib.ListN.{length, drop, get_or, set, drop_of_length-le}
+use lib.Seq.{take_all, drop-drop, drop-cons}
 use borrow.Rule.Slice.PartMut.{put_mid}
-use Rattle.definition.specs.declared.Tallies.{Tallies}
 use Rattle.definition.specs.Lists.{flat_map, written}
 use Rattle.definition.specs.Errors.{Error, error}
 use Rattle.definition.specs.Outcomes.{words_of_error}
-use Rattle.from_ast_collisions.specs.Pushing.{Ledger, ledger, counted_in, push, push_all, Capacity, ErrorsFit, Pushes}
+use Rattle.from_ast_collisions.specs.declared.pushing.Errors.{Errors}
+use Rattle.from_ast_collisions.specs.Pushing.{push, push_all, counted_in, Capacity}
 use Rattle.definition.proofs.Lists.{flat_map_nil, flat_map_cons}
 
 -- ---- One push.
 
--- Three words stored where a slice begins.
-pub three_written : (l : List ℕ) (a b c : ℕ) → 3 ≤ length l → set (set (set l 0 a) 1 b) 2 c ≡ written l 0 (a ∷ (b ∷ (c ∷ [])))
+-- What was written into a lent part, said of the whole.
+pub part_written : (a n : ℕ) (w s : List ℕ) → n ≡ length s → put_mid a n w s ≡ written w a s
 unfolding written
-three_written l a b c h = sets-eq (a ∷ (b ∷ (c ∷ []))) l 0 h
-
--- What was written where a lent tail begins, said of the whole.
-pub tail_written : (a : ℕ) (w s ys : List ℕ) → a ≤ length w → ys ≡ written (take (length w - a) (drop a w)) 0 s → put_mid a (length w - a) w ys ≡ written w a s
-unfolding written
-tail_written a w s ys h e =
-    rw (drop_of_length-le (drop a w) {i = length w - a} (simp length-drop (omega arith)))
-    (ap (λ (l : List ℕ). take a w ++ l) (append-nil ys
-    ∙ (e ∙ simp (take_all (length w - a) (drop a w) (simp length-drop (omega arith)), zero-add, drop-drop)))
-    ∙ sym (append_assoc (take a w) (take (length s) s) (drop (a + length s) w)))
+part_written a n w s e =
+    rw e (simp (take_all (length s) s (omega arith), drop-drop, append_assoc))
 
 -- An error that was written and counted is pushed.
-pub pushed : (errors exit : List ℕ) (t r : Tallies) (n c e : ℕ) → exit ≡ written errors (3 * t.total) (n ∷ (c ∷ (e ∷ []))) →
-    r ≡ record { counts = counted_in t.counts n; total = t.total + 1 } → Pushes errors t exit r (error n c e ∷ [])
-unfolding push_all push error words_of_error
-pushed errors exit t r n c e p q = ap₂ ledger p q
+pub pushed : (l : Errors) (n r c e k : ℕ) (ws : List ℕ) → r ≡ n → k ≡ 3 → ws ≡ r ∷ (c ∷ (e ∷ [])) →
+    record {
+      words = record l.words { now = put_mid (3 * l.tallies.total) k l.words.now ws };
+      tallies = record { counts = set l.tallies.counts (r - 1) (get_or l.tallies.counts (r - 1) 0 + 1); total = l.tallies.total + 1 };
+    }
+    ≡ push_all l (error n c e ∷ [])
+unfolding push_all push error words_of_error counted_in
+pushed l n r c e k ws m p q =
+    rw (q, m)
+    (ap (λ (w : List ℕ). record {
+      words = record l.words { now = w };
+      tallies = record { counts = set l.tallies.counts (n - 1) (get_or l.tallies.counts (n - 1) 0 + 1); total = l.tallies.total + 1 };
+    }) (part_written (3 * l.tallies.total) k l.words.now (n ∷ (c ∷ (e ∷ []))) p))
+
+-- Pushing does not change what the slice is.
+pub pushed_reference : (l : Errors) (es : List Error) → (push_all l es).words.ghost_name ≡ l.words.ghost_name
+unfolding push_all push
+pushed_reference l [] = refl
+pushed_reference l (e ∷ es) = pushed_reference (push l e) es
 
 -- ---- Pushes one after another.
 
-pub push_none : (l : Ledger) → l ≡ push_all l []
+pub push_none : (l : Errors) → l ≡ push_all l []
 unfolding push_all
 push_none l = refl
 
-pub push_append : (l : Ledger) (xs ys : List Error) → push_all l (xs ++ ys) ≡ push_all (push_all l xs) ys
+pub push_append : (l : Errors) (xs ys : List Error) → push_all l (xs ++ ys) ≡ push_all (push_all l xs) ys
 unfolding push_all
 push_append l [] ys = refl
 push_append l (x ∷ xs) ys = push_append (push l x) xs ys
 
-capacity_left : (l : Ledger) (xs ys : List Error) → Capacity l (xs ++ ys) → Capacity l xs
+capacity_left : (l : Errors) (xs ys : List Error) → Capacity l (xs ++ ys) → Capacity l xs
 unfolding Capacity
 capacity_left l [] ys r = tt
 capacity_left l (x ∷ xs) ys r = (r.0, capacity_left (push l x) xs ys r.1)
 
-capacity_right : (l : Ledger) (xs ys : List Error) → Capacity l (xs ++ ys) → Capacity (push_all l xs) ys
+capacity_right : (l : Errors) (xs ys : List Error) → Capacity l (xs ++ ys) → Capacity (push_all l xs) ys
 unfolding push_all Capacity
 capacity_right l [] ys r = r
 capacity_right l (x ∷ xs) ys r = capacity_right (push l x) xs ys r.1
 
 -- From l₀, where `whole` is to be pushed, all but `rest` was pushed.
-pub record Going (l₀ l : Ledger) (whole rest : List Error) : Type 0 where
+pub record Going (l₀ l : Errors) (whole rest : List Error) : Type 0 where
   pub same : push_all l rest ≡ push_all l₀ whole
   pub capacity : Capacity l rest
 
-pub going_start : (l : Ledger) (whole : List Error) → Capacity l whole → Going l l whole whole
+pub going_start : (l : Errors) (whole : List Error) → Capacity l whole → Going l l whole whole
 going_start l whole r = record { same = refl; capacity = r }
 
-module _ (l₀ l : Ledger) (whole : List Error) where
+module _ (l₀ l : Errors) (whole : List Error) where
   -- The rest, told another way.
   pub going_as : (rest other : List Error) → rest ≡ other → Going l₀ l whole rest → Going l₀ l whole other
   going_as rest other e g = subst (Going l₀ l whole) e g
@@ -74,7 +80,7 @@ module _ (l₀ l : Ledger) (whole : List Error) where
   pub going_capacity : (xs rest : List Error) → Going l₀ l whole (xs ++ rest) → Capacity l xs
   going_capacity xs rest g = capacity_left l xs rest g.capacity
 
-  pub going_on : (l' : Ledger) (xs rest : List Error) → l' ≡ push_all l xs → Going l₀ l whole (xs ++ rest) → Going l₀ l' whole rest
+  pub going_on : (l' : Errors) (xs rest : List Error) → l' ≡ push_all l xs → Going l₀ l whole (xs ++ rest) → Going l₀ l' whole rest
   going_on l' xs rest e g = record {
     same = ap (λ m. push_all m rest) e ∙ (sym (push_append l xs rest) ∙ g.same);
     capacity = subst (λ m. Capacity m rest) (sym e) (capacity_right l xs rest g.capacity);
@@ -84,7 +90,7 @@ module _ (l₀ l : Ledger) (whole : List Error) where
   pub next_capacity : (rest xs more : List Error) → rest ≡ xs ++ more → Going l₀ l whole rest → Capacity l xs
   next_capacity rest xs more e g = going_capacity xs more (going_as rest (xs ++ more) e g)
 
-  pub next_on : (l' : Ledger) (rest xs more : List Error) → rest ≡ xs ++ more → l' ≡ push_all l xs → Going l₀ l whole rest → Going l₀ l' whole more
+  pub next_on : (l' : Errors) (rest xs more : List Error) → rest ≡ xs ++ more → l' ≡ push_all l xs → Going l₀ l whole rest → Going l₀ l' whole more
   next_on l' rest xs more e p g = going_on l' xs more p (going_as rest (xs ++ more) e g)
 
   pub going_end : (rest : List Error) → rest ≡ [] → Going l₀ l whole rest → l ≡ push_all l₀ whole
@@ -99,56 +105,53 @@ flat_next f xs i h = ap (flat_map f) (rw (add-one, drop-cons xs i 0)) ∙ flat_m
 flat_done {ℓ} : {B : Type ℓ} (f : ℕ → List B) (xs : List ℕ) (i : ℕ) → length xs ≤ i → flat_map f (drop i xs) ≡ []
 flat_done f xs i h = ap (flat_map f) (drop_of_length-le xs h) ∙ flat_map_nil f
 
--- The turn i of a loop that pushes what f gives for each of xs: the slice keeps its length, and what the cards from i on give is left.
-abbrev pub Turn : (ℕ → List Error) → List ℕ → List ℕ → Tallies → List ℕ → Tallies → ℕ → Type 0
-Turn f xs errors₀ t₀ errors t i =
-    (length errors ≡ length errors₀) × (i ≤ length xs) × Going (ledger errors₀ t₀) (ledger errors t) (flat_map f xs) (flat_map f (drop i xs))
+-- The turn i of a loop that pushes what f gives for each of xs: what the cards from i on give is left.
+pub record Turn (f : ℕ → List Error) (xs : List ℕ) (l₀ l : Errors) (i : ℕ) : Type 0 where
+  pub inside : i ≤ length xs
+  pub going : Going l₀ l (flat_map f xs) (flat_map f (drop i xs))
 
-module _ (f : ℕ → List Error) (xs errors₀ : List ℕ) (t₀ : Tallies) where
-  pub turn_first : ErrorsFit errors₀ t₀ (flat_map f xs) → Turn f xs errors₀ t₀ errors₀ t₀ 0
-  turn_first r = (refl, omega arith, going_start (ledger errors₀ t₀) (flat_map f xs) r)
+module _ (f : ℕ → List Error) (xs : List ℕ) (l₀ : Errors) where
+  pub turn_first : Capacity l₀ (flat_map f xs) → Turn f xs l₀ l₀ 0
+  turn_first r = record { inside = omega arith; going = going_start l₀ (flat_map f xs) r }
 
-  module _ (errors : List ℕ) (t : Tallies) (i : ℕ) (turn : Turn f xs errors₀ t₀ errors t i) where
-    pub turn_fits : i < length xs → ErrorsFit errors t (f (get_or xs i 0))
-    turn_fits l =
-        next_capacity (ledger errors₀ t₀) (ledger errors t) (flat_map f xs) (flat_map f (drop i xs)) (f (get_or xs i 0)) (flat_map f (drop (i + 1) xs))
-        (flat_next f xs i l) turn.2
+  module _ (l : Errors) (i : ℕ) (turn : Turn f xs l₀ l i) where
+    pub turn_fits : i < length xs → Capacity l (f (get_or xs i 0))
+    turn_fits h =
+        next_capacity l₀ l (flat_map f xs) (flat_map f (drop i xs)) (f (get_or xs i 0)) (flat_map f (drop (i + 1) xs)) (flat_next f xs i h) turn.going
 
-    pub turn_next : i < length xs → (errors' : List ℕ) (t' : Tallies) → length errors' ≡ length errors → Pushes errors t errors' t' (f (get_or xs i 0)) →
-        Turn f xs errors₀ t₀ errors' t' (i + 1)
-    turn_next l errors' t' k p = (
-      k ∙ turn.0,
-      omega arith,
-      next_on (ledger errors₀ t₀) (ledger errors t) (flat_map f xs) (ledger errors' t') (flat_map f (drop i xs)) (f (get_or xs i 0))
-          (flat_map f (drop (i + 1) xs)) (flat_next f xs i l) p turn.2,
-    )
+    pub turn_next : i < length xs → (l' : Errors) → l' ≡ push_all l (f (get_or xs i 0)) → Turn f xs l₀ l' (i + 1)
+    turn_next h l' p = record {
+      inside = omega arith;
+      going =
+          next_on l₀ l (flat_map f xs) l' (flat_map f (drop i xs)) (f (get_or xs i 0)) (flat_map f (drop (i + 1) xs)) (flat_next f xs i h) p turn.going;
+    }
 
     -- The cards from i on give nothing, or there are none.
-    pub turn_left : flat_map f (drop i xs) ≡ [] → Pushes errors₀ t₀ errors t (flat_map f xs)
-    turn_left e = going_end (ledger errors₀ t₀) (ledger errors t) (flat_map f xs) (flat_map f (drop i xs)) e turn.2
+    pub turn_left : flat_map f (drop i xs) ≡ [] → l ≡ push_all l₀ (flat_map f xs)
+    turn_left e = going_end l₀ l (flat_map f xs) (flat_map f (drop i xs)) e turn.going
 
-    pub turn_last : length xs ≤ i → Pushes errors₀ t₀ errors t (flat_map f xs)
-    turn_last l = turn_left (flat_done f xs i l)
+    pub turn_last : length xs ≤ i → l ≡ push_all l₀ (flat_map f xs)
+    turn_last h = turn_left (flat_done f xs i h)
 
 -- ---- Another name for what is pushed, also for nothing.
 
-pub same_pushed : (l l' : Ledger) (es fs : List Error) → es ≡ fs → l' ≡ push_all l fs → l' ≡ push_all l es
+pub same_pushed : (l l' : Errors) (es fs : List Error) → es ≡ fs → l' ≡ push_all l fs → l' ≡ push_all l es
 same_pushed l l' es fs e p = p ∙ ap (push_all l) (sym e)
 
-pub same_capacity : (l : Ledger) (es fs : List Error) → es ≡ fs → Capacity l es → Capacity l fs
+pub same_capacity : (l : Errors) (es fs : List Error) → es ≡ fs → Capacity l es → Capacity l fs
 same_capacity l es fs e r = subst (Capacity l) e r
 
-pub none_pushed : (l : Ledger) (es : List Error) → es ≡ [] → l ≡ push_all l es
+pub none_pushed : (l : Errors) (es : List Error) → es ≡ [] → l ≡ push_all l es
 none_pushed l es e = push_none l ∙ ap (push_all l) (sym e)
 
 -- ---- Two lists, one after the other.
 
-module _ (l l' : Ledger) (es xs ys : List Error) (e : es ≡ xs ++ ys) where
+module _ (l l' : Errors) (es xs ys : List Error) (e : es ≡ xs ++ ys) where
   pub first_capacity : Capacity l es → Capacity l xs
   first_capacity r = capacity_left l xs ys (subst (Capacity l) e r)
 
   pub second_capacity : l' ≡ push_all l xs → Capacity l es → Capacity l' ys
   second_capacity p r = subst (λ m. Capacity m ys) (sym p) (capacity_right l xs ys (subst (Capacity l) e r))
 
-  pub both_pushed : (l'' : Ledger) → l' ≡ push_all l xs → l'' ≡ push_all l' ys → l'' ≡ push_all l es
+  pub both_pushed : (l'' : Errors) → l' ≡ push_all l xs → l'' ≡ push_all l' ys → l'' ≡ push_all l es
   both_pushed l'' p q = q ∙ (ap (λ m. push_all m ys) p ∙ (sym (push_append l xs ys) ∙ ap (push_all l) (sym e)))

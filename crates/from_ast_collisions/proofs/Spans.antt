@@ -16,10 +16,12 @@ use Rattle.from_ast_index.specs.Index.{owner_at, Spanned, part, own_extensions}
 use Rattle.from_ast_index.proofs.Lists.{taken_most}
 use Rattle.from_ast_collisions.specs.Earlier.{View, merge_errors}
 use Rattle.from_ast_collisions.specs.ErrorsByCards.{is_early, early_errors, type_errors_at}
-use Rattle.from_ast_collisions.specs.Views.{view_of, card_view, Ascending}
+use Rattle.from_ast_collisions.specs.Views.{view_of, card_view, view, cards, merged, Ascending}
+use Rattle.from_ast_index.specs.declared.Index.{Index}
+use Rattle.from_ast_collisions.specs.declared.owner.Owner.{Owner}
 use Rattle.definition.proofs.Lists.{flat_map_nil, flat_map_cons, flat_map_append}
 use Rattle.from_ast_collisions.proofs.Tests.{and_false}
-use Rattle.from_ast_collisions.proofs.Branches.{defined_first, held_before}
+use Rattle.from_ast_collisions.proofs.Branches.{defined_first, held_before, owner_merged}
 
 -- ---- What a list gives, a part of it gives where all else gives nothing.
 
@@ -113,3 +115,13 @@ module _ (text words owners rows extensions starts ends : List ℕ) (h : ℕ) (s
       defined_first text words owners rows extensions h o e l kind q
       ∙ ap (λ (m : List Error). merge_errors (card_view text words) rows kind h h ++ m)
       (early_spanned ∙ ap (flat_map (early_errors (view_of text words owners) rows h)) (sym is))
+
+-- The same by the row of the definition.
+pub defined_owned : (i : Index) (rows : List ℕ) (r : Owner) (h o : ℕ) → h < cards_used_of i.collection.words.now → o ≡ get_or i.owners.now h 0 → h ≤ o →
+    (kind : ℕ) → kind ≡ card_kind i.collection.words.now h → r.rows.now ≡ rows → r.kind ≡ kind → r.card ≡ h →
+    (own : List ℕ) → own ≡ own_extensions i.extensions.now i.starts.now i.ends.now h →
+    type_errors_at (view i) rows i.extensions.now h ≡ merged (cards i.collection) r h ++ flat_map (early_errors (view i) r.rows.now r.card) own
+defined_owned i rows r h o stored e l kind q a b c own is =
+    defined_spanned i.collection.text.now i.collection.words.now i.owners.now rows i.extensions.now i.starts.now i.ends.now h i.spanned stored o e l kind q own is
+    ∙ ap₂ (λ (x y : List Error). x ++ y) (owner_merged (cards i.collection) r rows kind h h a b c)
+    (ap₂ (λ (s : List ℕ) (d : ℕ). flat_map (early_errors (view i) s d) own) (sym a) (sym c))

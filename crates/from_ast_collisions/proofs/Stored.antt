@@ -20,7 +20,7 @@ use Rattle.store_reader.proofs.Group.{headings_nil, headings_part, headings_head
 use Rattle.store_reader.proofs.Words.{stored_is, stored_inside, headings_next, headings_skip, headings_end, headings_start, headings_at, next_after}
 use Rattle.store_reader.proofs.DocumentsLaws.{InPlaces, Ordered}
 use Rattle.store_reader.proofs.Laws.{cards_fit_lem, headings_ordered}
-use Rattle.from_ast_index.specs.Index.{Indexed, is_typed}
+use Rattle.from_ast_index.specs.Index.{Listed, is_typed}
 use Rattle.from_ast_index.proofs.Lists.{get_all}
 use Rattle.from_ast_collisions.specs.Earlier.{View}
 use Rattle.from_ast_collisions.specs.Views.{view_of}
@@ -195,8 +195,8 @@ schema_kinds h o t =
 
 -- ---- All of it.
 
-module _ (text words headings_of hashes owners type_cards orphan_cards extension_cards : List ℕ) (m t o e : ℕ) (ok : sound text words ≡ true)
-    (x : Indexed text words headings_of hashes owners type_cards orphan_cards extension_cards m t o e) where
+module _ (text words headings owners types orphans extensions : List ℕ) (ok : sound text words ≡ true)
+    (x : Listed text words headings owners types orphans extensions) where
   abbrev v : View
   v = view_of text words owners
 

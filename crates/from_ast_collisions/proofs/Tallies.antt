@@ -13,7 +13,9 @@ use Rattle.definition.specs.Errors.{Error}
 use Rattle.definition.specs.Merge.{error_numbers, numbers_from, is_numbered, tally, tallies}
 use Rattle.definition.specs.Refusals.{card_capacity}
 use Rattle.definition.specs.Outcomes.{words_of_error}
-use Rattle.from_ast_collisions.specs.Pushing.{Ledger, ledger, no_errors, counted_in, push, push_all, Capacity, ErrorsFit}
+use Rattle.std.specs.Borrow.{MutBor}
+use Rattle.from_ast_collisions.specs.declared.pushing.Errors.{Errors}
+use Rattle.from_ast_collisions.specs.Pushing.{no_errors, counted_in, push, push_all, Capacity}
 use Rattle.definition.proofs.Lists.{flat_map_nil, flat_map_cons, filter_nil, filter_yes, filter_no}
 
 -- An error's number is one that a tally counts.
@@ -42,8 +44,8 @@ written_none xs u = sym (paste-zero xs u [])
 
 -- ---- One push.
 
-module _ (l : Ledger) (e : Error) where
-  push_words : (push l e).errors ≡ written l.errors (3 * l.tallies.total) (words_of_error e)
+module _ (l : Errors) (e : Error) where
+  push_words : (push l e).words.now ≡ written l.words.now (3 * l.tallies.total) (words_of_error e)
   unfolding push
   push_words = refl
 
@@ -59,32 +61,32 @@ three : (e : Error) → length (words_of_error e) ≡ 3
 unfolding words_of_error
 three e = refl
 
-push_length : (l : Ledger) (e : Error) → 3 * l.tallies.total + 3 ≤ length l.errors → length (push l e).errors ≡ length l.errors
-push_length l e h = ap length (push_words l e) ∙ written_length l.errors (3 * l.tallies.total) (words_of_error e) (omega (arith, three e))
+push_length : (l : Errors) (e : Error) → 3 * l.tallies.total + 3 ≤ length l.words.now → length (push l e).words.now ≡ length l.words.now
+push_length l e h = ap length (push_words l e) ∙ written_length l.words.now (3 * l.tallies.total) (words_of_error e) (omega (arith, three e))
 
 -- ---- All pushes.
 
-push_nil : (l : Ledger) → push_all l [] ≡ l
+push_nil : (l : Errors) → push_all l [] ≡ l
 unfolding push_all
 push_nil l = refl
 
-push_cons : (l : Ledger) (e : Error) (es : List Error) → push_all l (e ∷ es) ≡ push_all (push l e) es
+push_cons : (l : Errors) (e : Error) (es : List Error) → push_all l (e ∷ es) ≡ push_all (push l e) es
 unfolding push_all
 push_cons l e es = refl
 
-pub pushed_total : (l : Ledger) (es : List Error) → (push_all l es).tallies.total ≡ l.tallies.total + length es
-pushed_total l [] = omega (arith, ap (λ (m : Ledger). m.tallies.total) (push_nil l))
-pushed_total l (e ∷ es) = omega (arith, ap (λ (m : Ledger). m.tallies.total) (push_cons l e es), pushed_total (push l e) es, push_total l e)
+pub pushed_total : (l : Errors) (es : List Error) → (push_all l es).tallies.total ≡ l.tallies.total + length es
+pushed_total l [] = omega (arith, ap (λ (m : Errors). m.tallies.total) (push_nil l))
+pushed_total l (e ∷ es) = omega (arith, ap (λ (m : Errors). m.tallies.total) (push_cons l e es), pushed_total (push l e) es, push_total l e)
 
-pub pushed_words : (l : Ledger) (es : List Error) → 3 * (l.tallies.total + length es) ≤ length l.errors →
-    (push_all l es).errors ≡ written l.errors (3 * l.tallies.total) (flat_map words_of_error es)
-pushed_words l [] h = ap (λ (m : Ledger). m.errors) (push_nil l) ∙ sym (rw (flat_map_nil words_of_error) (written_none l.errors (3 * l.tallies.total)))
+pub pushed_words : (l : Errors) (es : List Error) → 3 * (l.tallies.total + length es) ≤ length l.words.now →
+    (push_all l es).words.now ≡ written l.words.now (3 * l.tallies.total) (flat_map words_of_error es)
+pushed_words l [] h = ap (λ (m : Errors). m.words.now) (push_nil l) ∙ sym (rw (flat_map_nil words_of_error) (written_none l.words.now (3 * l.tallies.total)))
 pushed_words l (e ∷ es) h =
-    ap (λ (m : Ledger). m.errors) (push_cons l e es)
+    ap (λ (m : Errors). m.words.now) (push_cons l e es)
     ∙ (pushed_words (push l e) es (omega (arith, push_length l e (omega arith), push_total l e))
     ∙ (ap₂ (λ xs u. written xs u (flat_map words_of_error es)) (push_words l e) (place (push l e).tallies.total (push_total l e))
-    ∙ (written_append l.errors (3 * l.tallies.total) (words_of_error e) (flat_map words_of_error es) (omega (arith, three e))
-    ∙ ap (written l.errors (3 * l.tallies.total)) (sym (flat_map_cons words_of_error e es)))))
+    ∙ (written_append l.words.now (3 * l.tallies.total) (words_of_error e) (flat_map words_of_error es) (omega (arith, three e))
+    ∙ ap (written l.words.now (3 * l.tallies.total)) (sym (flat_map_cons words_of_error e es)))))
   where
     place : (n : ℕ) → n ≡ l.tallies.total + 1 → 3 * n ≡ 3 * l.tallies.total + length (words_of_error e)
     place n q = omega (arith, three e)
@@ -103,19 +105,19 @@ tally_no : (n : ℕ) (e : Error) (es : List Error) → (e.number ≡ n → ⊥) 
 unfolding tally is_numbered
 tally_no n e es q = ap length (filter_no (is_numbered n) e es (ne_eqb e.number n q))
 
-counts_length : (l : Ledger) (es : List Error) → length (push_all l es).tallies.counts ≡ length l.tallies.counts
-counts_length l [] = ap (λ (m : Ledger). length m.tallies.counts) (push_nil l)
+counts_length : (l : Errors) (es : List Error) → length (push_all l es).tallies.counts ≡ length l.tallies.counts
+counts_length l [] = ap (λ (m : Errors). length m.tallies.counts) (push_nil l)
 counts_length l (e ∷ es) =
-    ap (λ (m : Ledger). length m.tallies.counts) (push_cons l e es)
+    ap (λ (m : Errors). length m.tallies.counts) (push_cons l e es)
     ∙ (counts_length (push l e) es
     ∙ (ap length (push_counts l e) ∙ length-set l.tallies.counts (e.number - 1) (get_or l.tallies.counts (e.number - 1) 0 + 1)))
 
-counts_are : (l : Ledger) (es : List Error) (i : ℕ) → All Legal es → length l.tallies.counts ≡ error_numbers →
+counts_are : (l : Errors) (es : List Error) (i : ℕ) → All Legal es → length l.tallies.counts ≡ error_numbers →
     get_or (push_all l es).tallies.counts i 0 ≡ get_or l.tallies.counts i 0 + tally es (i + 1)
-counts_are l [] i a h = omega (arith, ap (λ (m : Ledger). get_or m.tallies.counts i 0) (push_nil l), tally_nil (i + 1))
+counts_are l [] i a h = omega (arith, ap (λ (m : Errors). get_or m.tallies.counts i 0) (push_nil l), tally_nil (i + 1))
 counts_are l (e ∷ es) i a h =
     go (eqb e.number (i + 1)) refl
-    (ap (λ (m : Ledger). get_or m.tallies.counts i 0) (push_cons l e es)
+    (ap (λ (m : Errors). get_or m.tallies.counts i 0) (push_cons l e es)
     ∙ counts_are (push l e) es i a.1 (ap length (push_counts l e)
     ∙ (length-set l.tallies.counts (e.number - 1) (get_or l.tallies.counts (e.number - 1) 0 + 1) ∙ h)))
   where
@@ -148,14 +150,14 @@ numbers_at f a (suc n) zero h = ap f (omega arith)
 numbers_at f a (suc n) (suc i) h = numbers_at f (a + 1) n i (omega arith) ∙ ap f (omega arith)
 
 -- All errors pushed from the start.
-pub pushed_tallies : (errors : List ℕ) (es : List Error) → All Legal es → (push_all (ledger errors no_errors) es).tallies.counts ≡ tallies es
+pub pushed_tallies : (words : MutBor (List ℕ)) (es : List Error) → All Legal es → (push_all (no_errors words) es).tallies.counts ≡ tallies es
 unfolding tallies
-pushed_tallies errors es a =
-    ext_get_or 0 (push_all (ledger errors no_errors) es).tallies.counts (map (tally es) (numbers_from 1 error_numbers))
-    (counts_length (ledger errors no_errors) es ∙ sym (numbers_length (tally es) 1 error_numbers))
+pushed_tallies words es a =
+    ext_get_or 0 (push_all (no_errors words) es).tallies.counts (map (tally es) (numbers_from 1 error_numbers))
+    (counts_length (no_errors words) es ∙ sym (numbers_length (tally es) 1 error_numbers))
     (λ i h.
-    let b : i < error_numbers = omega (arith, counts_length (ledger errors no_errors) es) in
-    counts_are (ledger errors no_errors) es i a refl
+    let b : i < error_numbers = omega (arith, counts_length (no_errors words) es) in
+    counts_are (no_errors words) es i a refl
     ∙ (omega (arith, get_or-replicate {A = ℕ} error_numbers i 0 0 b) ∙ (ap (tally es) (one_more_lem i) ∙ sym (numbers_at (tally es) 1 error_numbers i b))))
   where
     one_more_lem : (i : ℕ) → i + 1 ≡ 1 + i
@@ -164,7 +166,7 @@ pushed_tallies errors es a =
 -- ---- Room.
 
 -- What is counted is at most as much as was pushed.
-abbrev Small : Ledger → Type 0
+abbrev Small : Errors → Type 0
 Small l = (i : ℕ) → get_or l.tallies.counts i 0 ≤ l.tallies.total
 
 set_small : (counts : List ℕ) (j v m : ℕ) → ((i : ℕ) → get_or counts i 0 ≤ m) → v ≤ m → (i : ℕ) → get_or (set counts j v) i 0 ≤ m
@@ -174,13 +176,13 @@ set_small (c ∷ cs) zero v m s h (suc i) = s (suc i)
 set_small (c ∷ cs) (suc j) v m s h zero = s zero
 set_small (c ∷ cs) (suc j) v m s h (suc i) = set_small cs j v m (λ k. s (suc k)) h i
 
-push_small : (l : Ledger) (e : Error) → Small l → Small (push l e)
+push_small : (l : Errors) (e : Error) → Small l → Small (push l e)
 push_small l e s i =
     let b = set_small l.tallies.counts (e.number - 1) (get_or l.tallies.counts (e.number - 1) 0 + 1) (l.tallies.total + 1)
     (λ k. omega (arith, s k)) (omega (arith, s (e.number - 1))) i in
     omega (arith, b, push_total l e, ap (λ (c : List ℕ). get_or c i 0) (push_counts l e))
 
-pub capacity_for_lem : (l : Ledger) (es : List Error) → 3 * (l.tallies.total + length es) ≤ length l.errors →
+pub capacity_for_lem : (l : Errors) (es : List Error) → 3 * (l.tallies.total + length es) ≤ length l.words.now →
     l.tallies.total + length es ≤ card_capacity → All Legal es →
     Small l → Capacity l es
 unfolding Capacity
@@ -195,6 +197,6 @@ none_small zero i = omega arith
 none_small (suc n) zero = omega arith
 none_small (suc n) (suc i) = none_small n i
 
-pub capacity_empty : (errors : List ℕ) (es : List Error) → 3 * length es ≤ length errors → length es ≤ card_capacity → All Legal es →
-    ErrorsFit errors no_errors es
-capacity_empty errors es h m a = capacity_for_lem (ledger errors no_errors) es (omega arith) (omega arith) a (none_small error_numbers)
+pub capacity_empty : (words : MutBor (List ℕ)) (es : List Error) → 3 * length es ≤ length words.now → length es ≤ card_capacity → All Legal es →
+    Capacity (no_errors words) es
+capacity_empty words es h m a = capacity_for_lem (no_errors words) es (omega arith) (omega arith) a (none_small error_numbers)

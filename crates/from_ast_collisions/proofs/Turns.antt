@@ -1,22 +1,21 @@
 -- Turns of the searches over rows of three words, at the index i of a row's first word.
-use mathlib.Core.Path.{◌≡◌, refl, ◌∙◌, ap}
-use mathlib.Core.List.{List, [], ◌∷◌}
+use mathlib.Core.Path.{◌≡◌, refl, sym, ◌∙◌, ap}
+use mathlib.Core.List.{List, [], ◌∷◌, ◌++◌}
 use mathlib.Core.Bool.{Bool, true, false}
-use Prim.Native.Nat.{ℕ, zero, suc, ◌+◌, ◌-◌, ◌≤◌, ◌<◌}
+use Prim.Native.Nat.{ℕ, zero, suc, ◌+◌, ◌-◌, ◌*◌, ◌≤◌, ◌<◌}
 use native.Mathlib.Omega.{arith}
 use native.Mathlib.Numerals.{towards_suc}
 use lib.Dec.{eqb}
-use lib.ListN.{length, get_or, drop, length-drop}
+use lib.ListN.{length, get_or, drop, length-drop, length-append}
 use lib.Seq.{drop-cons, drop-drop}
 use borrow.Author.Tests.{eq-eqb, ne_eqb, lt-ltb, le-ltb}
 use Rattle.definition.specs.Lists.{choose}
 use Rattle.definition.specs.Names.{same_name}
 use Rattle.definition.specs.Cards.{is_root}
 use Rattle.definition.specs.Headings.{NamedCard}
-use Rattle.definition.specs.Errors.{collision_number}
-use Rattle.definition.specs.Merge.{error_numbers}
-use Rattle.from_ast_collisions.specs.declared.merging.Earlier.TheVariants.{Card, Nothing}
-use Rattle.from_ast_collisions.specs.Earlier.{View, stands_for, earlier_in, is_row_of, earlier_under, row_offset}
+use Rattle.definition.specs.Errors.{collision_numbers, collision_number}
+use Rattle.std.specs.Prelude.{Some, None}
+use Rattle.from_ast_collisions.specs.Earlier.{View, stands_for, earlier_in, is_row_of, earlier_under, row_offset, rows_under}
 use Rattle.from_ast_collisions.proofs.Tests.{and_false}
 
 drop3 : (s : List ℕ) (i : ℕ) → i + 2 < length s → drop i s ≡ get_or s i 0 ∷ (get_or s (i + 1) 0 ∷ (get_or s (i + 2) 0 ∷ drop (i + 3) s))
@@ -26,16 +25,6 @@ drop3 s i h =
     ∙ ap (λ (l : List ℕ). get_or s i 0 ∷ l) (drop-cons s (suc i) 0 (omega arith)
     ∙ ap (λ (l : List ℕ). get_or s (suc i) 0 ∷ l) (drop-cons s (suc (suc i)) 0 (omega arith)))
     )
-
--- What holds of lists that have no whole row holds where less than a row is left.
-short : (P : List ℕ → Type 0) → P [] → ((w : ℕ) → P (w ∷ [])) → ((w c : ℕ) → P (w ∷ (c ∷ []))) → (s : List ℕ) (i : ℕ) → length s ≤ i + 2 → P (drop i s)
-short P none one two s i h = go (drop i s) (simp length-drop (omega arith))
-  where
-    go : (l : List ℕ) → length l ≤ 2 → P l
-    go [] k = none
-    go (w ∷ []) k = one w
-    go (w ∷ (c ∷ [])) k = two w c
-    go (w ∷ (c ∷ (o ∷ l))) k = absurd (omega arith)
 
 -- A row is the one looked for where both words are.
 pub row_is : (k d w c : ℕ) → w ≡ k → c ≡ d → is_row_of k d w c ≡ true
@@ -50,33 +39,15 @@ pub row_no_card : (k d w c : ℕ) → (c ≡ d → ⊥) → is_row_of k d w c �
 unfolding is_row_of
 row_no_card k d w c e = rw (ne_eqb c d e) (and_false (eqb w k))
 
-module _ (k d : ℕ) (s : List ℕ) (i : ℕ) where
-  pub row_hit : i + 2 < length s → is_row_of k d (get_or s i 0) (get_or s (i + 1) 0) ≡ true → row_offset k d (drop i s) ≡ 0
-  unfolding row_offset
-  row_hit h e = rw (drop3 s i h, e)
-
-  pub row_miss : i + 2 < length s → is_row_of k d (get_or s i 0) (get_or s (i + 1) 0) ≡ false → row_offset k d (drop i s) ≡ 3 + row_offset k d (drop (i + 3) s)
-  unfolding row_offset
-  row_miss h e = rw (drop3 s i h, e)
-
-  pub row_end : length s ≤ i + 2 → row_offset k d (drop i s) ≡ 0
-  unfolding row_offset
-  row_end h = short (λ l. row_offset k d l ≡ 0) refl (λ w. refl) (λ w c. refl) s i h
-
-pub row_inside : (k d : ℕ) (s : List ℕ) → row_offset k d s ≤ length s
+-- A row that is passed over.
+pub row_miss : (k d : ℕ) (s : List ℕ) (i : ℕ) → i + 2 < length s → is_row_of k d (get_or s i 0) (get_or s (i + 1) 0) ≡ false →
+    row_offset k d (drop i s) ≡ 3 + row_offset k d (drop (i + 3) s)
 unfolding row_offset
-row_inside k d [] = omega arith
-row_inside k d (w ∷ []) = omega arith
-row_inside k d (w ∷ (c ∷ [])) = omega arith
-row_inside k d (w ∷ (c ∷ (o ∷ s))) = go (is_row_of k d w c) (row_inside k d s)
-  where
-    go : (b : Bool) → row_offset k d s ≤ length s → choose b 0 (3 + row_offset k d s) ≤ length (w ∷ (c ∷ (o ∷ s)))
-    go true h = omega arith
-    go false h = omega arith
+row_miss k d s i h e = rw (drop3 s i h, e)
 
 -- The search under the row is that among the rows after it.
-pub under_after_lem : (k d : ℕ) (test : ℕ → ℕ → Bool) (s : List ℕ) → earlier_under k d test s ≡ earlier_in test (drop (3 + row_offset k d s) s)
-unfolding row_offset earlier_under earlier_in
+pub under_after_lem : (k d : ℕ) (test : ℕ → ℕ → Bool) (s : List ℕ) → earlier_under k d test s ≡ earlier_in test (rows_under k d s)
+unfolding rows_under row_offset earlier_under earlier_in
 under_after_lem k d test [] = refl
 under_after_lem k d test (w ∷ []) = refl
 under_after_lem k d test (w ∷ (c ∷ [])) = refl
@@ -90,28 +61,24 @@ under_after_lem k d test (w ∷ (c ∷ (o ∷ s))) = go (is_row_of k d w c) refl
 
 -- ---- The number of a collision.
 
--- By the part's kind, from 21 on.
-abbrev numbers : List ℕ
-numbers = 10 ∷ 12 ∷ 15 ∷ 14 ∷ 16 ∷ 9 ∷ 9 ∷ 9 ∷ []
+module _ (k p : ℕ) where
+  pub collision_interface : k ≡ 7 → get_or collision_numbers (p - 21) 0 + 1 ≡ collision_number k p
+  unfolding collision_number
+  collision_interface e = rw (eq-eqb k 7 e)
 
-pub collision_small : (i : ℕ) → get_or numbers i 0 ≤ error_numbers
-collision_small zero = omega arith
-collision_small (suc zero) = omega arith
-collision_small (suc (suc zero)) = omega arith
-collision_small (suc (suc (suc zero))) = omega arith
-collision_small (suc (suc (suc (suc zero)))) = omega arith
-collision_small (suc (suc (suc (suc (suc zero))))) = omega arith
-collision_small (suc (suc (suc (suc (suc (suc zero)))))) = omega arith
-collision_small (suc (suc (suc (suc (suc (suc (suc zero))))))) = omega arith
-collision_small (suc (suc (suc (suc (suc (suc (suc (suc i)))))))) = omega arith
+  pub collision_other : (k ≡ 7 → ⊥) → get_or collision_numbers (p - 21) 0 ≡ collision_number k p
+  unfolding collision_number
+  collision_other e = rw (ne_eqb k 7 e)
 
-pub collision_interface : (k p : ℕ) → k ≡ 7 → get_or numbers (p - 21) 0 + 1 ≡ collision_number k p
-unfolding collision_number
-collision_interface k p e = rw (eq-eqb k 7 e)
-
-pub collision_other : (k p : ℕ) → (k ≡ 7 → ⊥) → get_or numbers (p - 21) 0 ≡ collision_number k p
-unfolding collision_number
-collision_other k p e = rw (ne_eqb k 7 e)
+-- Past input fields are roots, up to 28.
+pub collision_root : (p : ℕ) → 26 ≤ p → p ≤ 28 → get_or collision_numbers (p - 21) 0 ≡ 9
+collision_root p l u = go (p - 26) (omega arith)
+  where
+    go : (i : ℕ) → p ≡ i + 26 → get_or collision_numbers (p - 21) 0 ≡ 9
+    go zero e = rw e refl
+    go (suc zero) e = rw e refl
+    go (suc (suc zero)) e = rw e refl
+    go (suc (suc (suc i))) e = absurd (omega arith)
 
 -- ---- What stands for a part.
 
@@ -132,22 +99,72 @@ module _ (v : View) (p : NamedCard) (w c : ℕ) where
   unfolding stands_for
   stands_named e r h = rw (eq-eqb w p.kind e, r, lt-ltb c v.used h)
 
--- ---- The search among the rows after the owner's.
+-- ---- Rows one after another: x is the next one, t what follows.
 
-module _ (test : ℕ → ℕ → Bool) (s : List ℕ) (i : ℕ) where
-  pub in_stop : i + 2 < length s → get_or s i 0 < 20 → earlier_in test (drop i s) ≡ Nothing
-  unfolding earlier_in
-  in_stop h e = rw (drop3 s i h, lt-ltb (get_or s i 0) 20 e)
+three_words : (x : List ℕ) → length x ≡ 3 → x ≡ get_or x 0 0 ∷ (get_or x 1 0 ∷ (get_or x 2 0 ∷ []))
+three_words [] h = absurd (omega arith)
+three_words (a ∷ []) h = absurd (omega arith)
+three_words (a ∷ (b ∷ [])) h = absurd (omega arith)
+three_words (a ∷ (b ∷ (c ∷ []))) h = refl
+three_words (a ∷ (b ∷ (c ∷ (d ∷ x)))) h = absurd (omega arith)
 
-  pub in_hit : i + 2 < length s → 20 ≤ get_or s i 0 → test (get_or s i 0) (get_or s (i + 1) 0) ≡ true → earlier_in test (drop i s) ≡ Card (get_or s (i + 1) 0)
-  unfolding earlier_in
-  in_hit h e f = rw (drop3 s i h, le-ltb (get_or s i 0) 20 e, f)
+-- Past the row i stands what follows it.
+pub row_after : (rows s x t : List ℕ) (i : ℕ) → 3 * i ≤ length rows → s ≡ drop (3 * i) rows → s ≡ x ++ t → length x ≡ 3 →
+    (3 * (i + 1) ≤ length rows) × (t ≡ drop (3 * (i + 1)) rows)
+row_after rows s x t i h p q n =
+    let l : length (x ++ t) ≡ length rows - 3 * i = sym (ap length q) ∙ (ap length p ∙ length-drop (3 * i) rows) in
+    let m : drop 3 (x ++ t) ≡ t = rw (three_words x n) refl in
+    let e : 3 * i + 3 ≡ 3 * (i + 1) = omega arith in (
+      omega (arith, l, length-append x t, n),
+      sym m ∙ (ap (drop 3) (sym q ∙ p) ∙ (drop-drop 3 (3 * i) rows ∙ ap (λ k. drop k rows) e)),
+    )
 
-  pub in_miss : i + 2 < length s → 20 ≤ get_or s i 0 → test (get_or s i 0) (get_or s (i + 1) 0) ≡ false →
-      earlier_in test (drop i s) ≡ earlier_in test (drop (i + 3) s)
-  unfolding earlier_in
-  in_miss h e f = rw (drop3 s i h, le-ltb (get_or s i 0) 20 e, f)
+-- What holds of lists that have no whole row.
+short : (P : List ℕ → Type 0) → P [] → ((w : ℕ) → P (w ∷ [])) → ((w c : ℕ) → P (w ∷ (c ∷ []))) → (t : List ℕ) → length t < 3 → P t
+short P none one two [] h = none
+short P none one two (w ∷ []) h = one w
+short P none one two (w ∷ (c ∷ [])) h = two w c
+short P none one two (w ∷ (c ∷ (o ∷ t))) h = absurd (omega arith)
 
-  pub in_end : length s ≤ i + 2 → earlier_in test (drop i s) ≡ Nothing
+module _ (test : ℕ → ℕ → Bool) where
+  module _ (s x t : List ℕ) (q : s ≡ x ++ t) (h : length x ≡ 3) where
+    pub in_stop : get_or x 0 0 < 20 → earlier_in test s ≡ None
+    unfolding earlier_in
+    in_stop e = rw (q, three_words x h, lt-ltb (get_or x 0 0) 20 e)
+
+    pub in_hit : 20 ≤ get_or x 0 0 → test (get_or x 0 0) (get_or x 1 0) ≡ true → earlier_in test s ≡ Some (get_or x 1 0)
+    unfolding earlier_in
+    in_hit e f = rw (q, three_words x h, le-ltb (get_or x 0 0) 20 e, f)
+
+    pub in_miss : 20 ≤ get_or x 0 0 → test (get_or x 0 0) (get_or x 1 0) ≡ false → earlier_in test s ≡ earlier_in test t
+    unfolding earlier_in
+    in_miss e f = rw (q, three_words x h, le-ltb (get_or x 0 0) 20 e, f)
+
+  pub in_end : (t : List ℕ) → length t < 3 → earlier_in test t ≡ None
   unfolding earlier_in
-  in_end h = short (λ l. earlier_in test l ≡ Nothing) refl (λ w. refl) (λ w c. refl) s i h
+  in_end t h = short (λ l. earlier_in test l ≡ None) refl (λ w. refl) (λ w c. refl) t h
+
+module _ (k d : ℕ) where
+  module _ (s x t : List ℕ) (q : s ≡ x ++ t) (h : length x ≡ 3) where
+    pub under_hit : get_or x 0 0 ≡ k → get_or x 1 0 ≡ d → rows_under k d s ≡ t
+    unfolding rows_under row_offset
+    under_hit e f = rw (q, three_words x h, row_is k d (get_or x 0 0) (get_or x 1 0) e f)
+
+    under_miss : is_row_of k d (get_or x 0 0) (get_or x 1 0) ≡ false → rows_under k d s ≡ rows_under k d t
+    unfolding rows_under row_offset
+    under_miss e = rw (q, three_words x h, e) (sym (drop-drop (3 + row_offset k d t) 3 (get_or x 0 0 ∷ (get_or x 1 0 ∷ (get_or x 2 0 ∷ t)))))
+
+    pub under_no_what : (get_or x 0 0 ≡ k → ⊥) → rows_under k d s ≡ rows_under k d t
+    under_no_what e = under_miss (row_no_what k d (get_or x 0 0) (get_or x 1 0) e)
+
+    pub under_no_card : (get_or x 1 0 ≡ d → ⊥) → rows_under k d s ≡ rows_under k d t
+    under_no_card e = under_miss (row_no_card k d (get_or x 0 0) (get_or x 1 0) e)
+
+  pub under_end : (t : List ℕ) → length t < 3 → rows_under k d t ≡ []
+  unfolding rows_under row_offset
+  under_end t h = short (λ l. rows_under k d l ≡ []) refl (λ w. refl) (λ w c. refl) t h
+
+  -- A search from a place that the row does not stand before finds what one among all rows finds.
+  pub under_from : (rows : List ℕ) (from : ℕ) → row_offset k d rows ≡ from + row_offset k d (drop from rows) → rows_under k d (drop from rows) ≡ rows_under k d rows
+  unfolding rows_under
+  under_from rows from e = drop-drop (3 + row_offset k d (drop from rows)) from rows ∙ ap (λ n. drop n rows) (omega (arith, e))

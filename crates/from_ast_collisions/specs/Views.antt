@@ -1,11 +1,14 @@
 -- What a store and the owners say of cards by their numbers.
-use Rattle.std.specs.Prelude.{List, [], ◌∷◌, ℕ, ◌+◌, ◌≤◌, ◌<◌, ◌≡◌, get_or}
+use Rattle.std.specs.Prelude.{List, [], ◌∷◌, ℕ, ◌+◌, ◌≤◌, ◌<◌, get_or}
 use Rattle.definition.specs.Lists.{All}
+use Rattle.definition.specs.Errors.{Error}
 use Rattle.definition.specs.Store.{cards_used_of}
-use Rattle.store_reader.specs.Stored.{stored_parts, card_kind, card_name, built_in_at, ignored_at, parts_from}
-use Rattle.from_ast_index.specs.Index.{Hashed}
-use Rattle.from_ast_collisions.specs.Earlier.{View, row_offset}
-use Rattle.from_ast_collisions.specs.Placing.{Placed}
+use Rattle.store_reader.specs.Stored.{stored_parts, card_kind, card_name, card_at, built_in_at, ignored_at, parts_from}
+use Rattle.from_ast_index.specs.declared.Collection.{Collection}
+use Rattle.from_ast_index.specs.declared.Index.{Index}
+use Rattle.from_ast_collisions.specs.declared.owner.Owner.{Owner}
+use Rattle.from_ast_collisions.specs.Earlier.{View, collision_under, merge_errors}
+use Rattle.from_ast_collisions.specs.ErrorsByCards.{schema_merge_errors}
 
 abbrev pub view_of : List ℕ → List ℕ → List ℕ → View
 view_of text words owners = record {
@@ -22,19 +25,22 @@ view_of text words owners = record {
 abbrev pub card_view : List ℕ → List ℕ → View
 card_view text words = view_of text words []
 
--- Of cards without their names.
-abbrev pub cards_view : List ℕ → List ℕ → View
-cards_view words owners = view_of [] words owners
+-- The same of a collection and of an index.
+abbrev pub cards : Collection → View
+cards c = card_view c.text.now c.words.now
 
--- What is asked where parts are merged into the row of what k and card d: names can be compared, and the search begins at that row.
-pub record Merging (text words hashes rows : List ℕ) (from k d : ℕ) : Type 0 where
-  pub hashed : Hashed text words hashes
-  pub row : from ≡ row_offset k d rows
+abbrev pub view : Index → View
+view i = view_of i.collection.text.now i.collection.words.now i.owners.now
 
--- What is asked where rows are searched for by cards: names can be compared, and no row of a heading begins before its card's place.
-pub record Searching (text words hashes rows places : List ℕ) : Type 0 where
-  pub hashed : Hashed text words hashes
-  pub placed : Placed rows places
+-- The errors of one part that is merged into the row of an owner, of the parts of a heading, and of those of a schema extension.
+abbrev pub collision : Collection → Owner → ℕ → List Error
+collision c o part = collision_under (cards c) o.rows.now o.kind o.card (card_at c.text.now c.words.now part)
+
+abbrev pub merged : View → Owner → ℕ → List Error
+merged v o heading = merge_errors v o.rows.now o.kind o.card heading
+
+abbrev pub schema_merged : View → Owner → ℕ → List Error
+schema_merged v o heading = schema_merge_errors v o.rows.now o.card heading
 
 -- Every one is a stored card's number.
 abbrev pub Held : List ℕ → List ℕ → Type 0

@@ -2,5 +2,6 @@
 #![tactic(auto)]
 
 pub mod merging;
+pub mod owner;
 pub mod placing;
 pub mod pushing;

@@ -1,115 +1,79 @@
 // The errors that building pushes after those of reading: the orphans name by name, then the schema extensions that met no definition.
-ghost use Rattle.std.specs.Prelude.{◌≡◌, []};
+ghost use Rattle.std.specs.Prelude.{◌≡◌};
+ghost use Rattle.definition.specs.Answers.{absent};
 ghost use Rattle.definition.specs.Lists.{flat_map};
-ghost use Rattle.from_ast_index.specs.Index.{Hashed};
-ghost use Rattle.from_ast_collisions.specs.Pushing.{ErrorsFit, Pushes};
-ghost use Rattle.from_ast_collisions.specs.ErrorsByCards.{unmet_errors, is_bare, no_schema_errors_at};
-ghost use Rattle.from_ast_collisions.specs.Views.{card_view, Searching, Held, HeldExtensions};
-ghost use Rattle.from_ast_errors.specs.Written.{drawing_errors_in};
+ghost use Rattle.from_ast_collisions.specs.Pushing.{Capacity, push_all};
+ghost use Rattle.from_ast_collisions.specs.ErrorsByCards.{unmet_errors, is_bare, no_schema_errors_at, drawing_errors_at};
+ghost use Rattle.from_ast_collisions.specs.Views.{cards, view};
 
-use crate::orphans;
+use crate::finished::Finished;
+use crate::orphans::all_orphan_errors;
 use ast::kinds;
-use definition::{ABSENT, Tallies, build_error, layout};
-use from_ast_collisions::{merging, pushing};
+use definition::build_error::BuildError;
+use definition::{ABSENT, layout};
+use from_ast_collisions::merging::merge_schema_extensions;
+use from_ast_collisions::owner::Owner;
+use from_ast_collisions::pushing::Errors;
+use from_ast_index::{Collection, Index};
 
 // A schema extension that met no schema; other headings give nothing.
-fn unmet_extension(words: &[u32], heading: u32, errors: &mut [u32], t: Tallies) -> Tallies
-    requires { ErrorsFit errors.old t (unmet_errors (card_view [] words.now) heading) }
-    ensures { Pushes errors.old t errors.new result (unmet_errors (card_view [] words.now) heading) }
+fn unmet_extension(collection: &Collection, heading: u32, errors: &mut Errors)
+    requires { Capacity errors.old (unmet_errors (cards collection.now) heading) }
+    ensures { errors.new ≡ push_all errors.old (unmet_errors (cards collection.now) heading) }
 {
-    if store_reader::card_kind(words, heading as usize) != kinds::SCHEMA_EXTENSION {
-        return t;
+    if collection.kind(heading) == kinds::SCHEMA_EXTENSION {
+        errors.push(BuildError::OrphanSchemaExtension, heading, ABSENT);
     }
-    pushing::push_error(
-        errors,
-        t,
-        build_error::ORPHAN_SCHEMA_EXTENSION,
-        heading,
-        ABSENT,
-    )
 }
 
 // All of them.
-fn unmet_errors(words: &[u32], headings: &[u32], errors: &mut [u32], t: Tallies) -> Tallies
-    requires { ErrorsFit errors.old t (flat_map (unmet_errors (card_view [] words.now)) headings.now) }
-    ensures { Pushes errors.old t errors.new result
-        (flat_map (unmet_errors (card_view [] words.now)) headings.now) }
+#[tactic(auto, using(from_ast_collisions::proofs::Push::turn_first, from_ast_collisions::proofs::Push::turn_fits, from_ast_collisions::proofs::Push::turn_last))]
+fn unmet_errors(collection: &Collection, headings: &[u32], errors: &mut Errors)
+    requires { Capacity errors.old (flat_map (unmet_errors (cards collection.now)) headings.now) }
+    ensures { errors.new ≡ push_all errors.old (flat_map (unmet_errors (cards collection.now)) headings.now) }
 {
-    let mut t = t;
-    let mut i = 0;
-    while i < headings.len() {
-        t = unmet_extension(words, headings[i], errors, t);
-        i += 1;
+    for heading in headings {
+        unmet_extension(collection, *heading, errors);
     }
-    t
 }
 
 // Whether no part stands under the row 4, which is the first.
 fn is_bare(rows: &[u32]) -> bool
     ensures { result ≡ is_bare rows.now }
 {
-    if rows.len() <= layout::ROW_WORDS {
-        return true;
-    }
-    rows[layout::ROW_WORDS] < kinds::DIRECTIVE
+    rows.len() <= layout::ROW_WORDS || rows[layout::ROW_WORDS] < kinds::DIRECTIVE
 }
 
 // Without a schema definition: adopting, or where default roots are set, the extensions are merged; else each is an error.
-fn no_schema_errors(
-    text: &[u8],
-    words: &[u32],
-    headings: &[u32],
-    hashes: &[u32],
-    adopt: bool,
-    rows: &[u32],
-    errors: &mut [u32],
-    t: Tallies,
-) -> Tallies
-    requires { Hashed text.now words.now hashes.now
-        × ErrorsFit errors.old t (no_schema_errors_at adopt (card_view text.now words.now) rows.now headings.now) }
-    ensures { Pushes errors.old t errors.new result
-        (no_schema_errors_at adopt (card_view text.now words.now) rows.now headings.now) }
+fn no_schema_errors(index: &Index, adopt: bool, schema: &Owner, errors: &mut Errors)
+    requires is_schema { schema.now.kind ≡ 4 }
+    requires is_absent { schema.now.card ≡ absent }
+    requires capacity { Capacity errors.old
+        (no_schema_errors_at adopt (cards index.now.collection) schema.now.rows.now index.now.headings.now) }
+    ensures { errors.new ≡ push_all errors.old
+        (no_schema_errors_at adopt (cards index.now.collection) schema.now.rows.now index.now.headings.now) }
 {
-    if adopt {
-        return merging::merge_schema_extensions(
-            text, words, headings, hashes, rows, ABSENT, errors, t,
-        );
+    let collection = &index.collection;
+    if !adopt && is_bare(schema.rows) {
+        unmet_errors(collection, index.headings, errors);
+    } else {
+        merge_schema_extensions(collection, index.headings, schema, errors);
     }
-    if is_bare(rows) {
-        return unmet_errors(words, headings, errors, t);
-    }
-    merging::merge_schema_extensions(text, words, headings, hashes, rows, ABSENT, errors, t)
 }
 
-// All of them. The row 4 comes first and has the schema definition's card.
-pub fn drawing_errors(
-    text: &[u8],
-    words: &[u32],
-    headings: &[u32],
-    hashes: &[u32],
-    owners: &[u32],
-    orphans: &[u32],
-    extensions: &[u32],
-    adopt: bool,
-    rows: &[u32],
-    places: &[u32],
-    errors: &mut [u32],
-    t: Tallies,
-) -> Tallies
-    requires { Searching text.now words.now hashes.now rows.now places.now
-        × Held words.now extensions.now
-        × HeldExtensions words.now orphans.now
-        × ErrorsFit errors.old t
-        (drawing_errors_in adopt text.now words.now owners.now rows.now extensions.now orphans.now headings.now) }
-    ensures { Pushes errors.old t errors.new result
-        (drawing_errors_in adopt text.now words.now owners.now rows.now
-        extensions.now orphans.now headings.now) }
+// All of them.
+pub fn drawing_errors(finished: &Finished, adopt: bool, schema: &Owner, errors: &mut Errors)
+    requires same_rows { schema.now.rows.now ≡ finished.now.rows.rows.now }
+    requires is_schema { schema.now.kind ≡ 4 }
+    requires capacity { Capacity errors.old
+        (drawing_errors_at adopt (view finished.now.index) finished.now.rows.rows.now schema.now.card finished.now.index.extensions.now
+        finished.now.index.orphans.now finished.now.index.headings.now) }
+    ensures { errors.new ≡ push_all errors.old
+        (drawing_errors_at adopt (view finished.now.index) finished.now.rows.rows.now schema.now.card finished.now.index.extensions.now
+        finished.now.index.orphans.now finished.now.index.headings.now) }
 {
-    let t = orphans::all_orphan_errors(
-        text, words, hashes, owners, orphans, extensions, adopt, rows, places, errors, t,
-    );
-    if store_reader::word(rows, 1) != ABSENT {
-        return t;
+    all_orphan_errors(finished, adopt, errors);
+    if schema.card == ABSENT {
+        no_schema_errors(&finished.index, adopt, schema, errors);
     }
-    no_schema_errors(text, words, headings, hashes, adopt, rows, errors, t)
 }

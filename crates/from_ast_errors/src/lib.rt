@@ -1,24 +1,26 @@
 // from_ast.rs: the errors of a build, in the order in which the Rust pushes them. The finished rows tell which card stands for a name.
 #![tactic(auto)]
 
-ghost use Rattle.std.specs.Prelude.{◌++◌};
+ghost use Rattle.std.specs.Prelude.{◌≡◌, ◌++◌, length};
 ghost use Rattle.store_reader.specs.Stored.{stored_headings};
-ghost use Rattle.from_ast_index.specs.Index.{Spanned};
-ghost use Rattle.from_ast_collisions.specs.Pushing.{no_errors, ErrorsFit};
-ghost use Rattle.from_ast_collisions.specs.Views.{Searching, Held, HeldHeadings, HeldExtensions, Ascending};
-ghost use Rattle.from_ast_errors.specs.Written.{reading_errors_in, drawing_errors_in, ErrorsPushed, ErrorsAsked, ErrorsWritten};
+ghost use Rattle.from_ast_collisions.specs.Pushing.{Capacity, push_all};
+ghost use Rattle.from_ast_errors.specs.Written.{reading_errors_in, drawing_errors_in, ErrorsAsked, ErrorsWritten};
 
 use crate::building::drawing_errors;
+use crate::finished::Finished;
 use crate::reading::reading_errors;
-use definition::{Tallies, layout};
+use definition::Tallies;
+use from_ast_collisions::owner::PlacedRows;
 use from_ast_collisions::placing::place_rows;
-use from_ast_index::Counts;
+use from_ast_collisions::pushing::Errors;
+use from_ast_index::Index;
 
 mod building;
-pub mod extensions;
-pub mod orphans;
-pub mod reading;
-pub mod redefinitions;
+mod extensions;
+mod finished;
+mod orphans;
+mod reading;
+mod redefinitions;
 
 // How many errors arose while reading documents and while building, and the tallies of all.
 #[derive(Clone, Copy)]
@@ -28,85 +30,45 @@ pub struct ErrorCounts {
     pub tallies: Tallies,
 }
 
-// Pushes the errors of reading and then those of building; each slice has just what is used of it.
-fn push_errors(
-    text: &[u8],
-    words: &[u32],
-    headings: &[u32],
-    hashes: &[u32],
-    owners: &[u32],
-    orphans: &[u32],
-    extensions: &[u32],
-    starts: &[u32],
-    ends: &[u32],
-    adopt: bool,
-    rows: &[u32],
-    places: &[u32],
-    errors: &mut [u32],
-) -> ErrorCounts
-    requires { Searching text.now words.now hashes.now rows.now places.now
-        × HeldHeadings words.now headings.now
-        × Held words.now extensions.now
-        × Ascending extensions.now
-        × Spanned words.now owners.now extensions.now starts.now ends.now
-        × HeldExtensions words.now orphans.now
-        × ErrorsFit errors.old no_errors
-        (reading_errors_in text.now words.now owners.now rows.now extensions.now headings.now
-        ++ drawing_errors_in adopt text.now words.now owners.now rows.now extensions.now orphans.now headings.now) }
-    ensures { ErrorsPushed errors.old errors.new result
-        (reading_errors_in text.now words.now owners.now rows.now
-        extensions.now headings.now)
-        (drawing_errors_in adopt text.now words.now owners.now rows.now
-        extensions.now orphans.now headings.now) }
+// Pushes the errors of reading and then those of building; answers how many errors there were in between.
+fn push_errors(finished: &Finished, adopt: bool, errors: &mut Errors) -> u32
+    requires { Capacity errors.old
+        (reading_errors_in finished.now.index finished.now.rows.rows.now
+        ++ drawing_errors_in adopt finished.now.index finished.now.rows.rows.now) }
+    ensures pushed { errors.new ≡ push_all errors.old
+        (reading_errors_in finished.now.index finished.now.rows.rows.now
+        ++ drawing_errors_in adopt finished.now.index finished.now.rows.rows.now) }
+    ensures reading { result ≡ (push_all errors.old (reading_errors_in finished.now.index finished.now.rows.rows.now)).tallies.total }
 {
-    let t = reading_errors(
-        text, words, headings, hashes, owners, extensions, starts, ends, rows, places, errors,
-    );
-    let reading = t.total;
-    let t = drawing_errors(
-        text, words, headings, hashes, owners, orphans, extensions, adopt, rows, places, errors, t,
-    );
-    ErrorCounts {
-        reading,
-        drawing: t.total - reading,
-        tallies: t,
-    }
+    let schema = finished.schema();
+    reading_errors(finished, &schema, errors);
+    let reading = errors.tallies.total;
+    drawing_errors(finished, adopt, &schema, errors);
+    reading
 }
 
 // Writes the errors of reading and then those of building, for a store whose rows are built. `places` is scratch.
 pub fn write_errors(
-    text: &[u8],
-    words: &[u32],
-    headings: &[u32],
-    hashes: &[u32],
-    owners: &[u32],
-    orphans: &[u32],
-    extensions: &[u32],
-    starts: &[u32],
-    ends: &[u32],
-    counts: Counts,
+    index: &Index,
     adopt: bool,
     rows: &[u32],
-    row_count: usize,
     places: &mut [u32],
-    errors: &mut [u32],
+    words: &mut [u32],
 ) -> ErrorCounts
-    requires { ErrorsAsked text.now words.now headings.now hashes.now owners.now orphans.now extensions.now
-        starts.now ends.now counts adopt rows.now row_count errors.old }
-    ensures { ErrorsWritten adopt (stored_headings text.now words.now) errors.old
-        errors.new result }
+    requires { ErrorsAsked index.now adopt rows.now words.old }
+    ensures { ErrorsWritten adopt (stored_headings index.now.collection.text.now index.now.collection.words.now) words.old
+        words.new result }
 {
-    let m = counts.headings;
-    let o = counts.orphans;
-    let e = counts.extensions;
-    let end = layout::ROW_WORDS * row_count;
-    let extensions = &extensions[0..e];
-    let rows = &rows[0..end];
-    let orphans = &orphans[0..o];
-    let headings = &headings[0..m];
     place_rows(rows, places);
-    push_errors(
-        text, words, headings, hashes, owners, orphans, extensions, starts, ends, adopt, rows,
-        places, errors,
-    )
+    let finished = Finished {
+        index: *index,
+        rows: PlacedRows { rows, places },
+    };
+    let mut errors = Errors::new(words);
+    let reading = push_errors(&finished, adopt, &mut errors);
+    ErrorCounts {
+        reading,
+        drawing: errors.tallies.total - reading,
+        tallies: errors.tallies,
+    }
 }

@@ -5,8 +5,7 @@ use mathlib.Core.Bool.{Bool}
 use mathlib.Core.Option.{some}
 use Prim.Native.Nat.{ℕ, ◌<◌}
 use native.Mathlib.Omega.{arith}
-use lib.ListN.{length, take, get_or, get_elem?}
-use lib.Seq.{get_or-take}
+use lib.ListN.{length, get_or, get_elem?, length-map}
 use Rattle.definition.specs.Lists.{filter, All}
 use Rattle.definition.specs.Headings.{Heading, is_type_extension, same_named, defined_types}
 use Rattle.definition.specs.Store.{cards_used_of}
@@ -14,7 +13,7 @@ use Rattle.store_reader.specs.Stored.{stored_headings, heading_at}
 use Rattle.definition.proofs.All.{all_filter, all_firsts, all_to}
 use Rattle.store_reader.proofs.Lists.{all_get}
 use Rattle.store_reader.proofs.Words.{headings_at}
-use Rattle.from_ast_index.specs.Index.{Indexed, heading_number}
+use Rattle.from_ast_index.specs.Index.{Listed, heading_number}
 use Rattle.from_ast_index.proofs.Lists.{get_d_picture, get_some}
 
 -- ---- Entries of an array.
@@ -31,28 +30,25 @@ kept_stand text words p = all_filter (Standing text words) p (stored_headings te
 
 module _ (text words : List ℕ) where
   -- Where an array begins with the numbers of such headings, its entry is the heading's card.
-  entry_is : (hs : List Heading) → All (Standing text words) hs → (cards : List ℕ) (n : ℕ) → take n cards ≡ map heading_number hs → length hs ≡ n →
-      (k : ℕ) → k < n → get_elem? hs k ≡ some (heading_at text words (get_or cards k 0))
+  entry_is : (hs : List Heading) → All (Standing text words) hs → (cards : List ℕ) → cards ≡ map heading_number hs →
+      (k : ℕ) → k < length cards → get_elem? hs k ≡ some (heading_at text words (get_or cards k 0))
   unfolding heading_number
-  entry_is hs a cards n e l k h =
+  entry_is hs a cards e k h =
+      let n = ap length e ∙ length-map hs heading_number in
       let g = get_some hs k (omega arith) in
-      let number : get_or cards k 0 ≡ g.0.number =
-      sym (get_or-take n cards k 0 h) ∙ ap (λ (xs : List ℕ). get_or xs k 0) e ∙ get_d_picture heading_number hs k g.0 g.1 in
+      let number : get_or cards k 0 ≡ g.0.number = ap (λ (xs : List ℕ). get_or xs k 0) e ∙ get_d_picture heading_number hs k g.0 g.1 in
       g.1
       ∙ ap some (all_get (Standing text words) hs a k g.0 g.1).1
       ∙ ap (λ (c : ℕ). some (heading_at text words c)) (sym number)
 
-module _ (text words headings hashes owners type_cards orphan_cards extension_cards : List ℕ) (m t o e : ℕ)
-    (x : Indexed text words headings hashes owners type_cards orphan_cards extension_cards m t o e) where
-  pub type_here : (k : ℕ) → k < t → get_elem? (defined_types (stored_headings text words)) k ≡ some (heading_at text words (get_or type_cards k 0))
+module _ {text words headings owners types orphan_cards extensions : List ℕ} (x : Listed text words headings owners types orphan_cards extensions) where
+  pub type_here : (k : ℕ) → k < length types → get_elem? (defined_types (stored_headings text words)) k ≡ some (heading_at text words (get_or types k 0))
   unfolding defined_types
   type_here =
       entry_is text words (defined_types (stored_headings text words))
-      (all_firsts (Standing text words) same_named [] (filter _ (stored_headings text words)) (kept_stand text words _)) type_cards t x.types_are
-      x.types_count
+      (all_firsts (Standing text words) same_named [] (filter _ (stored_headings text words)) (kept_stand text words _)) types x.types_are
 
-  pub extension_here : (k : ℕ) → k < e →
-      get_elem? (filter is_type_extension (stored_headings text words)) k ≡ some (heading_at text words (get_or extension_cards k 0))
+  pub extension_here : (k : ℕ) → k < length extensions →
+      get_elem? (filter is_type_extension (stored_headings text words)) k ≡ some (heading_at text words (get_or extensions k 0))
   extension_here =
-      entry_is text words (filter is_type_extension (stored_headings text words)) (kept_stand text words is_type_extension) extension_cards e x.extensions_are
-      x.extensions_count
+      entry_is text words (filter is_type_extension (stored_headings text words)) (kept_stand text words is_type_extension) extensions x.extensions_are

@@ -4,3 +4,4 @@ pub mod Hashes
 pub mod Search
 pub mod Laws
 pub mod Spans
+pub mod Cut

@@ -5,8 +5,10 @@ use mathlib.Core.Bool.{Bool, true, false, ◌||◌}
 use mathlib.Core.Option.{some}
 use Prim.Native.Nat.{ℕ, zero, suc, ◌+◌, ◌-◌, ◌≤◌, ◌<◌}
 use native.Mathlib.Omega.{arith}
+use Rattle.std.proofs.Common.{inl, inr, ◌⊎◌}
+use Rattle.std.proofs.lemmas.Bool.{cases_lt}
 use lib.ListN.{length, take, drop, get_or, get_elem?, length-drop, take-append-drop, drop_of_length-le}
-use lib.Seq.{get_or-take, get_or-drop, drop-drop, take_all, take-nil, length-take-le}
+use lib.Seq.{get_or-take, get_or-drop, drop-drop, take_all, take-nil}
 use Rattle.definition.specs.Lists.{choose, filter, any, find, firsts, All}
 use Rattle.definition.specs.Names.{same_name}
 use Rattle.definition.specs.Headings.{Heading, is_type_definition, is_type_extension, is_named, same_named, defines_type, defined_types, definition, number_of}
@@ -15,30 +17,29 @@ use Rattle.definition.proofs.All.{all_every}
 use Rattle.store_reader.specs.Stored.{card_name, stored_headings, heading_at}
 use Rattle.store_reader.proofs.Lists.{all_get}
 use Rattle.from_ast_index.proofs.Laws.{type_here, extension_here}
-use Rattle.from_ast_index.specs.Index.{Spanned, part, own_extensions, same_cards, Indexed, owner_at, is_typed}
+use Rattle.from_ast_index.specs.Index.{Spanned, part, own_extensions, same_cards, Listed, owner_at, is_typed}
 use Rattle.from_ast_index.proofs.Lists.{never, chosen_both, none_some, first_filter, get_all, all_kept, taken_most}
 
 -- ---- The part of a list.
 
-pub part_none : (start end : ℕ) (xs : List ℕ) → end ≤ start → [] ≡ part start end xs
-unfolding part
-part_none start end xs h = let z : 0 ≡ end - start = omega arith in ap (λ (n : ℕ). take n (drop start xs)) z
-
-pub part_past : (start end : ℕ) (xs : List ℕ) → length xs < start → [] ≡ part start end xs
-unfolding part
-part_past start end xs h =
-    let l : length xs ≤ start = omega arith in
-    sym (take-nil (end - start)) ∙ ap (take (end - start)) (sym (drop_of_length-le xs l))
-
-pub part_rest : (start end : ℕ) (xs : List ℕ) → length xs < end → take (length xs - start) (drop start xs) ≡ part start end xs
-unfolding part
-part_rest start end xs h =
-    let n = length-drop start xs in
-    take_all (length xs - start) (drop start xs) (omega arith) ∙ sym (take_all (end - start) (drop start xs) (omega arith))
-
-pub part_is : (start end : ℕ) (xs : List ℕ) → take (end - start) (drop start xs) ≡ part start end xs
-unfolding part
-part_is start end xs = refl
+-- The bounds brought to what the list has: e is the end or the length, s the start or e.
+module _ (start end s e : ℕ) (xs : List ℕ) (e-end : end ≤ length xs → e ≡ end) (e-length : length xs ≤ end → e ≡ length xs)
+    (s-start : start ≤ e → s ≡ start) (s-e : e ≤ start → s ≡ e) where
+  pub part_clipped : take (e - s) (drop s xs) ≡ part start end xs
+  unfolding part
+  part_clipped = go (cases_lt e start) (cases_lt (length xs) end)
+    where
+      go : ((e < start) ⊎ (start ≤ e)) → ((length xs < end) ⊎ (end ≤ length xs)) → take (e - s) (drop s xs) ≡ take (end - start) (drop start xs)
+      go (inl h) (inl k) =
+          let z : e - s ≡ 0 = omega arith in
+          let l : length xs ≤ start = omega arith in
+          rw (z, drop_of_length-le xs {i = start} l) (sym (take-nil (end - start)))
+      go (inl h) (inr k) = let z : e - s ≡ 0 = omega arith in let y : end - start ≡ 0 = omega arith in rw (z, y)
+      go (inr h) (inl k) =
+          let n = length-drop start xs in
+          let q : s ≡ start = s-start h in
+          rw q (take_all (e - start) (drop start xs) (omega arith) ∙ sym (take_all (end - start) (drop start xs) (omega arith)))
+      go (inr h) (inr k) = let q : s ≡ start = s-start h in let r : e ≡ end = e-end k in rw (q, r)
 
 -- ---- What a test keeps of a list it keeps of a part in which all lies that passes.
 
@@ -155,8 +156,7 @@ type_defines hs k h e =
     ∙ sym (first_firsts same_named (same_named h) (named_fair h) [] (filter is_type_definition hs) (any_nil (same_named h)))
     ∙ (first_itself same_named named_self [] (filter is_type_definition hs) k h e).1
 
-module _ (text words headings hashes owners type_cards orphan_cards extension_cards : List ℕ) (m t o e : ℕ)
-    (x : Indexed text words headings hashes owners type_cards orphan_cards extension_cards m t o e) where
+module _ {text words headings owners types orphan_cards extensions : List ℕ} (x : Listed text words headings owners types orphan_cards extensions) where
   extends_typed : (h : Heading) → is_type_extension h ≡ true → is_typed h ≡ true
   unfolding is_typed
   extends_typed h y = rw y (or_true (is_type_definition h))
@@ -173,46 +173,38 @@ module _ (text words headings hashes owners type_cards orphan_cards extension_ca
       (stored_headings text words)
       (λ k h at y. x.owners_are k h at (extends_typed h y)))
 
-  module _ (k i : ℕ) (k-t : k < t) (i-e : i < e) (same : same_cards text words (get_or type_cards k 0) (get_or extension_cards i 0) ≡ true) where
-    pub owner_is_type : get_or owners (get_or extension_cards i 0) 0 ≡ get_or type_cards k 0
+  module _ (k i : ℕ) (k-t : k < length types) (i-e : i < length extensions) (same : same_cards text words (get_or types k 0) (get_or extensions i 0) ≡ true) where
+    pub owner_is_type : get_or owners (get_or extensions i 0) 0 ≡ get_or types k 0
     unfolding same_cards number_of
     owner_is_type =
-        let c : Heading = heading_at text words (get_or type_cards k 0) in
-        let d : Heading = heading_at text words (get_or extension_cards i 0) in
-        let here = type_here text words headings hashes owners type_cards orphan_cards extension_cards m t o e x k k-t in
-        let there = extension_here text words headings hashes owners type_cards orphan_cards extension_cards m t o e x i i-e in
-        let named : c.name ≡ d.name = same_name_eq (card_name text words (get_or type_cards k 0)) (card_name text words (get_or extension_cards i 0)) same in
+        let c : Heading = heading_at text words (get_or types k 0) in
+        let d : Heading = heading_at text words (get_or extensions i 0) in
+        let here = type_here x k k-t in
+        let there = extension_here x i i-e in
+        let named : c.name ≡ d.name = same_name_eq (card_name text words (get_or types k 0)) (card_name text words (get_or extensions i 0)) same in
         all_get (λ h. get_or owners h.number 0 ≡ number_of (definition h.name (stored_headings text words)))
         (filter is_type_extension (stored_headings text words)) extension_owners i d there
         ∙ ap (λ (n : List ℕ). number_of (definition n (stored_headings text words))) (sym named)
         ∙ ap number_of (type_defines (stored_headings text words) k c here)
 
-  module _ (starts ends : List ℕ) (s : Spanned words owners (take e extension_cards) starts ends) where
-    extensions_length : length (take e extension_cards) ≡ e
-    extensions_length = length-take-le e extension_cards (omega (arith, x.extensions_most, x.headings_most, x.extensions_length))
-
+  module _ {starts ends : List ℕ} (s : Spanned words owners extensions starts ends) where
     -- The extensions of a type's name stand in its part.
-    pub of_type_spanned : (k i : ℕ) → k < t → i < e → same_cards text words (get_or type_cards k 0) (get_or extension_cards i 0) ≡ true →
-        (get_or starts (get_or type_cards k 0) 0 ≤ i) × (i < get_or ends (get_or type_cards k 0) 0)
+    pub of_type_spanned : (k i : ℕ) → k < length types → i < length extensions → same_cards text words (get_or types k 0) (get_or extensions i 0) ≡ true →
+        (get_or starts (get_or types k 0) 0 ≤ i) × (i < get_or ends (get_or types k 0) 0)
     of_type_spanned k i k-t i-e same =
-        let at : owner_at owners (take e extension_cards) i ≡ get_or type_cards k 0 =
-        ap (λ (c : ℕ). get_or owners c 0) (get_or-take e extension_cards i 0 i-e) ∙ owner_is_type k i k-t i-e same in
-        let stored = x.types_stored k k-t in
-        let n = extensions_length in (
+        let at : owner_at owners extensions i ≡ get_or types k 0 = owner_is_type k i k-t i-e same in
+        let stored = x.types_stored k k-t in (
           rw at at (s.starts_are.at_or_after i (omega arith) (omega arith) (omega (arith, at, s.starts_length))),
           rw at at (s.ends_are.before_end i (omega arith) (omega (arith, at, s.ends_length))),
         )
 
     -- Whatever asks for the name of a type keeps of all extensions what it keeps of the type's part.
-    pub kept_spanned : (k : ℕ) → k < t → (p : ℕ → Bool) → ((d : ℕ) → p d ≡ true → same_cards text words (get_or type_cards k 0) d ≡ true) →
-        filter p (take e extension_cards) ≡ filter p (own_extensions (take e extension_cards) starts ends (get_or type_cards k 0))
+    pub kept_spanned : (k : ℕ) → k < length types → (p : ℕ → Bool) → ((d : ℕ) → p d ≡ true → same_cards text words (get_or types k 0) d ≡ true) →
+        filter p extensions ≡ filter p (own_extensions extensions starts ends (get_or types k 0))
     unfolding own_extensions
     kept_spanned k k-t p asks =
-        filter_part p (take e extension_cards) (get_or starts (get_or type_cards k 0) 0) (get_or ends (get_or type_cards k 0) 0) (λ i l y. within i l y)
+        filter_part p extensions (get_or starts (get_or types k 0) 0) (get_or ends (get_or types k 0) 0) (λ i l y. within i l y)
       where
-        within : (i : ℕ) → i < length (take e extension_cards) → p (get_or (take e extension_cards) i 0) ≡ true →
-            (get_or starts (get_or type_cards k 0) 0 ≤ i) × (i < get_or ends (get_or type_cards k 0) 0)
-        within i l y =
-            let n = extensions_length in
-            let i-e : i < e = omega arith in
-            of_type_spanned k i k-t i-e (asks (get_or extension_cards i 0) (ap p (sym (get_or-take e extension_cards i 0 i-e)) ∙ y))
+        within : (i : ℕ) → i < length extensions → p (get_or extensions i 0) ≡ true →
+            (get_or starts (get_or types k 0) 0 ≤ i) × (i < get_or ends (get_or types k 0) 0)
+        within i l y = of_type_spanned k i k-t l (asks (get_or extensions i 0) y)

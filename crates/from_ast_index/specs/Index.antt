@@ -95,6 +95,25 @@ pub record Indexed (text words headings hashes owners type_cards orphan_cards ex
   pub orphans_stored : (k : ℕ) → k < orphan_count → get_or orphan_cards k 0 < cards_used_of words
   pub extensions_stored : (k : ℕ) → k < extension_count → get_or extension_cards k 0 < cards_used_of words
 
+-- The same of arrays that have just what is used of them, so that they need no counts; the mark after the headings is gone. proofs/Cut has the one from the other.
+pub record Listed (text words headings owners types orphan_cards extensions : List ℕ) : Type 0 where
+  pub headings_are : headings ≡ map heading_number (stored_headings text words)
+  pub types_are : types ≡ map heading_number (defined_types (stored_headings text words))
+  pub orphans_are : orphan_cards ≡ map heading_number (firsts same_named [] (orphans (stored_headings text words)))
+  pub extensions_are : extensions ≡ map heading_number (filter is_type_extension (stored_headings text words))
+  pub owners_are :
+      (k : ℕ) (h : Heading) → get_elem? (stored_headings text words) k ≡ some h → is_typed h ≡ true →
+      get_or owners h.number 0 ≡ number_of (definition h.name (stored_headings text words))
+  pub owners_length : cards_used_of words ≤ length owners
+  pub headings_most : length headings ≤ cards_used_of words
+  pub types_most : length types ≤ length headings
+  pub orphans_most : length orphan_cards ≤ length extensions
+  pub extensions_most : length extensions ≤ length headings
+  pub headings_stored : (k : ℕ) → k < length headings → get_or headings k 0 < cards_used_of words
+  pub types_stored : (k : ℕ) → k < length types → get_or types k 0 < cards_used_of words
+  pub orphans_stored : (k : ℕ) → k < length orphan_cards → get_or orphan_cards k 0 < cards_used_of words
+  pub extensions_stored : (k : ℕ) → k < length extensions → get_or extensions k 0 < cards_used_of words
+
 -- ---- Where the extensions of a type stand among all extensions.
 
 -- The owner of the extension i.

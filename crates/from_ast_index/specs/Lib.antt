@@ -1,2 +1,3 @@
 -- What the arrays hold that build reads.
 pub mod Index
+pub mod Grown

@@ -1,11 +1,112 @@
 // The arrays that build reads: how many there are of what, and the reads of them that several walks share. Crate `from_ast_indexing` fills them.
 #![tactic(auto)]
 
-ghost use Rattle.std.specs.Prelude.{◌≡◌, ◌<◌, length};
+ghost use Rattle.std.specs.Prelude.{◌≡◌, ◌<◌, ◌≤◌, ◌+◌, ◌∷◌, [], ◌++◌, length};
 ghost use Rattle.definition.specs.Store.{cards_used_of};
-ghost use Rattle.from_ast_index.specs.Index.{same_cards, Hashed, own_extensions};
+ghost use Rattle.store_reader.specs.Stored.{card_kind, card_name};
+ghost use Rattle.from_ast_index.specs.Index.{same_cards, Hashed, Listed, Spanned, own_extensions};
+ghost use Rattle.from_ast_index.specs.Grown.{listed_in};
 
-use definition::NameOrder;
+// A store whose cards' names have their hashes at hand: what the walks of a build read.
+#[derive(Clone, Copy)]
+pub struct Collection<'a> {
+    pub text: &'a [u8],
+    pub words: &'a [u32],
+    pub hashes: &'a [u32],
+    ghost hashed: { Hashed text.now words.now hashes.now },
+}
+
+impl<'a> Collection<'a> {
+    pub fn cards_used(&self) -> usize
+        ensures { result ≡ cards_used_of self.now.words.now }
+    {
+        store_reader::cards_used(self.words)
+    }
+
+    pub fn kind(&self, card: u32) -> u32
+        ensures { result ≡ card_kind self.now.words.now card }
+    {
+        store_reader::card_kind(self.words, card as usize)
+    }
+
+    pub fn name(&self, card: u32) -> &'a [u8]
+        ensures { result.now ≡ card_name self.now.text.now self.now.words.now card }
+    {
+        store_reader::card_name(self.text, self.words, card as usize)
+    }
+
+    // Whether two stored cards have one name. Most that have not are told by their hashes.
+    #[tactic(auto, unfolding(crate::specs::Index::same_cards))]
+    pub fn same_name(&self, a: u32, b: u32) -> bool
+        requires a_stored { a < cards_used_of self.now.words.now }
+        requires b_stored { b < cards_used_of self.now.words.now }
+        ensures { result ≡ same_cards self.now.text.now self.now.words.now a b }
+    {
+        self.hashes[a as usize] == self.hashes[b as usize] && name::same(self.name(a), self.name(b))
+    }
+}
+
+// What a build has indexed: each array has just what is used of it. `owners`, `starts` and `ends` have a word for each stored card.
+#[derive(Clone, Copy)]
+pub struct Index<'a> {
+    pub collection: Collection<'a>,
+    pub headings: &'a [u32],
+    pub owners: &'a [u32],
+    pub types: &'a [u32],
+    pub orphans: &'a [u32],
+    pub extensions: &'a [u32],
+    pub starts: &'a [u32],
+    pub ends: &'a [u32],
+    ghost listed: { Listed collection.text.now collection.words.now headings.now owners.now types.now orphans.now extensions.now },
+    ghost spanned: { Spanned collection.words.now owners.now extensions.now starts.now ends.now },
+}
+
+impl<'a> Index<'a> {
+    // The part of all extensions in which those of a type stand.
+    pub fn own_extensions(&self, card: u32) -> &'a [u32]
+        requires { card < cards_used_of self.now.collection.words.now }
+        ensures { result.now
+            ≡ own_extensions self.now.extensions.now self.now.starts.now self.now.ends.now card }
+    {
+        let end = (self.ends[card as usize] as usize).min(self.extensions.len());
+        let start = (self.starts[card as usize] as usize).min(end);
+        &self.extensions[start..end]
+    }
+}
+
+// A list that grows in a lent slice: the words before `len`.
+#[derive(Drop)]
+pub struct WordList<'a> {
+    pub words: &'a mut [u32],
+    pub len: usize,
+}
+
+impl<'a> WordList<'a> {
+    pub fn clear(&mut self)
+        ensures length { length self.new.words.now ≡ length self.old.words.now }
+        ensures listed { listed_in self.new ≡ [] }
+        ensures len { self.new.len ≡ 0 }
+    {
+        self.len = 0;
+    }
+
+    pub fn push(&mut self, word: u32)
+        requires { self.old.len < length self.old.words.now }
+        ensures length { length self.new.words.now ≡ length self.old.words.now }
+        ensures listed { listed_in self.new ≡ listed_in self.old ++ word ∷ [] }
+        ensures len { self.new.len ≡ self.old.len + 1 }
+    {
+        self.words[self.len] = word;
+        self.len += 1;
+    }
+
+    pub fn as_slice(&self) -> &[u32]
+        requires { self.now.len ≤ length self.now.words.now }
+        ensures { result.now ≡ listed_in self.now }
+    {
+        &self.words[..self.len]
+    }
+}
 
 // How many headings, types, orphaned names and type extensions there are.
 #[derive(Clone, Copy)]
@@ -14,57 +115,4 @@ pub struct Counts {
     pub types: usize,
     pub orphans: usize,
     pub extensions: usize,
-}
-
-// Whether two cards have one name, by the bytes.
-pub fn same_names(text: &[u8], words: &[u32], a: u32, b: u32) -> bool
-    ensures { result ≡ same_cards text.now words.now a b }
-{
-    let order = name::compare(
-        store_reader::card_name(text, words, a as usize),
-        store_reader::card_name(text, words, b as usize),
-    );
-    match order {
-        NameOrder::Equal => true,
-        NameOrder::Before => false,
-        NameOrder::After => false,
-    }
-}
-
-// Whether two cards have one name. Most that have not are told by their hashes.
-pub fn same_cards(text: &[u8], words: &[u32], hashes: &[u32], a: u32, b: u32) -> bool
-    requires { Hashed text.now words.now hashes.now
-        × (a < cards_used_of words.now)
-        × (b < cards_used_of words.now) }
-    ensures { result ≡ same_cards text.now words.now a b }
-{
-    if hashes[a as usize] != hashes[b as usize] {
-        return false;
-    }
-    same_names(text, words, a, b)
-}
-
-// The part of all extensions in which those of a type stand.
-pub fn own_extensions<'a>(
-    extensions: &'a [u32],
-    starts: &[u32],
-    ends: &[u32],
-    card: u32,
-) -> &'a [u32]
-    requires { (card < length starts.now)
-        × (card < length ends.now) }
-    ensures { result.now ≡ own_extensions extensions.now starts.now ends.now card }
-{
-    let start = starts[card as usize] as usize;
-    let end = ends[card as usize] as usize;
-    if end <= start {
-        return &extensions[0..0];
-    }
-    if extensions.len() < start {
-        return &extensions[0..0];
-    }
-    if extensions.len() < end {
-        return &extensions[start..];
-    }
-    &extensions[start..end]
 }

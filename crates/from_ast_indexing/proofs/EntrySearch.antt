@@ -13,22 +13,21 @@ use Rattle.from_ast_index.specs.Index.{card_hash, same_cards}
 use Rattle.definition.proofs.Lists.{map_append, first_nil, first_yes, first_no}
 use Rattle.from_ast_index.proofs.Lists.{drop_next, drop_end}
 use Rattle.from_ast_index.proofs.Hashes.{hashes_differ}
-use Rattle.from_ast_indexing.specs.declared.entry.Entry.{Entry}
-use Rattle.from_ast_indexing.specs.declared.entry.Entry.TheVariants.{Occupied, Vacant}
+use Rattle.std.specs.Prelude.{Option as Entry, Some, None}
 use Rattle.from_ast_indexing.specs.Entering.{entry_of, entered_in, first_entered, Searched, Entering, Entered}
 
 -- ---- A turn of the search.
 
 module _ (text words cards : List ℕ) (card i : ℕ) where
   pub search_hit : i < length cards → same_cards text words card (get_or cards i 0) ≡ true →
-      entry_of (find (same_cards text words card) (drop i cards)) ≡ Occupied (get_or cards i 0)
+      entry_of (find (same_cards text words card) (drop i cards)) ≡ Some (get_or cards i 0)
   search_hit h e = rw (drop_next cards i h) (ap entry_of (first_yes (same_cards text words card) (get_or cards i 0) (drop (i + 1) cards) e))
 
   pub search_miss : i < length cards → same_cards text words card (get_or cards i 0) ≡ false →
       entry_of (find (same_cards text words card) (drop i cards)) ≡ entry_of (find (same_cards text words card) (drop (i + 1) cards))
   search_miss h e = rw (drop_next cards i h) (ap entry_of (first_no (same_cards text words card) (get_or cards i 0) (drop (i + 1) cards) e))
 
-  pub search_end : length cards ≤ i → entry_of (find (same_cards text words card) (drop i cards)) ≡ Vacant
+  pub search_end : length cards ≤ i → entry_of (find (same_cards text words card) (drop i cards)) ≡ None
   search_end h = rw (drop_end cards i h) (ap entry_of (first_nil (same_cards text words card)))
 
 -- The hashes beside the cards tell other names.
@@ -69,11 +68,11 @@ module _ (text words cards hashes : List ℕ) (card hash : ℕ) (s : Searched te
 
 -- ---- A card that comes to the first ones.
 
-pub occupied : (o : Option ℕ) (d : ℕ) → entry_of o ≡ Occupied d → o ≡ some d
+pub occupied : (o : Option ℕ) (d : ℕ) → entry_of o ≡ Some d → o ≡ some d
 occupied (some x) d e = let q : x ≡ d = cc in ap some q
 occupied none d e = absurd (let z : ◌≡◌ {A = ℕ} 0 1 = cc in omega arith)
 
-pub vacant : (o : Option ℕ) → entry_of o ≡ Vacant → o ≡ none
+pub vacant : (o : Option ℕ) → entry_of o ≡ None → o ≡ none
 vacant (some x) e = absurd (let z : ◌≡◌ {A = ℕ} 0 1 = cc in omega arith)
 vacant none e = refl
 
@@ -104,7 +103,7 @@ module _ (text words cards hashes : List ℕ) (from count card hash : ℕ) (s : 
       search_from text words (take count cards) (take count hashes) card hash s.searched from (omega (arith, s.from_most)) s.passed
       ∙ ap (λ (xs : List ℕ). entry_of (find (same_cards text words card) xs)) cards_part
 
-  pub entered_old : (f : Entry) (d : ℕ) → f ≡ entry_of (find (same_cards text words card) (take (count - from) (drop from cards))) → f ≡ Occupied d →
+  pub entered_old : (f : Entry ℕ) (d : ℕ) → f ≡ entry_of (find (same_cards text words card) (take (count - from) (drop from cards))) → f ≡ Some d →
       Entered text words card count (record { card = d; count = count }) cards cards hashes
   unfolding first_entered entered_in
   entered_old f d r e =
@@ -116,7 +115,7 @@ module _ (text words cards hashes : List ℕ) (from count card hash : ℕ) (s : 
         count_most = omega arith;
       }
 
-  pub entered_new : (f : Entry) → f ≡ entry_of (find (same_cards text words card) (take (count - from) (drop from cards))) → f ≡ Vacant →
+  pub entered_new : (f : Entry ℕ) → f ≡ entry_of (find (same_cards text words card) (take (count - from) (drop from cards))) → f ≡ None →
       Entered text words card count (record { card = card; count = count + 1 }) cards (set cards count card)
       (set hashes count hash)
   unfolding first_entered entered_in

@@ -10,17 +10,19 @@ use lib.Dec.{leb, ltb}
 use lib.ListN.{length, take, drop, get_or, set, length-drop}
 use lib.Seq.{take_all, take-suc-set, get_or-set_same, get_or-set_other}
 use borrow.Author.Tests.{eq-eqb, ne_eqb, ltb-true, ltb-false}
-use Rattle.definition.specs.Lists.{filter, find, firsts}
+use Rattle.definition.specs.Lists.{filter, find, firsts, found}
 use Rattle.definition.specs.Answers.{absent}
 use Rattle.definition.specs.Store.{cards_used_of}
 use Rattle.store_reader.specs.Stored.{card_kind}
 use Rattle.from_ast_index.specs.Index.{Cards, same_cards, is_type_extension_kind}
 use Rattle.from_ast_index.proofs.Lists.{never}
 use Rattle.from_ast_index.proofs.Search.{hash_at}
-use Rattle.from_ast_indexing.specs.declared.entry.Entry.TheVariants.{Occupied, Vacant}
+use Rattle.std.specs.Prelude.{Option as Entry}
+use Rattle.std.specs.Option.{unwrap_or}
+use mathlib.Core.Option.{Option, none, some}
 use Rattle.from_ast_indexing.specs.declared.entry.First.{First}
 use Rattle.from_ast_indexing.specs.Entering.{entry_of, first_card, entered_in, Searched, Entering, Hinted, Entered}
-use Rattle.from_ast_indexing.proofs.EntrySearch.{search_length, search_from, searched_from, occupied, vacant}
+use Rattle.from_ast_indexing.proofs.EntrySearch.{search_length, search_from, searched_from}
 use Rattle.from_ast_indexing.proofs.Hints.{hint_passed}
 use Rattle.from_ast_indexing.proofs.EntryNames.{apart, kept_yes, kept_no, firsts_entered}
 use Rattle.from_ast_indexing.specs.Extensions.{is_extension_card, is_unowned, ExtensionAsked, ExtensionTurn, ExtensionsAre, OrphanAsked}
@@ -77,19 +79,14 @@ module _ (text words hashes types type_hashes owners extensions : List ℕ) (car
           count_most = omega arith;
         }
 
-    pub extension_owned : b ≡ true → (d : ℕ) → entry_of (find (same_cards text words card) types) ≡ Occupied d →
-        ExtensionTurn text words types card count (count + 1) owners (set owners card d) extensions (set extensions count card)
+    pub extension_told : b ≡ true → (owner : ℕ) (o : Entry ℕ) → owner ≡ unwrap_or o absent → o ≡ entry_of (find (same_cards text words card) types) →
+        ExtensionTurn text words types card count (count + 1) owners (set owners card owner) extensions (set extensions count card)
     unfolding first_card
-    extension_owned e d o =
-        let s = occupied (find (same_cards text words card) types) d o in
-        listed e d (rw s)
-
-    pub extension_unowned : b ≡ true → entry_of (find (same_cards text words card) types) ≡ Vacant →
-        ExtensionTurn text words types card count (count + 1) owners (set owners card absent) extensions (set extensions count card)
-    unfolding first_card
-    extension_unowned e o =
-        let s = vacant (find (same_cards text words card) types) o in
-        listed e absent (rw s)
+    extension_told e owner o w f = listed e owner (w ∙ ap (λ (x : Entry ℕ). unwrap_or x absent) f ∙ told (find (same_cards text words card) types))
+      where
+        told : (x : Option ℕ) → unwrap_or (entry_of x) absent ≡ found x (λ d. d) absent
+        told (some d) = refl
+        told none = refl
 
 pub extensions_none : (text words headings types owners extensions : List ℕ) → ExtensionsAre text words headings types owners owners extensions 0 0
 unfolding filter

@@ -7,25 +7,24 @@ use native.Mathlib.Numerals.{add-one}
 use native.Mathlib.Omega.{arith}
 use lib.Dec.{ltb}
 use borrow.Author.Tests.{ltb-true, ltb-false}
-use lib.ListN.{get_or-append, length, take, get_or, set, length-map}
+use lib.ListN.{get_or-append, length, take, drop, get_or, set, length-map}
 use lib.Seq.{take-suc-set, length-take-le, drop-length}
 use Rattle.definition.specs.Cards.{is_part}
 use Rattle.definition.specs.Headings.{NamedCard, Heading}
 use Rattle.definition.specs.Store.{cards_used_of}
 use Rattle.store_reader.specs.Stored.{card_kind, card_at, stored_parts, stored_headings, stored_headings_from, heading_at, parts_from, next_heading}
-use Rattle.store_reader.proofs.Group.{parts_later}
+use Rattle.store_reader.specs.Stored.{built_in_at, ignored_at, headings_of}
+use Rattle.store_reader.proofs.Group.{parts_later, headings_past_parts}
 use Rattle.store_reader.proofs.Words.{headings_start, headings_next, headings_skip, headings_end, next_stored, next_after, next_inside, parts_next}
 use Rattle.from_ast_index.specs.Index.{heading_number}
 use Rattle.from_ast_indexing.specs.Steps.{HeadingsAsked, HeadingsAre}
 
 -- ---- The walk.
 
--- m headings stand in the array, and the next one is the card i.
+-- m headings stand in the array, and those from the card i on are left.
 pub record HeadingsSoFar (words headings : List ℕ) (m i : ℕ) : Type 0 where
   pub so_far : (text : List ℕ) → take m headings ++ map heading_number (stored_headings_from text words i) ≡ map heading_number (stored_headings text words)
-  pub heading : i < cards_used_of words → is_part (card_kind words i) ≡ false
   pub count_most : m ≤ i
-  pub inside : i ≤ cards_used_of words
 
 -- What follows a heading's parts is a heading.
 pub next_headings : (words : List ℕ) (i : ℕ) → i < cards_used_of words → next_heading words i < cards_used_of words →
@@ -51,53 +50,65 @@ next_headings words i h n = go (is_part (card_kind words (next_heading words i))
 pub headings_begin : (words headings : List ℕ) → HeadingsAsked words headings → HeadingsSoFar words headings 0 0
 headings_begin words headings a = record {
   so_far = λ text. ap (map heading_number) (sym (headings_start text words));
-  heading = a.headed;
   count_most = omega arith;
-  inside = omega arith;
 }
 
 number_at : (text words : List ℕ) (i : ℕ) → heading_number (heading_at text words i) ≡ i
 unfolding heading_number
 number_at text words i = refl
 
-module _ (words headings : List ℕ) (m i : ℕ) (s : HeadingsSoFar words headings m i) (h : i < cards_used_of words)
-    (capacity : cards_used_of words < length headings) where
-  pub headings_turn : HeadingsSoFar words (set headings m i) (m + 1) (next_heading words i)
-  headings_turn = record {
+-- A heading is followed by those from the next card on: its parts are no headings.
+heading_here : (text words : List ℕ) (i : ℕ) → i < cards_used_of words → is_part (card_kind words i) ≡ false →
+    stored_headings_from text words i ≡ heading_at text words i ∷ stored_headings_from text words (i + 1)
+unfolding stored_headings_from
+heading_here text words i h p =
+    let cs = stored_parts text words in
+    headings_next text words i h p
+    ∙ ap (λ (l : List Heading). heading_at text words i ∷ l)
+    (sym (headings_past_parts (built_in_at words) (ignored_at words) cs (i + 1)
+    ∙ ap (λ (n : ℕ). (headings_of (built_in_at words) (ignored_at words) (drop n cs)).1) (sym (next_stored words i text h))))
+
+module _ (words headings : List ℕ) (m i : ℕ) (s : HeadingsSoFar words headings m i) (h : i < cards_used_of words) where
+  pub headings_part : is_part (card_kind words i) ≡ true → HeadingsSoFar words headings m (i + 1)
+  headings_part p = record {
+    so_far = λ text. ap (λ (l : List Heading). take m headings ++ map heading_number l) (sym (headings_skip text words i h p)) ∙ s.so_far text;
+    count_most = omega (arith, s.count_most);
+  }
+
+  pub headings_turn : cards_used_of words < length headings → is_part (card_kind words i) ≡ false → HeadingsSoFar words (set headings m i) (m + 1) (i + 1)
+  headings_turn capacity p = record {
     so_far = λ text.
-        let rest : List ℕ = map heading_number (stored_headings_from text words (next_heading words i)) in
+        let rest : List ℕ = map heading_number (stored_headings_from text words (i + 1)) in
         let taken : take (m + 1) (set headings m i) ≡ take m headings ++ (i ∷ []) = rw add-one (take-suc-set headings m i (omega (arith, s.count_most))) in
         ap (λ (l : List ℕ). l ++ rest) taken
         ∙ append_assoc (take m headings) (i ∷ []) rest
         ∙ ap (λ (n : ℕ). take m headings ++ (n ∷ rest)) (sym (number_at text words i))
-        ∙ ap (λ (l : List Heading). take m headings ++ map heading_number l) (sym (headings_next text words i h (s.heading h)))
+        ∙ ap (λ (l : List Heading). take m headings ++ map heading_number l) (sym (heading_here text words i h p))
         ∙ s.so_far text;
-    heading = next_headings words i h;
-    count_most = omega (arith, s.count_most, next_after words i h);
-    inside = next_inside words i;
+    count_most = omega (arith, s.count_most);
   }
 
-module _ (words headings : List ℕ) (m i : ℕ) (s : HeadingsSoFar words headings m i) (h : cards_used_of words ≤ i)
+module _ (words headings : List ℕ) (m i : ℕ) (s : HeadingsSoFar words headings m i) (h : i ≡ cards_used_of words)
     (capacity : cards_used_of words < length headings) where
   all_headings : (text : List ℕ) → take m headings ≡ map heading_number (stored_headings text words)
   all_headings text =
       sym (append-nil (take m headings))
-      ∙ ap (λ (l : List Heading). take m headings ++ map heading_number l) (sym (headings_end text words i h))
+      ∙ ap (λ (l : List Heading). take m headings ++ map heading_number l) (sym (headings_end text words i (omega arith)))
       ∙ s.so_far text
 
   pub headings_done : (used : ℕ) → used ≡ cards_used_of words → HeadingsAre words (set headings m used) m
   headings_done used e = record {
     headings_are = λ text.
         let taken : take (m + 1) (set headings m used) ≡ take m headings ++ (used ∷ []) =
-        rw add-one (take-suc-set headings m used (omega (arith, s.count_most, s.inside))) in
+        rw add-one (take-suc-set headings m used (omega (arith, s.count_most))) in
         taken
         ∙ ap (λ (l : List ℕ). l ++ (used ∷ [])) (all_headings text)
         ∙ ap (λ (n : ℕ). map heading_number (stored_headings text words) ++ (n ∷ [])) e;
     headings_count = λ text.
         sym (length-map (stored_headings text words) heading_number)
         ∙ ap length (sym (all_headings text))
-        ∙ length-take-le m headings (omega (arith, s.count_most, s.inside));
-    headings_most = omega (arith, s.count_most, s.inside);
+        ∙ length-take-le m headings (omega (arith, s.count_most));
+    headings_most = omega (arith, s.count_most);
   }
 
 -- ---- Where the headings stand: each is followed by the next heading, the last one by the end.

@@ -3,8 +3,7 @@ use mathlib.Core.Path.{◌≡◌, refl, sym, ◌∙◌, ap}
 use mathlib.Core.List.{List, [], map}
 use mathlib.Core.Bool.{Bool, true, false, ◌&&◌, ◌||◌}
 use mathlib.Core.Option.{Option, none, some}
-use Prim.Native.Nat.{ℕ, ◌-◌, ◌≤◌, ◌<◌}
-use native.Mathlib.Nat.{sub-zero}
+use Prim.Native.Nat.{ℕ, ◌≤◌, ◌<◌}
 use native.Mathlib.Omega.{arith}
 use lib.Dec.{eqb, leb}
 use lib.ListN.{length, take, get_or, get_elem?, length-map}
@@ -320,29 +319,28 @@ module _ (text words headings₀ hashes₀ owners₀ types₀ orphans₀ extensi
     few = cards_fit_lem text words a.store_sound
 
     module _ (hashes : List ℕ) (p : Hashed text words hashes) where
-      pub owners_ready : OwnersAsked text words hashes (take (m - 0) headings) owners₀ types₀ orphans₀ extensions₀ starts₀
-      owners_ready = rw sub-zero (record {
+      pub owners_ready : OwnersAsked text words hashes (take m headings) owners₀ types₀ orphans₀ extensions₀ starts₀
+      owners_ready = record {
         all_cards = cards_ready text words headings m capacity few is hashes p;
         owners_capacity = a.owners_length;
         types_capacity = a.types_length;
         orphans_capacity = a.orphans_length;
         extensions_capacity = a.extensions_length;
         scratch_capacity = a.starts_length;
-      })
+      }
 
       module _ (owners defined_types orphans extensions : List ℕ) (r : Counts)
-          (w : OwnersAre text words (take (m - 0) headings) owners defined_types orphans extensions r)
+          (w : OwnersAre text words (take m headings) owners defined_types orphans extensions r)
           (owners_kept : length owners ≡ length owners₀) (types-kept : length defined_types ≡ length types₀) (orphans-kept : length orphans ≡ length orphans₀)
           (extensions_kept : length extensions ≡ length extensions₀) where
         pub all_indexed : Indexed text words headings hashes owners defined_types orphans extensions r.headings r.types r.orphans r.extensions
         all_indexed =
-            indexed text words headings m capacity few is hashes owners defined_types orphans extensions p r (rw sub-zero at w) (omega (arith, a.owners_length))
+            indexed text words headings m capacity few is hashes owners defined_types orphans extensions p r w (omega (arith, a.owners_length))
             (omega (arith, a.types_length)) (omega (arith, a.orphans_length)) (omega (arith, a.extensions_length))
 
         pub extensions_fit : r.extensions ≤ length extensions
         extensions_fit = omega (arith, all_indexed.extensions_most, all_indexed.headings_most, all_indexed.extensions_length)
 
-        pub spans_asked : SpansAsked owners (take (r.extensions - 0) extensions)
+        pub spans_asked : SpansAsked owners (take r.extensions extensions)
         spans_asked =
-            rw sub-zero (spans_ready text words headings hashes owners defined_types orphans extensions r.headings r.types r.orphans
-            r.extensions all_indexed)
+            spans_ready text words headings hashes owners defined_types orphans extensions r.headings r.types r.orphans r.extensions all_indexed

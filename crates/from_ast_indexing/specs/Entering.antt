@@ -1,16 +1,16 @@
 -- Searches for a name among cards, told by their numbers; `same` says whether two cards have one name.
 use Rattle.std.specs.Prelude.{◌≡◌, List, [], ◌∷◌, ◌++◌, map, Bool, ℕ, ◌+◌, ◌%◌, ◌≤◌, ◌<◌, length, take, get_or}
+use Rattle.std.specs.Prelude.{Option as Entry, Some, None}
 use Rattle.std.proofs.Math.Option.{Option, none, some}
 use Rattle.definition.specs.Lists.{found, find}
 use Rattle.definition.specs.Answers.{absent}
 use Rattle.from_ast_index.specs.Index.{same_cards, card_hash}
-use Rattle.from_ast_indexing.specs.declared.entry.Entry.{Entry}
-use Rattle.from_ast_indexing.specs.declared.entry.Entry.TheVariants.{Occupied, Vacant}
 use Rattle.from_ast_indexing.specs.declared.entry.First.{First}
 
-abbrev pub entry_of : Option ℕ → Entry
-entry_of (some c) = Occupied c
-entry_of none = Vacant
+-- What a search finds, as the code answers it.
+abbrev pub entry_of : Option ℕ → Entry ℕ
+entry_of (some c) = Some c
+entry_of none = None
 
 -- The first card that has the name of c, or `-`.
 unfoldable pub first_card : (ℕ → ℕ → Bool) → ℕ → List ℕ → ℕ

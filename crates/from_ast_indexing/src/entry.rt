@@ -2,14 +2,10 @@
 ghost use Rattle.std.specs.Prelude.{◌≡◌, ◌%◌, ◌≤◌, ◌<◌, length, get_or};
 ghost use Rattle.definition.specs.Lists.{find};
 ghost use Rattle.from_ast_index.specs.Index.{same_cards};
+ghost use Rattle.definition.specs.Store.{cards_used_of};
 ghost use Rattle.from_ast_indexing.specs.Entering.{entry_of, Searched, Entering, Entered};
 
-// What a search for a name finds: the first card that has it.
-#[derive(Clone, Copy)]
-pub enum Entry {
-    Occupied(u32),
-    Vacant,
-}
+use from_ast_index::Collection;
 
 // The first card of a name, and how many names there are now.
 #[derive(Clone, Copy)]
@@ -18,62 +14,52 @@ pub struct First {
     pub count: usize,
 }
 
-// The first of the cards that has the name of the card; beside the cards stand their hashes.
-pub fn find(
-    text: &[u8],
-    words: &[u32],
-    cards: &[u32],
-    hashes: &[u32],
-    card: u32,
-    hash: u32,
-) -> Entry
-    requires { Searched text.now words.now cards.now hashes.now card hash }
-    ensures { result ≡ entry_of (find (same_cards text.now words.now card) cards.now) }
+// The first of the cards that has the name of a stored card; beside the cards stand their hashes.
+pub fn find(collection: &Collection, cards: &[u32], hashes: &[u32], card: u32) -> Option<u32>
+    requires stored { card < cards_used_of collection.now.words.now }
+    requires searched { Searched collection.now.text.now collection.now.words.now cards.now hashes.now card
+        (get_or collection.now.hashes.now card 0) }
+    ensures { result
+        ≡ entry_of (find (same_cards collection.now.text.now collection.now.words.now card) cards.now) }
 {
-    let mut i = 0;
-    while i < hashes.len() {
-        if hashes[i] == hash {
-            let other = cards[i];
-            if from_ast_index::same_names(text, words, card, other) {
-                return Entry::Occupied(other);
-            }
+    let hash = collection.hashes[card as usize];
+    for (i, other) in cards.iter().enumerate() {
+        if hashes[i] != hash {
+            continue;
         }
-        i += 1;
+        if name::same(collection.name(card), collection.name(*other)) {
+            return Some(*other);
+        }
     }
-    Entry::Vacant
+    None
 }
 
-// Adds the card to the first `count` cards where none of them has its name. None before `from` has its hash.
+// Adds a stored card to the first `count` cards where none of them has its name. None before `from` has its hash.
 pub fn enter(
-    text: &[u8],
-    words: &[u32],
+    collection: &Collection,
     card: u32,
-    hash: u32,
     cards: &mut [u32],
     hashes: &mut [u32],
     from: usize,
     count: usize,
 ) -> First
-    requires { Entering text.now words.now cards.old hashes.old from count card hash }
-    ensures { Entered text.now words.now card count result cards.old cards.new
+    requires stored { card < cards_used_of collection.now.words.now }
+    requires entering { Entering collection.now.text.now collection.now.words.now cards.old hashes.old from count card
+        (get_or collection.now.hashes.now card 0) }
+    ensures { Entered collection.now.text.now collection.now.words.now card count result cards.old cards.new
         hashes.new }
 {
-    let Entry::Occupied(first) = find(
-        text,
-        words,
-        &cards[from..count],
-        &hashes[from..count],
-        card,
-        hash,
-    ) else {
-        cards[count] = card;
-        hashes[count] = hash;
-        return First {
-            card,
-            count: count + 1,
-        };
-    };
-    First { card: first, count }
+    match find(collection, &cards[from..count], &hashes[from..count], card) {
+        Some(first) => First { card: first, count },
+        None => {
+            cards[count] = card;
+            hashes[count] = collection.hashes[card as usize];
+            First {
+                card,
+                count: count + 1,
+            }
+        }
+    }
 }
 
 // Where the search for a hash among the first `count` types begins: none before has it. A word of `buckets` is the place of the first
@@ -83,9 +69,5 @@ pub fn hint(buckets: &[u32], hash: u32, count: usize) -> usize
     ensures { (result ≤ count)
         × (result ≤ get_or buckets.now (hash % length buckets.now) 0) }
 {
-    let first = buckets[hash as usize % buckets.len()] as usize;
-    if count < first {
-        return count;
-    }
-    first
+    (buckets[hash as usize % buckets.len()] as usize).min(count)
 }

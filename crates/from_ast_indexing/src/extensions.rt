@@ -12,15 +12,14 @@ ghost use Rattle.from_ast_indexing.specs.Extensions.{
   OrphansAre,
 };
 
-use crate::entry::Entry;
+use crate::entry;
 use ast::kinds;
 use definition::ABSENT;
+use from_ast_index::Collection;
 
 // One heading: an extension is listed, and the first definition of its name owns it.
 fn index_extension(
-    text: &[u8],
-    words: &[u32],
-    hashes: &[u32],
+    collection: &Collection,
     types: &[u32],
     type_hashes: &[u32],
     buckets: &[u32],
@@ -29,133 +28,92 @@ fn index_extension(
     extensions: &mut [u32],
     count: usize,
 ) -> usize
-    requires { ExtensionAsked text.now words.now hashes.now types.now type_hashes.now owners.old extensions.old
-        card count
-        × Hinted type_hashes.now buckets.now }
-    ensures { ExtensionTurn text.now words.now types.now card count result owners.old
+    requires asked { ExtensionAsked collection.now.text.now collection.now.words.now collection.now.hashes.now types.now
+        type_hashes.now owners.old extensions.old card count }
+    requires hinted { Hinted type_hashes.now buckets.now }
+    ensures { ExtensionTurn collection.now.text.now collection.now.words.now types.now card count result owners.old
         owners.new extensions.old extensions.new }
 {
     let at = card as usize;
-    if !kinds::is_type_extension(store_reader::card_kind(words, at)) {
+    if !kinds::is_type_extension(collection.kind(card)) {
         return count;
     }
     extensions[count] = card;
-    let hash = hashes[at];
-    let from = crate::entry::hint(buckets, hash, type_hashes.len());
-    let Entry::Occupied(first) = crate::entry::find(
-        text,
-        words,
-        &types[from..],
-        &type_hashes[from..],
-        card,
-        hash,
-    ) else {
-        owners[at] = ABSENT;
-        return count + 1;
-    };
-    owners[at] = first;
+    let from = entry::hint(buckets, collection.hashes[at], type_hashes.len());
+    owners[at] = entry::find(collection, &types[from..], &type_hashes[from..], card).unwrap_or(
+        ABSENT,
+    );
     count + 1
 }
 
 // All type extensions, and for each the first definition of its name: every definition is known here.
 pub fn index_extensions(
-    text: &[u8],
-    words: &[u32],
+    collection: &Collection,
     headings: &[u32],
-    hashes: &[u32],
     types: &[u32],
     type_hashes: &[u32],
     buckets: &[u32],
     owners: &mut [u32],
     extensions: &mut [u32],
 ) -> usize
-    requires { ExtensionsAsked text.now words.now hashes.now headings.now types.now type_hashes.now owners.old
-        extensions.old
-        × Hinted type_hashes.now buckets.now }
-    ensures { ExtensionsAre text.now words.now headings.now types.now
+    requires asked { ExtensionsAsked collection.now.text.now collection.now.words.now collection.now.hashes.now headings.now
+        types.now type_hashes.now owners.old extensions.old }
+    requires hinted { Hinted type_hashes.now buckets.now }
+    ensures { ExtensionsAre collection.now.text.now collection.now.words.now headings.now types.now
         owners.old owners.new extensions.new (length headings.now) result }
 {
     let mut count = 0;
-    let mut k = 0;
-    while k < headings.len() {
+    for card in headings {
         count = index_extension(
-            text,
-            words,
-            hashes,
+            collection,
             types,
             type_hashes,
             buckets,
-            headings[k],
+            *card,
             owners,
             extensions,
             count,
         );
-        k += 1;
     }
     count
 }
 
 // One extension: where it has no owner it is an orphan, perhaps the first of its name.
 fn index_orphan(
-    text: &[u8],
-    words: &[u32],
-    hashes: &[u32],
+    collection: &Collection,
     owners: &[u32],
     card: u32,
     orphans: &mut [u32],
     orphan_hashes: &mut [u32],
     count: usize,
 ) -> usize
-    requires { OrphanAsked text.now words.now hashes.now owners.now orphans.old orphan_hashes.old card count }
-    ensures { OrphanTurn text.now words.now owners.now card count result orphans.old
+    requires { OrphanAsked collection.now.text.now collection.now.words.now collection.now.hashes.now owners.now orphans.old
+        orphan_hashes.old card count }
+    ensures { OrphanTurn collection.now.text.now collection.now.words.now owners.now card count result orphans.old
         orphans.new orphan_hashes.new }
 {
-    let at = card as usize;
-    if owners[at] != ABSENT {
+    if owners[card as usize] != ABSENT {
         return count;
     }
-    let first = crate::entry::enter(
-        text,
-        words,
-        card,
-        hashes[at],
-        orphans,
-        orphan_hashes,
-        0,
-        count,
-    );
-    first.count
+    entry::enter(collection, card, orphans, orphan_hashes, 0, count).count
 }
 
 // The first orphan of each name.
 pub fn index_orphans(
-    text: &[u8],
-    words: &[u32],
-    hashes: &[u32],
+    collection: &Collection,
     owners: &[u32],
     extensions: &[u32],
     orphans: &mut [u32],
     orphan_hashes: &mut [u32],
 ) -> usize
-    requires { OrphansAsked text.now words.now hashes.now owners.now extensions.now orphans.old
-        orphan_hashes.old }
-    ensures { OrphansAre text.now words.now owners.now extensions.now
+    requires { OrphansAsked collection.now.text.now collection.now.words.now collection.now.hashes.now owners.now
+        extensions.now orphans.old orphan_hashes.old }
+    ensures { OrphansAre collection.now.text.now collection.now.words.now owners.now extensions.now
         orphans.new orphan_hashes.new (length extensions.now) result }
 {
     let mut count = 0;
-    let mut k = 0;
-    while k < extensions.len() {
-        count = index_orphan(
-            text,
-            words,
-            hashes,
-            owners,
-            extensions[k],
-            orphans,
-            orphan_hashes,
-            count,
-        );
-        k += 1;
+    for card in extensions {
+        count = index_orphan(collection, owners, *card, orphans, orphan_hashes, count);
     }
     count
 }

@@ -7,7 +7,7 @@ ghost use Rattle.definition.specs.Store.{cards_used_of, words_capacity};
 ghost use Rattle.from_ast_index.specs.Index.{hash_of, Hashed, Indexed, Spanned};
 ghost use Rattle.from_ast_indexing.specs.Steps.{IndexAsked, HeadingsAsked, HeadingsAre, OwnersAsked, OwnersAre};
 
-use from_ast_index::Counts;
+use from_ast_index::{Collection, Counts};
 
 pub mod entry;
 pub mod extensions;
@@ -24,26 +24,25 @@ pub fn hash_of(name: &[u8]) -> u32
     ensures { result ≡ hash_of name.now }
 {
     let mut hash: u64 = 0;
-    let mut i = 0;
-    while i < name.len() {
-        hash = (hash * HASH_FACTOR + name[i] as u64) % HASH_RANGE;
-        i += 1;
+    for byte in name {
+        hash = (hash * HASH_FACTOR + *byte as u64) % HASH_RANGE;
     }
     hash as u32
 }
 
-// The cards of the headings in order, then the number of cards. The text is for the reader that goes to the next heading.
-pub fn index_headings(text: &[u8], words: &[u32], headings: &mut [u32]) -> usize
+// The cards of the headings in order, then the number of cards.
+pub fn index_headings(words: &[u32], headings: &mut [u32]) -> usize
     requires { HeadingsAsked words.now headings.old }
     ensures { HeadingsAre words.now headings.new result }
 {
     let used = store_reader::cards_used(words);
     let mut count = 0;
-    let mut card = 0;
-    while card < used {
+    for card in 0..used {
+        if store_reader::is_part(store_reader::card_kind(words, card)) {
+            continue;
+        }
         headings[count] = card as u32;
         count += 1;
-        card = store_reader::next_heading(text, words, card);
     }
     headings[count] = used as u32;
     count
@@ -56,20 +55,15 @@ pub fn hash_names(text: &[u8], words: &[u32], hashes: &mut [u32])
         × (cards_used_of words.now ≤ length hashes.old) }
     ensures { Hashed text.now words.now hashes.new }
 {
-    let used = store_reader::cards_used(words);
-    let mut i = 0;
-    while i < used {
+    for i in 0..store_reader::cards_used(words) {
         hashes[i] = hash_of(store_reader::card_name(text, words, i));
-        i += 1;
     }
 }
 
 // Types, extensions, orphans and owners, from the headings' cards. The scratch holds the hashes of the types, then those of the orphans.
 fn index_owners(
-    text: &[u8],
-    words: &[u32],
+    collection: &Collection,
     headings: &[u32],
-    hashes: &[u32],
     owners: &mut [u32],
     types: &mut [u32],
     orphans: &mut [u32],
@@ -77,32 +71,26 @@ fn index_owners(
     buckets: &mut [u32],
     scratch: &mut [u32],
 ) -> Counts
-    requires { OwnersAsked text.now words.now hashes.now headings.now owners.old types.old orphans.old
-        extensions.old scratch.old
-        × (0 < length buckets.old) }
-    ensures { OwnersAre text.now words.now headings.now owners.new
+    requires asked { OwnersAsked collection.now.text.now collection.now.words.now collection.now.hashes.now headings.now
+        owners.old types.old orphans.old extensions.old scratch.old }
+    requires slots { 0 < length buckets.old }
+    ensures { OwnersAre collection.now.text.now collection.now.words.now headings.now owners.new
         types.new orphans.new extensions.new result }
 {
-    let type_count = crate::types::index_types(
-        text, words, headings, hashes, owners, types, scratch, buckets,
-    );
-    let extension_count = crate::extensions::index_extensions(
-        text,
-        words,
+    let type_count = types::index_types(collection, headings, owners, types, scratch, buckets);
+    let extension_count = extensions::index_extensions(
+        collection,
         headings,
-        hashes,
-        &types[0..type_count],
-        &scratch[0..type_count],
+        &types[..type_count],
+        &scratch[..type_count],
         buckets,
         owners,
         extensions,
     );
-    let orphan_count = crate::extensions::index_orphans(
-        text,
-        words,
-        hashes,
+    let orphan_count = extensions::index_orphans(
+        collection,
         owners,
-        &extensions[0..extension_count],
+        &extensions[..extension_count],
         orphans,
         scratch,
     );
@@ -137,13 +125,16 @@ pub fn index(
         × Spanned words.now owners.new (take result.extensions extensions.new)
         starts.new ends.new }
 {
-    let count = index_headings(text, words, headings);
+    let count = index_headings(words, headings);
     hash_names(text, words, hashes);
-    let counts = index_owners(
+    let collection = Collection {
         text,
         words,
-        &headings[0..count],
         hashes,
+    };
+    let counts = index_owners(
+        &collection,
+        &headings[..count],
         owners,
         types,
         orphans,
@@ -151,8 +142,7 @@ pub fn index(
         buckets,
         starts,
     );
-    let extension_count = counts.extensions;
-    crate::spans::index_starts(owners, &extensions[0..extension_count], starts);
-    crate::spans::index_ends(owners, &extensions[0..extension_count], ends);
+    spans::index_starts(owners, &extensions[..counts.extensions], starts);
+    spans::index_ends(owners, &extensions[..counts.extensions], ends);
     counts
 }

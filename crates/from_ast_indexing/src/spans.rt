@@ -7,10 +7,9 @@ ghost use Rattle.from_ast_indexing.specs.Spans.{SpansAsked};
 fn note(at: usize, word: u32, array: &mut [u32])
     ensures { array.new ≡ set array.old at word }
 {
-    if array.len() <= at {
-        return;
+    if at < array.len() {
+        array[at] = word;
     }
-    array[at] = word;
 }
 
 // For each type the place of its first extension among all; the word of a type without extensions stays.
@@ -18,9 +17,7 @@ pub fn index_starts(owners: &[u32], extensions: &[u32], starts: &mut [u32])
     requires { SpansAsked owners.now extensions.now }
     ensures { StartsAre owners.now extensions.now starts.new 0 }
 {
-    let mut i = extensions.len();
-    while i > 0 {
-        i -= 1;
+    for i in (0..extensions.len()).rev() {
         note(owners[extensions[i] as usize] as usize, i as u32, starts);
     }
 }
@@ -30,10 +27,7 @@ pub fn index_ends(owners: &[u32], extensions: &[u32], ends: &mut [u32])
     requires { SpansAsked owners.now extensions.now }
     ensures { EndsAre owners.now extensions.now ends.new (length extensions.now) }
 {
-    let mut i = 0;
-    while i < extensions.len() {
-        let owner = owners[extensions[i] as usize];
-        i += 1;
-        note(owner as usize, i as u32, ends);
+    for (i, extension) in extensions.iter().enumerate() {
+        note(owners[*extension as usize] as usize, i as u32 + 1, ends);
     }
 }

@@ -1,5 +1,4 @@
--- The turns of the walks; and, in Catalogue, that all rows are those of the definitions.
+-- The parts of extensions, all rows, and the turns of the schema's functions.
 pub mod Parts
-pub mod Catalogue
 pub mod SchemaTurns
-mod TypesParts
+pub mod Catalogue

@@ -1,17 +1,19 @@
--- The index tells the part of all extensions in which those of a defined type stand.
+-- The index tells the part of all extensions in which those of a defined type stand: with its part a defined type has the rows that it has with all.
 use mathlib.Core.Path.{◌≡◌, refl, sym, ap, ◌∙◌}
 use mathlib.Core.Bool.{Bool, true, false}
 use mathlib.Core.List.{List, ◌∷◌}
-use Prim.Native.Nat.{ℕ, ◌<◌}
+use Prim.Native.Nat.{ℕ, ◌+◌, ◌-◌, ◌≤◌, ◌<◌}
 use native.Mathlib.Omega.{arith}
-use lib.ListN.{length, get_or, take}
-use lib.Seq.{get_or-take}
-use Rattle.from_ast_index.specs.Index.{same_cards, Indexed, Spanned, own_extensions}
+use lib.ListN.{length, get_or, take, drop, length-drop, length-take}
+use lib.Seq.{get_or-take, get_or-drop}
+use Rattle.definition.specs.Catalogue.{Row}
+use Rattle.definition.specs.Store.{cards_used_of}
+use Rattle.from_ast_index.specs.Index.{same_cards, Listed, Spanned, part, own_extensions}
 use Rattle.from_ast_index.proofs.Lists.{taken_most}
 use Rattle.from_ast_index.proofs.Spans.{kept_spanned}
-use Rattle.component.specs.RowsByCards.{extension_kind, is_matching, matching, lists_at, type_row_at, type_rows_at}
+use Rattle.component.specs.Pushed.{Filled, Fits, pushed}
+use Rattle.component.specs.RowsByCards.{Stored, extension_kind, is_matching, matching, lists_at, type_row_at, type_rows_at}
 use Rattle.component.proofs.Matching.{matching_unlike}
-use Rattle.from_ast_rows.specs.Parted.{Parted}
 
 matching_named : (text words : List ℕ) (ext owner n : ℕ) → is_matching text words ext owner n ≡ true → same_cards text words owner n ≡ true
 matching_named text words ext owner n h = go (same_cards text words owner n) refl
@@ -20,30 +22,65 @@ matching_named text words ext owner n h = go (same_cards text words owner n) ref
     go true e = e
     go false e = let q : true ≡ false = sym h ∙ matching_unlike text words ext owner n e in cc
 
-module _ (text words headings hashes owners type_cards orphan_cards extension_cards : List ℕ) (m t o e : ℕ)
-    (x : Indexed text words headings hashes owners type_cards orphan_cards extension_cards m t o e)
-    (starts ends : List ℕ) (s : Spanned words owners (take e extension_cards) starts ends) where
-  part_matching : (k : ℕ) → k < t →
-      matching text words (own_extensions (take e extension_cards) starts ends (get_or type_cards k 0)) (get_or type_cards k 0)
-      ≡ matching text words (take e extension_cards) (get_or type_cards k 0)
+-- ---- What is in a part is in the list.
+
+taken_inside : (n : ℕ) (xs : List ℕ) → length (take n xs) ≤ length xs
+taken_inside n xs = simp length-take (omega arith)
+
+part_most : (start end : ℕ) (xs : List ℕ) → length (part start end xs) ≤ length xs
+unfolding part
+part_most start end xs = omega (arith, taken_inside (end - start) (drop start xs), length-drop start xs)
+
+part_entry : (start end : ℕ) (xs : List ℕ) (i : ℕ) → i < length (part start end xs) →
+    (get_or (part start end xs) i 0 ≡ get_or xs (start + i) 0) × (start + i < length xs)
+unfolding part
+part_entry start end xs i h =
+    let few = taken_most (end - start) (drop start xs) in
+    let most = taken_inside (end - start) (drop start xs) in
+    let size = length-drop start xs in
+    let l : i < end - start = omega arith in
+    (get_or-take (end - start) (drop start xs) i 0 l ∙ get_or-drop start xs i 0, omega arith)
+
+-- ---- The part of a type.
+
+module _ {text words headings owners types orphan_cards extensions starts ends : List ℕ} (x : Listed text words headings owners types orphan_cards extensions)
+    (s : Spanned words owners extensions starts ends) (k : ℕ) (k-t : k < length types)
+    (own : List ℕ) (is : own ≡ own_extensions extensions starts ends (get_or types k 0)) where
+  part_matching : matching text words (own_extensions extensions starts ends (get_or types k 0)) (get_or types k 0) ≡ matching text words extensions (get_or types k 0)
   unfolding matching
-  part_matching k k-t =
-      let c = get_or type_cards k 0 in
-      sym (kept_spanned text words headings hashes owners type_cards orphan_cards extension_cards m t o e x starts ends s k k-t
-      (is_matching text words (extension_kind words c) c) (λ d h. matching_named text words (extension_kind words c) c d h))
+  part_matching =
+      let c = get_or types k 0 in
+      sym (kept_spanned x s k k-t (is_matching text words (extension_kind words c) c) (λ d h. matching_named text words (extension_kind words c) c d h))
 
-  part_built : (k : ℕ) → k < t →
-      type_rows_at text words (own_extensions (take e extension_cards) starts ends (get_or type_cards k 0)) (get_or type_cards k 0)
-      ≡ type_rows_at text words (take e extension_cards) (get_or type_cards k 0)
+  own_builds : type_rows_at text words own (get_or types k 0) ≡ type_rows_at text words extensions (get_or types k 0)
   unfolding type_rows_at
-  part_built k k-t =
-      let c = get_or type_cards k 0 in
-      ap (λ (l : List ℕ). type_row_at words c ∷ lists_at text words l c) (part_matching k k-t)
+  own_builds =
+      let c = get_or types k 0 in
+      ap (λ (l : List ℕ). type_row_at words c ∷ lists_at text words (matching text words l c) c) is
+      ∙ ap (λ (l : List ℕ). type_row_at words c ∷ lists_at text words l c) part_matching
 
-  part_here : (k : ℕ) → k < length (take t type_cards) →
-      type_rows_at text words (own_extensions (take e extension_cards) starts ends (get_or (take t type_cards) k 0)) (get_or (take t type_cards) k 0)
-      ≡ type_rows_at text words (take e extension_cards) (get_or (take t type_cards) k 0)
-  part_here k l = let h : k < t = omega (arith, taken_most t type_cards) in rw (get_or-take t type_cards k 0 h) (part_built k h)
+  pub own_capacity : (s : Filled) (rows : List ℕ) → Fits rows (pushed (type_rows_at text words extensions (get_or types k 0)) s) →
+      Fits rows (pushed (type_rows_at text words own (get_or types k 0)) s)
+  own_capacity s rows h = rw own_builds h
 
-  pub spanned_parted : Parted text words (take t type_cards) (take e extension_cards) starts ends
-  spanned_parted = record { starts_length = s.starts_length; ends_length = s.ends_length; part_builds = part_here }
+  pub own_pushed : (s : Filled) → pushed (type_rows_at text words own (get_or types k 0)) s ≡ pushed (type_rows_at text words extensions (get_or types k 0)) s
+  own_pushed s = ap (λ (l : List Row). pushed l s) own_builds
+
+  pub own_most : length own ≤ length extensions
+  unfolding own_extensions
+  own_most =
+      let start = get_or starts (get_or types k 0) 0 in
+      let end = get_or ends (get_or types k 0) 0 in
+      omega (arith, ap length is, part_most start end extensions)
+
+  pub own_stored : Stored words own
+  unfolding own_extensions
+  own_stored = record { stored = λ i h. entry i h }
+    where
+      entry : (i : ℕ) → i < length own → get_or own i 0 < cards_used_of words
+      entry i h =
+          let start = get_or starts (get_or types k 0) 0 in
+          let end = get_or ends (get_or types k 0) 0 in
+          let w = part_entry start end extensions i (omega (arith, ap length is)) in
+          let at : get_or own i 0 ≡ get_or extensions (start + i) 0 = ap (λ (ns : List ℕ). get_or ns i 0) is ∙ w.0 in
+          rw at (x.extensions_stored (start + i) w.1)

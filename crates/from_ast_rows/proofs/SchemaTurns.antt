@@ -3,6 +3,8 @@ use mathlib.Core.Path.{◌≡◌, refl, sym, ap, ◌∙◌}
 use mathlib.Core.Bool.{Bool, true, false, ◌&&◌, not}
 use mathlib.Core.List.{List, [], ◌∷◌, ◌++◌, append-nil}
 use mathlib.Core.Option.{none, some}
+use Rattle.std.specs.Prelude.{Option, Some, None}
+use Rattle.std.specs.Option.{unwrap_or, option_eq}
 use Prim.Native.Nat.{ℕ, ◌+◌, ◌*◌, ◌≤◌, ◌<◌}
 use native.Mathlib.Omega.{arith}
 use borrow.Author.Tests.{eq-eqb, ne_eqb, leb-true}
@@ -11,7 +13,7 @@ use lib.ListN.{length, drop, get_or, drop_of_length-le}
 use Rattle.definition.specs.Lists.{choose, any, find, take_until, flat_map}
 use Rattle.definition.specs.Names.{same_name}
 use Rattle.definition.specs.Answers.{absent}
-use Rattle.definition.specs.Cards.{Card, card_words, card_from, is_part, is_root, definition_of}
+use Rattle.definition.specs.Cards.{Card, card_words, card_from, is_part, is_root, is_type, definition_of}
 use Rattle.definition.specs.Catalogue.{row, default_name, under_schema}
 use Rattle.definition.specs.Store.{cards_at, cards_used_of, stored_cards}
 use Rattle.definition.proofs.Tests.{and_true}
@@ -76,6 +78,11 @@ module _ (text words : List ℕ) (k n : ℕ) where
 pub extension_kind_lem : (k : ℕ) → (leb 12 k && leb k 17) ≡ is_type_kind true k
 unfolding is_type_extension_kind
 extension_kind_lem k = refl
+
+pub kind_some : (extending : Bool) (k : ℕ) → is_type_kind extending k ≡ true → 0 < k
+unfolding is_type_extension_kind is_type
+kind_some true k h = let t = and_true (leb 12 k) (leb k 17) h in omega (arith, leb-true 12 k t.0)
+kind_some false k h = let t = and_true (leb 5 k) (leb k 10) h in omega (arith, leb-true 5 k t.0)
 
 module _ (text words name : List ℕ) (extending : Bool) (n : ℕ) where
   pub named_other : is_type_kind extending (card_kind words n) ≡ false → is_type_named text words extending name n ≡ false
@@ -185,10 +192,10 @@ module _ (text words : List ℕ) (adopt : Bool) (ns : List ℕ) (schema : ℕ) (
   unfolding schema_list_at
   schema_begin s f = grow_fresh (same_stored text words) s.used (schema_list_rows text words adopt ns schema implicit k) s refl f
 
-  pub schema_defined : (schema ≡ absent → ⊥) → schema_list_rows text words adopt ns schema implicit k ≡ head_rows text words absent k schema
-      ++ flat_map (schema_extension_at text words k) ns
+  pub schema_defined : (card : ℕ) → schema ≡ card → (card ≡ absent → ⊥) →
+      schema_list_rows text words adopt ns schema implicit k ≡ head_rows text words absent k card ++ flat_map (schema_extension_at text words k) ns
   unfolding schema_list_rows
-  schema_defined e = rw (ne_eqb schema absent e)
+  schema_defined card s e = rw (s, ne_eqb card absent e)
 
   pub schema_adopting : schema ≡ absent → adopt ≡ true → schema_list_rows text words adopt ns schema implicit k ≡ flat_map (schema_extension_at text words k) ns
       ++ choose implicit (default_rows text words adopt ns k) []
@@ -234,6 +241,11 @@ module _ (text words : List ℕ) (ns : List ℕ) where
       eqb n 6 ≡ has_default text words adopt ns k
   unfolding has_default
   default_is adopt k n name e q = ap (λ (m : ℕ). eqb m 6) (q ∙ ap (kind_named_at text words adopt ns) e)
+
+-- Whether a kind that may be none is an object type's.
+pub some_six : (o : Option ℕ) → option_eq eqb o (Some 6) ≡ eqb (unwrap_or o 0) 6
+some_six None = refl
+some_six (Some k) = refl
 
 -- ---- The schema.
 

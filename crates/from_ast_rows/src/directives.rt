@@ -1,107 +1,75 @@
 // The rows of the directive definitions, of schema/from_ast.rs.
 ghost use Rattle.std.specs.Prelude.{◌≡◌, ◌<◌};
+ghost use Rattle.std.specs.Option.{unwrap_or};
+ghost use Rattle.definition.specs.Answers.{absent};
 ghost use Rattle.definition.specs.Store.{cards_used_of};
-ghost use Rattle.from_ast_index.specs.Index.{Hashed};
-ghost use Rattle.component.specs.Pushed.{filled, Fits, pushed};
-ghost use Rattle.component.specs.RowsByCards.{Stored, names_directive, standing_at, extend_by_directive, directive_rows_at};
+ghost use Rattle.component.specs.Pushed.{HasRoom, Becomes, pushed};
+ghost use Rattle.component.specs.RowsByCards.{names_directive, standing_at, extend_by_directive, directive_rows_at};
 
 use ast::kinds;
+use component::{Row, Rows};
 use definition::ABSENT;
+use from_ast_index::{Collection, Index};
 
 // Whether a heading is a directive definition with the name of the card.
-fn names_directive(text: &[u8], words: &[u32], hashes: &[u32], card: u32, other: u32) -> bool
-    requires { Hashed text.now words.now hashes.now
-        × (card < cards_used_of words.now)
-        × (other < cards_used_of words.now) }
-    ensures { result ≡ names_directive text.now words.now card other }
+#[tactic(auto, using(component::proofs::Turns::directive_other, component::proofs::Turns::directive_is))]
+fn names_directive(collection: &Collection, card: u32, other: u32) -> bool
+    requires card_stored { card < cards_used_of collection.now.words.now }
+    requires other_stored { other < cards_used_of collection.now.words.now }
+    ensures { result ≡ names_directive collection.now.text.now collection.now.words.now card other }
 {
-    if store_reader::card_kind(words, other as usize) != kinds::DIRECTIVE_DEFINITION {
-        return false;
-    }
-    from_ast_index::same_cards(text, words, hashes, card, other)
+    collection.kind(other) == kinds::DIRECTIVE_DEFINITION && collection.same_name(card, other)
 }
 
 // The directive definition that stands for a card's name: a built-in one gives way to the next, and any other stays.
-fn standing_directive(
-    text: &[u8],
-    words: &[u32],
-    headings: &[u32],
-    hashes: &[u32],
-    card: u32,
-) -> u32
-    requires { Hashed text.now words.now hashes.now
-        × Stored words.now headings.now
-        × (card < cards_used_of words.now) }
-    ensures { result ≡ standing_at text.now words.now headings.now card }
+fn standing_directive(index: &Index, card: u32) -> Option<u32>
+    requires { card < cards_used_of index.now.collection.words.now }
+    ensures { unwrap_or result absent
+        ≡ standing_at index.now.collection.text.now index.now.collection.words.now index.now.headings.now card }
 {
-    let first = store_reader::documents::built_in_count(words);
-    let mut standing = ABSENT;
-    let mut i = 0;
-    while i < headings.len() {
-        let other = headings[i];
-        i += 1;
-        if !names_directive(text, words, hashes, card, other) {
+    let first = store_reader::documents::built_in_count(index.collection.words);
+    let mut standing = None;
+    for other in index.headings {
+        if !names_directive(&index.collection, card, *other) {
             continue;
         }
-        if first <= other as usize {
-            return other;
+        standing = Some(*other);
+        if first <= *other as usize {
+            return standing;
         }
-        standing = other;
     }
     standing
 }
 
 // Pushes the directive definition that stands for a heading's name, unless it stands already: it has the place of the first.
-fn directive_definition(
-    text: &[u8],
-    words: &[u32],
-    headings: &[u32],
-    hashes: &[u32],
-    card: u32,
-    rows: &mut [u32],
-    start: usize,
-    used: usize,
-) -> usize
-    requires { Hashed text.now words.now hashes.now
-        × Stored words.now headings.now
-        × (card < cards_used_of words.now)
-        × Fits rows.old (extend_by_directive text.now words.now headings.now card start (filled rows.old used)) }
-    ensures { filled rows.new result
-        ≡ extend_by_directive text.now words.now headings.now card start
-        (filled rows.old used) }
+fn directive_definition(index: &Index, start: usize, card: u32, rows: &mut Rows)
+    requires stored { card < cards_used_of index.now.collection.words.now }
+    requires room { HasRoom rows.old
+        (extend_by_directive index.now.collection.text.now index.now.collection.words.now index.now.headings.now card start) }
+    ensures { Becomes rows.old rows.new
+        (extend_by_directive index.now.collection.text.now index.now.collection.words.now index.now.headings.now card
+        start) }
 {
-    if store_reader::card_kind(words, card as usize) != kinds::DIRECTIVE_DEFINITION {
-        return used;
+    if index.collection.kind(card) != kinds::DIRECTIVE_DEFINITION {
+        return;
     }
-    let standing = standing_directive(text, words, headings, hashes, card);
-    let kind = kinds::DIRECTIVE_DEFINITION;
-    component::extend_sticky(
-        text, words, hashes, kind, standing, ABSENT, rows, start, used,
-    )
+    let row = Row {
+        what: kinds::DIRECTIVE_DEFINITION,
+        card: standing_directive(index, card).unwrap_or(ABSENT),
+        origin: ABSENT,
+    };
+    rows.extend_sticky(&index.collection, start, row);
 }
 
 // Pushes the directive definitions.
-pub fn directive_definitions(
-    text: &[u8],
-    words: &[u32],
-    headings: &[u32],
-    hashes: &[u32],
-    rows: &mut [u32],
-    used: usize,
-) -> usize
-    requires { Hashed text.now words.now hashes.now
-        × Stored words.now headings.now
-        × Fits rows.old (pushed (directive_rows_at text.now words.now headings.now) (filled rows.old used)) }
-    ensures { filled rows.new result
-        ≡ pushed (directive_rows_at text.now words.now headings.now)
-        (filled rows.old used) }
+pub fn directive_definitions(index: &Index, rows: &mut Rows)
+    requires { HasRoom rows.old
+        (pushed (directive_rows_at index.now.collection.text.now index.now.collection.words.now index.now.headings.now)) }
+    ensures { Becomes rows.old rows.new
+        (pushed (directive_rows_at index.now.collection.text.now index.now.collection.words.now index.now.headings.now)) }
 {
-    let mut next = used;
-    let mut i = 0;
-    while i < headings.len() {
-        let card = headings[i];
-        next = directive_definition(text, words, headings, hashes, card, rows, used, next);
-        i += 1;
+    let start = rows.used;
+    for card in index.headings {
+        directive_definition(index, start, *card, rows);
     }
-    next
 }

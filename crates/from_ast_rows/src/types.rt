@@ -1,213 +1,197 @@
 // The rows of types, defined or adopted: each its own row and then its lists, `collect_sticky` of schema/from_ast.rs.
 ghost use Rattle.std.specs.Prelude.{◌≡◌, ◌∷◌, [], ◌+◌, ◌*◌, ◌≤◌, ◌<◌, length};
 ghost use Rattle.definition.specs.Store.{cards_used_of};
-ghost use Rattle.from_ast_index.specs.Index.{Hashed};
-ghost use Rattle.component.specs.Pushed.{filled, Fits, pushed};
-ghost use Rattle.component.specs.RowsByCards.{Stored, list_at, lists_at, type_row_at, type_rows_at, types_rows_at, all_types_rows_at};
-ghost use Rattle.from_ast_rows.specs.Parted.{Parted};
+ghost use Rattle.component.specs.Pushed.{HasRoom, Becomes, pushed};
+ghost use Rattle.from_ast_index.specs.Index.{is_type_extension_kind};
+ghost use Rattle.store_reader.specs.Stored.{card_kind};
+ghost use Rattle.component.specs.RowsByCards.{
+  Stored,
+  extend_by_extensions,
+  list_at,
+  lists_at,
+  type_row_at,
+  type_rows_at,
+  types_rows_at,
+  all_types_rows_at,
+};
 
+use crate::extensions::list_matching;
 use ast::kinds;
+use component::{Row, Rows};
 use definition::ABSENT;
+use from_ast_index::{Collection, Index, WordList};
 
-// Pushes one list of a type: of a definition its own parts and then those of its extensions, of an adopted type only these.
-fn collect_sticky(
-    text: &[u8],
-    words: &[u32],
-    hashes: &[u32],
-    mine: &[u32],
+// The kinds of a type's lists in their order; those of kinds that a type lacks are empty.
+const LISTS: [u32; 6] = [
+    kinds::IMPLEMENTS_INTERFACE,
+    kinds::DIRECTIVE,
+    kinds::FIELD_DEFINITION,
+    kinds::UNION_MEMBER,
+    kinds::ENUM_VALUE_DEFINITION,
+    kinds::INPUT_VALUE_DEFINITION,
+];
+
+// A type, defined or adopted, with the extensions that it takes in.
+#[derive(Clone, Copy)]
+struct Type<'a> {
+    collection: Collection<'a>,
     card: u32,
-    kind: u32,
-    rows: &mut [u32],
-    used: usize,
-) -> usize
-    requires { Hashed text.now words.now hashes.now
-        × Stored words.now mine.now
-        × (card < cards_used_of words.now)
-        × Fits rows.old (pushed (list_at text.now words.now mine.now card kind) (filled rows.old used)) }
-    ensures { filled rows.new result
-        ≡ pushed (list_at text.now words.now mine.now card kind)
-        (filled rows.old used) }
-{
-    if kinds::is_type_extension(store_reader::card_kind(words, card as usize)) {
-        return crate::extensions::type_extensions(
-            text, words, hashes, mine, kind, rows, used, used,
-        );
+    extensions: &'a [u32],
+    ghost card_stored: { card < cards_used_of collection.words.now },
+    ghost extensions_stored: { Stored collection.words.now extensions.now },
+}
+
+impl<'a> Type<'a> {
+    // An adopted type is the first of its extensions.
+    #[tactic(auto, unfolding(from_ast_index::specs::Index::is_type_extension_kind))]
+    fn is_adopted(&self) -> bool
+        ensures { result ≡ is_type_extension_kind (card_kind self.now.collection.words.now self.now.card) }
+    {
+        kinds::is_type_extension(self.collection.kind(self.card))
     }
-    let own = component::extend_ast(text, words, hashes, kind, card, ABSENT, rows, used, used);
-    crate::extensions::type_extensions(text, words, hashes, mine, kind, rows, used, own)
-}
 
-// Pushes the lists of a type, one a kind; those of kinds that the type lacks are empty.
-fn collect_lists(
-    text: &[u8],
-    words: &[u32],
-    hashes: &[u32],
-    mine: &[u32],
-    card: u32,
-    rows: &mut [u32],
-    used: usize,
-) -> usize
-    requires { Hashed text.now words.now hashes.now
-        × Stored words.now mine.now
-        × (card < cards_used_of words.now)
-        × Fits rows.old (pushed (lists_at text.now words.now mine.now card) (filled rows.old used)) }
-    ensures { filled rows.new result
-        ≡ pushed (lists_at text.now words.now mine.now card)
-        (filled rows.old used) }
-{
-    let interface = kinds::IMPLEMENTS_INTERFACE;
-    let directive = kinds::DIRECTIVE;
-    let field = kinds::FIELD_DEFINITION;
-    let member = kinds::UNION_MEMBER;
-    let value = kinds::ENUM_VALUE_DEFINITION;
-    let input = kinds::INPUT_VALUE_DEFINITION;
-    let mut next = used;
-    next = collect_sticky(text, words, hashes, mine, card, interface, rows, next);
-    next = collect_sticky(text, words, hashes, mine, card, directive, rows, next);
-    next = collect_sticky(text, words, hashes, mine, card, field, rows, next);
-    next = collect_sticky(text, words, hashes, mine, card, member, rows, next);
-    next = collect_sticky(text, words, hashes, mine, card, value, rows, next);
-    collect_sticky(text, words, hashes, mine, card, input, rows, next)
-}
-
-// Pushes the row of a type: of a definition its own card, of an adopted type its first extension as card and as origin.
-fn push_type_row(words: &[u32], card: u32, rows: &mut [u32], used: usize) -> usize
-    requires { 3 * (used + 1) ≤ length rows.old }
-    ensures { filled rows.new result
-        ≡ pushed (type_row_at words.now card ∷ []) (filled rows.old used) }
-{
-    let kind = store_reader::card_kind(words, card as usize);
-    let what = kinds::definition_of(kind);
-    if kinds::is_type_extension(kind) {
-        return component::push_row(what, card, card, rows, used);
+    // Pushes the type's row: of a definition its own card, of an adopted type its first extension as card and as origin.
+    fn push_row(&self, rows: &mut Rows)
+        requires { 3 * (rows.old.used + 1) ≤ length rows.old.words.now }
+        ensures { Becomes rows.old rows.new (pushed (type_row_at self.now.collection.words.now self.now.card ∷ [])) }
+    {
+        rows.push(Row {
+            what: kinds::definition_of(self.collection.kind(self.card)),
+            card: self.card,
+            origin: if self.is_adopted() { self.card } else { ABSENT },
+        });
     }
-    component::push_row(what, card, ABSENT, rows, used)
+
+    // Extends a list of the type by the extensions that it takes in.
+    fn extend_by_extensions(&self, start: usize, kind: u32, rows: &mut Rows)
+        requires begun { start ≤ rows.old.used }
+        requires room { HasRoom rows.old
+            (extend_by_extensions self.now.collection.text.now self.now.collection.words.now kind self.now.extensions.now start) }
+        ensures { Becomes rows.old rows.new
+            (extend_by_extensions self.now.collection.text.now self.now.collection.words.now kind
+            self.now.extensions.now start) }
+    {
+        for card in self.extensions {
+            rows.extend_ast(&self.collection, start, kind, *card, *card);
+        }
+    }
+
+    // Pushes one list of the type: of a definition its own parts and then those of its extensions, of an adopted type only these.
+    fn collect_sticky(&self, kind: u32, rows: &mut Rows)
+        requires { HasRoom rows.old
+            (pushed (list_at self.now.collection.text.now self.now.collection.words.now self.now.extensions.now self.now.card kind)) }
+        ensures { Becomes rows.old rows.new
+            (pushed
+            (list_at self.now.collection.text.now self.now.collection.words.now self.now.extensions.now self.now.card
+            kind)) }
+    {
+        let start = rows.used;
+        if self.is_adopted() {
+            self.extend_by_extensions(start, kind, rows);
+            return;
+        }
+        rows.extend_ast(&self.collection, start, kind, self.card, ABSENT);
+        self.extend_by_extensions(start, kind, rows);
+    }
+
+    // Pushes the lists of the type.
+    fn collect_lists(&self, rows: &mut Rows)
+        requires { HasRoom rows.old
+            (pushed (lists_at self.now.collection.text.now self.now.collection.words.now self.now.extensions.now self.now.card)) }
+        ensures { Becomes rows.old rows.new
+            (pushed
+            (lists_at self.now.collection.text.now self.now.collection.words.now self.now.extensions.now self.now.card)) }
+    {
+        for kind in LISTS {
+            self.collect_sticky(kind, rows);
+        }
+    }
 }
 
-// Pushes a type, defined or adopted: its row and its lists.
+// Pushes a type, defined or adopted, whose extensions are among these: its row and its lists.
 fn push_type(
-    text: &[u8],
-    words: &[u32],
-    hashes: &[u32],
+    collection: &Collection,
     extensions: &[u32],
     card: u32,
-    mine: &mut [u32],
-    rows: &mut [u32],
-    used: usize,
-) -> usize
-    requires { Hashed text.now words.now hashes.now
-        × Stored words.now extensions.now
-        × (card < cards_used_of words.now)
-        × (length extensions.now ≤ length mine.old)
-        × Fits rows.old (pushed (type_rows_at text.now words.now extensions.now card) (filled rows.old used)) }
-    ensures { filled rows.new result
-        ≡ pushed (type_rows_at text.now words.now extensions.now card)
-        (filled rows.old used) }
+    mine: &mut WordList,
+    rows: &mut Rows,
+)
+    requires stored { Stored collection.now.words.now extensions.now }
+    requires card_stored { card < cards_used_of collection.now.words.now }
+    requires few { length extensions.now ≤ length mine.old.words.now }
+    requires room { HasRoom rows.old
+        (pushed (type_rows_at collection.now.text.now collection.now.words.now extensions.now card)) }
+    ensures rows { Becomes rows.old rows.new
+        (pushed (type_rows_at collection.now.text.now collection.now.words.now extensions.now card)) }
+    ensures mine { length mine.new.words.now ≡ length mine.old.words.now }
 {
-    let count = crate::extensions::matching_extensions(text, words, hashes, extensions, card, mine);
-    let next = push_type_row(words, card, rows, used);
-    collect_lists(text, words, hashes, &mine[0..count], card, rows, next)
+    list_matching(collection, extensions, card, mine);
+    let taken = Type {
+        collection: *collection,
+        card,
+        extensions: mine.as_slice(),
+    };
+    taken.push_row(rows);
+    taken.collect_lists(rows);
 }
 
-// Pushes the types of an array of cards: the first orphans of each name. No array tells where their extensions stand, so each walks all.
-fn push_types(
-    text: &[u8],
-    words: &[u32],
-    hashes: &[u32],
-    types: &[u32],
-    extensions: &[u32],
-    mine: &mut [u32],
-    rows: &mut [u32],
-    used: usize,
-) -> usize
-    requires { Hashed text.now words.now hashes.now
-        × Stored words.now types.now
-        × Stored words.now extensions.now
-        × (length extensions.now ≤ length mine.old)
-        × Fits rows.old (pushed (types_rows_at text.now words.now types.now extensions.now) (filled rows.old used)) }
-    ensures { filled rows.new result
-        ≡ pushed (types_rows_at text.now words.now types.now extensions.now)
-        (filled rows.old used) }
+// Pushes the adopted types, the first orphans of each name. No array tells where their extensions stand, so each walks all.
+// Stays: beside push_defined_types it has one loop with one call; one function with a closure for the extensions would be longer than both.
+fn push_adopted_types(index: &Index, mine: &mut WordList, rows: &mut Rows)
+    requires few { length index.now.extensions.now ≤ length mine.old.words.now }
+    requires room { HasRoom rows.old
+        (pushed
+        (types_rows_at index.now.collection.text.now index.now.collection.words.now index.now.orphans.now
+        index.now.extensions.now)) }
+    ensures { Becomes rows.old rows.new
+        (pushed
+        (types_rows_at index.now.collection.text.now index.now.collection.words.now index.now.orphans.now
+        index.now.extensions.now)) }
 {
-    let mut next = used;
-    let mut i = 0;
-    while i < types.len() {
-        let card = types[i];
-        next = push_type(text, words, hashes, extensions, card, mine, rows, next);
-        i += 1;
+    for card in index.orphans {
+        push_type(&index.collection, index.extensions, *card, mine, rows);
     }
-    next
 }
 
 // Pushes the defined types, each with the part of all extensions in which its own stand: a walk over all of them for each type takes long.
-fn push_defined_types(
-    text: &[u8],
-    words: &[u32],
-    hashes: &[u32],
-    types: &[u32],
-    extensions: &[u32],
-    starts: &[u32],
-    ends: &[u32],
-    mine: &mut [u32],
-    rows: &mut [u32],
-    used: usize,
-) -> usize
-    requires { Hashed text.now words.now hashes.now
-        × Stored words.now types.now
-        × Stored words.now extensions.now
-        × (length extensions.now ≤ length mine.old)
-        × Parted text.now words.now types.now extensions.now starts.now ends.now
-        × Fits rows.old (pushed (types_rows_at text.now words.now types.now extensions.now) (filled rows.old used)) }
-    ensures { filled rows.new result
-        ≡ pushed (types_rows_at text.now words.now types.now extensions.now)
-        (filled rows.old used) }
+fn push_defined_types(index: &Index, mine: &mut WordList, rows: &mut Rows)
+    requires few { length index.now.extensions.now ≤ length mine.old.words.now }
+    requires room { HasRoom rows.old
+        (pushed
+        (types_rows_at index.now.collection.text.now index.now.collection.words.now index.now.types.now
+        index.now.extensions.now)) }
+    ensures rows { Becomes rows.old rows.new
+        (pushed
+        (types_rows_at index.now.collection.text.now index.now.collection.words.now index.now.types.now
+        index.now.extensions.now)) }
+    ensures mine { length mine.new.words.now ≡ length mine.old.words.now }
 {
-    let mut next = used;
-    let mut i = 0;
-    while i < types.len() {
-        let card = types[i];
-        let own = from_ast_index::own_extensions(extensions, starts, ends, card);
-        next = push_type(text, words, hashes, own, card, mine, rows, next);
-        i += 1;
+    for card in index.types {
+        push_type(
+            &index.collection,
+            index.own_extensions(*card),
+            *card,
+            mine,
+            rows,
+        );
     }
-    next
 }
 
 // Pushes the defined types and then, adopting, those that the first orphans of each name make.
-pub fn push_all_types(
-    text: &[u8],
-    words: &[u32],
-    hashes: &[u32],
-    types: &[u32],
-    orphans: &[u32],
-    extensions: &[u32],
-    starts: &[u32],
-    ends: &[u32],
-    adopt: bool,
-    mine: &mut [u32],
-    rows: &mut [u32],
-    used: usize,
-) -> usize
-    requires { Hashed text.now words.now hashes.now
-        × Stored words.now types.now
-        × Stored words.now orphans.now
-        × Stored words.now extensions.now
-        × (length extensions.now ≤ length mine.old)
-        × Parted text.now words.now types.now extensions.now starts.now ends.now
-        × Fits rows.old
-        (pushed (all_types_rows_at text.now words.now adopt types.now orphans.now extensions.now)
-        (filled rows.old used)) }
-    ensures { filled rows.new result
-        ≡ pushed
-        (all_types_rows_at text.now words.now adopt types.now orphans.now
-        extensions.now)
-        (filled rows.old used) }
+pub fn push_all_types(index: &Index, adopt: bool, mine: &mut WordList, rows: &mut Rows)
+    requires few { length index.now.extensions.now ≤ length mine.old.words.now }
+    requires room { HasRoom rows.old
+        (pushed
+        (all_types_rows_at index.now.collection.text.now index.now.collection.words.now adopt index.now.types.now
+        index.now.orphans.now index.now.extensions.now)) }
+    ensures { Becomes rows.old rows.new
+        (pushed
+        (all_types_rows_at index.now.collection.text.now index.now.collection.words.now adopt index.now.types.now
+        index.now.orphans.now index.now.extensions.now)) }
 {
-    let next = push_defined_types(
-        text, words, hashes, types, extensions, starts, ends, mine, rows, used,
-    );
+    push_defined_types(index, mine, rows);
     if !adopt {
-        return next;
+        return;
     }
-    push_types(text, words, hashes, orphans, extensions, mine, rows, next)
+    push_adopted_types(index, mine, rows);
 }

@@ -2,6 +2,9 @@
 use mathlib.Core.Path.{◌≡◌}
 use mathlib.Core.List.{List, []}
 use Prim.Native.Nat.{ℕ, ◌<◌, ◌≤◌}
+use native.Mathlib.Omega.{arith}
+use Rattle.definition.specs.declared.OperationType.{OperationType}
+use Rattle.definition.specs.Answers.{root_kind}
 use borrow.Author.Tests.{eq-eqb, ne_eqb, lt-ltb, le-ltb}
 use lib.ListN.{length}
 use Rattle.definition.specs.declared.OperationType.TheVariants.{Query, Mutation, Subscription}
@@ -25,6 +28,13 @@ module _ (text words rows : List ℕ) (kind : ℕ) where
   pub nothing_named : (kind ≡ 26 → ⊥) → (kind ≡ 27 → ⊥) → (kind ≡ 28 → ⊥) → [] ≡ root_named text words rows kind
   unfolding root_named
   nothing_named a b c = rw (ne_eqb kind 26 a, ne_eqb kind 27 b, ne_eqb kind 28 c)
+
+-- The root of an operation has the kind's name.
+pub operation_named : (text words rows : List ℕ) (kind : ℕ) (op : OperationType) → kind ≡ root_kind op →
+    (root_operation text words rows op).bytes ≡ root_named text words rows kind
+operation_named text words rows kind Query e = query_named text words rows kind e
+operation_named text words rows kind Mutation e = mutation_named text words rows kind (λ a. absurd (omega arith)) e
+operation_named text words rows kind Subscription e = subscription_named text words rows kind (λ a. absurd (omega arith)) (λ a. absurd (omega arith)) e
 
 pub not_copied : (lent name : List ℕ) → length lent < length name → lent ≡ copied_name lent name
 unfolding copied_name

@@ -2,7 +2,9 @@
 // nothing that it could write. Where the answer has a C form of its own, the promise is the entry's in crate api.
 #![tactic(auto)]
 
-ghost use Rattle.std.specs.Prelude.{◌≡◌, length};
+ghost use Rattle.std.specs.Prelude.{◌≡◌, length, MatchOption};
+ghost use Rattle.definition.specs.Answers.{root_kind};
+ghost use Rattle.definition.specs.Numbers.{field_lookup, subtype_lookup};
 ghost use Rattle.definition.specs.Outcomes.{type_field, is_subtype};
 ghost use Rattle.api.specs.Promised.{Opens, Files, Adopts, Ignores, Builds, ChecksRows, Parses, ListsOrigins, ListsExtensions, MapsImplementers};
 ghost use Rattle.gimletaspen.specs.Exported.{root_named, copied_name, FieldNumbers, SubtypeNumbers};
@@ -11,7 +13,8 @@ use api::answers::{
     field_card, field_meta, field_number, field_refusal, subtype_number, subtype_refusal,
 };
 use ast::kinds;
-use definition::{Answer, Drawing, OperationType};
+use definition::refusal::Refusal;
+use definition::{Answer, Drawing, FieldFound, FieldLookupError, OperationType};
 
 // The four numbers of `type_field`'s answer: the refusal or 0, what became of the field, which one was found, and the card.
 #[repr(C)]
@@ -31,6 +34,30 @@ pub struct SubtypeAnswer {
     pub yes: u32,
 }
 
+impl From<Result<FieldFound, FieldLookupError>> for FieldAnswer {
+    ghost from_gives = { λ found answer. FieldNumbers (field_lookup found) answer };
+
+    fn from(found: Result<FieldFound, FieldLookupError>) -> FieldAnswer {
+        FieldAnswer {
+            refusal: field_refusal(found),
+            number: field_number(found),
+            meta: field_meta(found),
+            card: field_card(found),
+        }
+    }
+}
+
+impl From<Result<bool, Refusal>> for SubtypeAnswer {
+    ghost from_gives = { λ told answer. SubtypeNumbers (subtype_lookup told) answer };
+
+    fn from(told: Result<bool, Refusal>) -> SubtypeAnswer {
+        SubtypeAnswer {
+            refusal: subtype_refusal(told),
+            yes: subtype_number(told),
+        }
+    }
+}
+
 #[unsafe(no_mangle)]
 pub extern "C" fn gimletaspen_open(
     text: &mut [u8],
@@ -41,7 +68,7 @@ pub extern "C" fn gimletaspen_open(
     ensures { Opens text.old words.old lent.now cards.now result
         text.new words.new }
 {
-    api::open(text, words, lent, cards)
+    api::open(text, words, lent, cards).into()
 }
 
 #[unsafe(no_mangle)]
@@ -54,21 +81,21 @@ pub extern "C" fn gimletaspen_add_ast(
     ensures { Files text.old words.old lent.now cards.now result
         text.new words.new }
 {
-    api::add_ast(text, words, lent, cards)
+    api::add_ast(text, words, lent, cards).into()
 }
 
 #[unsafe(no_mangle)]
 pub extern "C" fn gimletaspen_adopt_orphan_extensions(text: &[u8], words: &mut [u32]) -> Answer
     ensures { Adopts text.now words.old result text.now words.new }
 {
-    api::adopt_orphan_extensions(text, words)
+    api::adopt_orphan_extensions(text, words).into()
 }
 
 #[unsafe(no_mangle)]
 pub extern "C" fn gimletaspen_ignore_builtin_redefinitions(text: &[u8], words: &mut [u32]) -> Answer
     ensures { Ignores text.now words.old result text.now words.new }
 {
-    api::ignore_builtin_redefinitions(text, words)
+    api::ignore_builtin_redefinitions(text, words).into()
 }
 
 #[unsafe(no_mangle)]
@@ -81,14 +108,14 @@ pub extern "C" fn gimletaspen_build(
     ensures { Builds text.now words.now rows.old errors.old result
         rows.new errors.new }
 {
-    api::build(text, words, rows, errors)
+    api::build(text, words, rows, errors).into()
 }
 
 #[unsafe(no_mangle)]
 pub extern "C" fn gimletaspen_check_rows(text: &[u8], words: &[u32], rows: &[u32]) -> Answer
     ensures { ChecksRows text.now words.now rows.now result }
 {
-    api::check_rows(text, words, rows)
+    api::check_rows(text, words, rows).into()
 }
 
 // Copies a name to the front of the lent bytes where it fits, and hands back its length.
@@ -103,20 +130,30 @@ fn copy_name(found: &[u8], name: &mut [u8]) -> usize
     found.len()
 }
 
+// The root operation of a kind.
+fn operation_of(kind: u32) -> Option<OperationType>
+    ensures { MatchOption result
+        ((kind ≡ 26 → ⊥)
+        × (kind ≡ 27 → ⊥)
+        × (kind ≡ 28 → ⊥))
+        (λ op. kind ≡ root_kind op) }
+{
+    match kind {
+        kinds::QUERY => Some(OperationType::Query),
+        kinds::MUTATION => Some(OperationType::Mutation),
+        kinds::SUBSCRIPTION => Some(OperationType::Subscription),
+        _ => None,
+    }
+}
+
 // The name of a root: 26 query, 27 mutation, 28 subscription; of any other number there is none.
 fn root_of<'a>(text: &'a [u8], words: &[u32], rows: &[u32], kind: u32) -> &'a [u8]
     ensures { result.now ≡ root_named text.now words.now rows.now kind }
 {
-    if kind == kinds::QUERY {
-        return api::root_operation(text, words, rows, OperationType::Query);
-    }
-    if kind == kinds::MUTATION {
-        return api::root_operation(text, words, rows, OperationType::Mutation);
-    }
-    if kind == kinds::SUBSCRIPTION {
-        return api::root_operation(text, words, rows, OperationType::Subscription);
-    }
-    &text[0..0]
+    let Some(op) = operation_of(kind) else {
+        return &text[0..0];
+    };
+    api::root_operation(text, words, rows, op)
 }
 
 // Hands back the length of the root's name, and copies the name to the front of the lent bytes where it fits.
@@ -148,13 +185,7 @@ pub extern "C" fn gimletaspen_type_field(
         field.now)
         result }
 {
-    let answer = api::type_field(text, words, rows, type_name, field);
-    FieldAnswer {
-        refusal: field_refusal(answer),
-        number: field_number(answer),
-        meta: field_meta(answer),
-        card: field_card(answer),
-    }
+    api::type_field(text, words, rows, type_name, field).into()
 }
 
 #[unsafe(no_mangle)]
@@ -170,11 +201,7 @@ pub extern "C" fn gimletaspen_is_subtype(
         other.now)
         result }
 {
-    let answer = api::is_subtype(text, words, rows, general, other);
-    SubtypeAnswer {
-        refusal: subtype_refusal(answer),
-        yes: subtype_number(answer),
-    }
+    api::is_subtype(text, words, rows, general, other).into()
 }
 
 #[unsafe(no_mangle)]
@@ -187,7 +214,7 @@ pub extern "C" fn gimletaspen_iter_origins(
     ensures { ListsOrigins text.now words.now rows.now list.old result
         list.new }
 {
-    api::iter_origins(text, words, rows, list)
+    api::iter_origins(text, words, rows, list).into()
 }
 
 #[unsafe(no_mangle)]
@@ -200,7 +227,7 @@ pub extern "C" fn gimletaspen_extensions(
     ensures { ListsExtensions text.now words.now rows.now list.old result
         list.new }
 {
-    api::extensions(text, words, rows, list)
+    api::extensions(text, words, rows, list).into()
 }
 
 #[unsafe(no_mangle)]
@@ -213,12 +240,12 @@ pub extern "C" fn gimletaspen_implementers_map(
     ensures { MapsImplementers text.now words.now rows.now list.old result
         list.new }
 {
-    api::implementers_map(text, words, rows, list)
+    api::implementers_map(text, words, rows, list).into()
 }
 
 #[unsafe(no_mangle)]
 pub extern "C" fn gimletaspen_parse(text: &[u8], cards: &mut [u32]) -> Answer
     ensures { Parses text.now cards.old result cards.new }
 {
-    api::parse(text, cards)
+    api::parse(text, cards).into()
 }

@@ -1,41 +1,48 @@
 -- Laws of the switches.
-use mathlib.Core.Path.{◌≡◌, refl}
-use mathlib.Core.List.{List, [], ◌∷◌}
-use Prim.Native.Nat.{ℕ}
-use native.Mathlib.Omega.{arith}
-use lib.ListN.{length, get_or}
-use borrow.Author.Tests.{eq-eqb, ne_eqb}
-use Rattle.listing.specs.Digits.{adopt_of, switches_of}
-use Rattle.listing.specs.declared.switches.SwitchesFile.TheVariants.{Malformed}
+use Rattle.std.proofs.Common.{◌≡◌, refl, sym, ap, ◌∙◌, List, [], ◌∷◌, ℕ, ◌<◌, ◌≤◌, true, false, None, length, get_or, drop, arith}
+use Rattle.std.specs.Prelude.{◌==◌}
+use Rattle.std.specs.Cmp.Lexicographic.{pointwise}
+use Rattle.std.proofs.lemmas.Bool.Decides.{Decides-eqb}
+use Rattle.std.proofs.lemmas.Slice.Eq.{slice_eq-Decides}
+use borrow.Author.Tests.{eq-eqb, ne_eqb, eqb-true}
+use lib.Dec.{eqb}
+use Rattle.listing.specs.Digits.{both, digit_of, switches_of}
 
--- The switches by the length of their file.
-pub two_bytes : (s : List ℕ) → length s ≡ 2 → switches_of s ≡ adopt_of (get_or s 0 0) (get_or s 1 0)
+-- The switches of two digits and what stands behind them: nothing, a line feed, or something else.
+pub too_short : (s : List ℕ) → length s < 2 → None ≡ switches_of s
 unfolding switches_of
-two_bytes [] h = absurd (omega arith)
-two_bytes (a ∷ []) h = absurd (omega arith)
-two_bytes (a ∷ b ∷ []) h = refl
-two_bytes (a ∷ b ∷ c ∷ s) h = absurd (omega arith)
+too_short [] h = refl
+too_short (a ∷ []) h = refl
+too_short (a ∷ b ∷ s) h = absurd (omega arith)
 
-pub three_bytes : (s : List ℕ) → length s ≡ 3 → get_or s 2 0 ≡ 10 → switches_of s ≡ adopt_of (get_or s 0 0) (get_or s 1 0)
+pub two_digits : (s rest : List ℕ) → 2 ≤ length s → rest ≡ drop 2 s → true ≡ (length rest == 0)
+    → both (digit_of (get_or s 0 0)) (digit_of (get_or s 1 0)) ≡ switches_of s
 unfolding switches_of
-three_bytes [] h e = absurd (omega arith)
-three_bytes (a ∷ []) h e = absurd (omega arith)
-three_bytes (a ∷ b ∷ []) h e = absurd (omega arith)
-three_bytes (a ∷ b ∷ c ∷ []) h e = rw (eq-eqb c 10 e)
-three_bytes (a ∷ b ∷ c ∷ d ∷ s) h e = absurd (omega arith)
+two_digits [] rest h e k = absurd (omega arith)
+two_digits (a ∷ []) rest h e k = absurd (omega arith)
+two_digits (a ∷ b ∷ []) rest h e k = refl
+two_digits (a ∷ b ∷ c ∷ s) rest h e k =
+    let n = eqb-true (length rest) 0 (sym k) in let m = ap length e in absurd (omega arith)
 
-pub no_line_feed : (s : List ℕ) → length s ≡ 3 → (get_or s 2 0 ≡ 10 → ⊥) → switches_of s ≡ Malformed
+pub with_line_feed : (s rest p : List ℕ) → 2 ≤ length s → rest ≡ drop 2 s → p ≡ 10 ∷ [] → true ≡ pointwise eqb rest p
+    → both (digit_of (get_or s 0 0)) (digit_of (get_or s 1 0)) ≡ switches_of s
 unfolding switches_of
-no_line_feed [] h e = absurd (omega arith)
-no_line_feed (a ∷ []) h e = absurd (omega arith)
-no_line_feed (a ∷ b ∷ []) h e = absurd (omega arith)
-no_line_feed (a ∷ b ∷ c ∷ []) h e = rw (ne_eqb c 10 e)
-no_line_feed (a ∷ b ∷ c ∷ d ∷ s) h e = absurd (omega arith)
+with_line_feed [] rest p h e f k = absurd (omega arith)
+with_line_feed (a ∷ []) rest p h e f k = absurd (omega arith)
+with_line_feed (a ∷ b ∷ []) rest p h e f k = refl
+with_line_feed (a ∷ b ∷ c ∷ []) rest p h e f k =
+    let same : c ∷ [] ≡ 10 ∷ [] = sym e ∙ (slice_eq-Decides Decides-eqb rest p true k).0 refl ∙ f in
+    let d : c ≡ 10 = cc in rw (eq-eqb c 10 d)
+with_line_feed (a ∷ b ∷ c ∷ d ∷ s) rest p h e f k =
+    let same : c ∷ d ∷ s ≡ 10 ∷ [] = sym e ∙ (slice_eq-Decides Decides-eqb rest p true k).0 refl ∙ f in absurd cc
 
-pub other_length : (s : List ℕ) → (length s ≡ 2 → ⊥) → (length s ≡ 3 → ⊥) → switches_of s ≡ Malformed
+pub something_else : (s rest p : List ℕ) → 2 ≤ length s → rest ≡ drop 2 s → p ≡ 10 ∷ [] → false ≡ (length rest == 0) → false ≡ pointwise eqb rest p → None ≡ switches_of s
 unfolding switches_of
-other_length [] h k = refl
-other_length (a ∷ []) h k = refl
-other_length (a ∷ b ∷ []) h k = absurd (h refl)
-other_length (a ∷ b ∷ c ∷ []) h k = absurd (k refl)
-other_length (a ∷ b ∷ c ∷ d ∷ s) h k = refl
+something_else [] rest p h e f k l = absurd (omega arith)
+something_else (a ∷ []) rest p h e f k l = absurd (omega arith)
+something_else (a ∷ b ∷ []) rest p h e f k l =
+    let t : true ≡ (length rest == 0) = (rw e) in absurd cc
+something_else (a ∷ b ∷ c ∷ []) rest p h e f k l =
+    let ne : c ≡ 10 → ⊥ = (λ q. let t : false ≡ true = (slice_eq-Decides Decides-eqb rest p false l).1 (e ∙ ap (λ (x : ℕ). x ∷ []) q ∙ sym f) in absurd cc) in
+    rw (ne_eqb c 10 ne)
+something_else (a ∷ b ∷ c ∷ d ∷ s) rest p h e f k l = refl

@@ -1,29 +1,31 @@
 -- What the program makes of the file `switches`.
-use Rattle.std.specs.Prelude.{◌≡◌, refl, List, [], ◌∷◌, Bool, true, false, ℕ, eqb}
+use Rattle.std.specs.Prelude.{◌≡◌, refl, List, [], ◌∷◌, true, false, Bool, ℕ, eqb, Option, Some, None}
 use Rattle.definition.specs.Lists.{choose}
 use Rattle.definition.specs.Names.{bytes}
-use Rattle.listing.specs.declared.switches.SwitchesFile.{SwitchesFile}
-use Rattle.listing.specs.declared.switches.SwitchesFile.TheVariants.{Set, Malformed}
+use Rattle.listing.specs.declared.switches.Switches.{Switches}
 
--- Two digits, each 0 or 1, behind which a line feed may stand.
-abbrev pub ignore_of : Bool → ℕ → SwitchesFile
-ignore_of a d = choose (eqb d 48) (Set (record { adopt = a; ignore = false })) (choose (eqb d 49) (Set (record { adopt = a; ignore = true })) Malformed)
+-- A digit, 0 or 1.
+abbrev pub digit_of : ℕ → Option Bool
+digit_of d = choose (eqb d 48) (Some false) (choose (eqb d 49) (Some true) None)
 
-abbrev pub adopt_of : ℕ → ℕ → SwitchesFile
-adopt_of c d = choose (eqb c 48) (ignore_of false d) (choose (eqb c 49) (ignore_of true d) Malformed)
+abbrev pub both : Option Bool → Option Bool → Option Switches
+both None i = None
+both (Some a) None = None
+both (Some a) (Some i) = Some (record { adopt = a; ignore = i })
 
-unfoldable pub switches_of : List ℕ → SwitchesFile
-switches_of [] = Malformed
-switches_of (a ∷ []) = Malformed
-switches_of (a ∷ b ∷ []) = adopt_of a b
-switches_of (a ∷ b ∷ c ∷ []) = choose (eqb c 10) (adopt_of a b) Malformed
-switches_of (a ∷ b ∷ c ∷ d ∷ bs) = Malformed
+-- Two digits, behind which a line feed may stand.
+unfoldable pub switches_of : List ℕ → Option Switches
+switches_of [] = None
+switches_of (a ∷ []) = None
+switches_of (a ∷ b ∷ []) = both (digit_of a) (digit_of b)
+switches_of (a ∷ b ∷ c ∷ []) = choose (eqb c 10) (both (digit_of a) (digit_of b)) None
+switches_of (a ∷ b ∷ c ∷ d ∷ bs) = None
 
 -- Examples.
-adopting : switches_of (bytes "10\n") ≡ Set (record { adopt = true; ignore = false })
+adopting : switches_of (bytes "10\n") ≡ Some (record { adopt = true; ignore = false })
 unfolding switches_of bytes
 adopting = refl
 
-three_digits : switches_of (bytes "100") ≡ Malformed
+three_digits : switches_of (bytes "100") ≡ None
 unfolding switches_of bytes
 three_digits = refl

@@ -1,8 +1,9 @@
 // The file `switches`: two digits, whether to adopt orphan extensions and whether to ignore redefined built-in types.
 ghost use Rattle.std.specs.Prelude.{◌≡◌};
-ghost use Rattle.listing.specs.Digits.{switches_of, adopt_of, ignore_of};
+ghost use Rattle.listing.specs.Digits.{switches_of, both, digit_of};
 
-use program_io::input::files::{File, is_missing, read_file, tell};
+use crate::failure::Failure;
+use program_io::input::files::{Unread, read_file};
 use std::rt::Files;
 
 #[derive(Clone, Copy)]
@@ -11,75 +12,47 @@ pub struct Switches {
     pub ignore: bool,
 }
 
-#[derive(Clone, Copy)]
-pub enum SwitchesFile {
-    Set(Switches),
-    Malformed,
-}
-
-// The switches of the folder; without the file both are off. Of a file that is malformed or can't be read it was told.
-pub fn read_switches(rt: &(impl Files + Eprint)) -> SwitchesFile {
-    let path = b"switches";
-    if is_missing(rt, path) {
-        return SwitchesFile::Set(Switches {
+// The switches of the folder; without the file both are off.
+pub fn read_switches(rt: &(impl Files + AllocGlobal)) -> Result<Switches, Failure> {
+    match read_file(rt, String::from_str(rt.alloc(), "switches")?, 3) {
+        Ok(bytes) => switches_of(bytes.as_slice()).ok_or(Failure::Switches),
+        Err(unread) if unread.is_missing() => Ok(Switches {
             adopt: false,
             ignore: false,
-        });
+        }),
+        Err(Unread::Larger { .. }) => Err(Failure::Switches),
+        Err(unread) => Err(Failure::Unread(unread)),
     }
-    let wrong = b" is not two digits, each 0 or 1";
-    let mut buffer = [0u8; 4];
-    let File::Whole(n) = read_file(rt, path, wrong, &mut buffer) else {
-        return SwitchesFile::Malformed;
-    };
-    let switches = switches_of(&buffer[..n]);
-    if let SwitchesFile::Malformed = switches {
-        tell(rt, path, wrong);
-    }
-    switches
 }
 
 // Two digits, behind which a line feed may stand.
-fn switches_of(bytes: &[u8]) -> SwitchesFile
+fn switches_of(bytes: &[u8]) -> Option<Switches>
     ensures { result ≡ switches_of bytes.now }
 {
-    if bytes.len() == 2 {
-        return adopt_of(bytes[0], bytes[1]);
+    let [adopt, ignore, rest @ ..] = bytes else {
+        return None;
+    };
+    if rest.is_empty() || rest == b"\n".as_slice() {
+        return both(*adopt, *ignore);
     }
-    if bytes.len() != 3 {
-        return SwitchesFile::Malformed;
-    }
-    if bytes[2] != b'\n' {
-        return SwitchesFile::Malformed;
-    }
-    adopt_of(bytes[0], bytes[1])
+    None
 }
 
-fn adopt_of(adopt: u8, ignore: u8) -> SwitchesFile
-    ensures { result ≡ adopt_of adopt ignore }
+fn both(adopt: u8, ignore: u8) -> Option<Switches>
+    ensures { result ≡ both (digit_of adopt) (digit_of ignore) }
 {
-    if adopt == b'0' {
-        return ignore_of(false, ignore);
-    }
-    if adopt == b'1' {
-        return ignore_of(true, ignore);
-    }
-    SwitchesFile::Malformed
+    Some(Switches {
+        adopt: digit_of(adopt)?,
+        ignore: digit_of(ignore)?,
+    })
 }
 
-fn ignore_of(adopt: bool, ignore: u8) -> SwitchesFile
-    ensures { result ≡ ignore_of adopt ignore }
+fn digit_of(digit: u8) -> Option<bool>
+    ensures { result ≡ digit_of digit }
 {
-    if ignore == b'0' {
-        return SwitchesFile::Set(Switches {
-            adopt,
-            ignore: false,
-        });
+    match digit {
+        b'0' => Some(false),
+        b'1' => Some(true),
+        _ => None,
     }
-    if ignore == b'1' {
-        return SwitchesFile::Set(Switches {
-            adopt,
-            ignore: true,
-        });
-    }
-    SwitchesFile::Malformed
 }

@@ -95,7 +95,7 @@ module _ (named : ℕ → List ℕ) where
   below_rep i j e = go (ltb j (representative named i)) refl
     where
       go : (b : Bool) → ltb j (representative named i) ≡ b → representative named i ≤ j
-      go true f = let q : true ≡ false = sym (named_one i j e) ∙ rep_least i j (ltb-true j (representative named i) f) in absurd (let z : ◌≡◌ {A = ℕ} 0 1 = cc in omega arith)
+      go true f = let q : true ≡ false = sym (named_one i j e) ∙ rep_least i j (ltb-true j (representative named i) f) in absurd cc
       go false f = omega (arith, ltb-false j (representative named i) f)
 
   -- It is the only such card: this is what code shows.
@@ -105,7 +105,7 @@ module _ (named : ℕ → List ℕ) where
       go : (b : Bool) → ltb (representative named i) r ≡ b → r ≡ representative named i
       go true f =
           let q : true ≡ false = sym (rep_one i) ∙ h (representative named i) (ltb-true (representative named i) r f) in
-          absurd (let z : ◌≡◌ {A = ℕ} 0 1 = cc in omega arith)
+          absurd cc
       go false f = omega (arith, ltb-false (representative named i) r f, below_rep i r e)
 
   -- Cards have one name where they have one representative.
@@ -125,7 +125,7 @@ module _ (named : ℕ → List ℕ) where
       go true e = e ∙ sym (eq-eqb (representative named i) (representative named j) (numbers_one i j (one_named i j e)))
       go false e =
           e ∙ sym (ne_eqb (representative named i) (representative named j)
-          (λ q. let f : true ≡ false = sym (named_one i j (names_one i j q)) ∙ e in (let z : ◌≡◌ {A = ℕ} 0 1 = cc in omega arith)))
+          (λ q. let f : true ≡ false = sym (named_one i j (names_one i j q)) ∙ e in (cc)))
 
   -- The representative of a representative is itself.
   pub rep_rep : (i : ℕ) → representative named (representative named i) ≡ representative named i

@@ -2,23 +2,26 @@
 use mathlib.Core.Path.{◌≡◌, refl, sym, ◌∙◌, ap}
 use mathlib.Core.List.{List}
 use mathlib.Core.Bool.{Bool, true, false}
-use Prim.Native.Nat.{ℕ, ◌+◌, ◌-◌, ◌/◌, ◌≤◌, ◌<◌}
+use Prim.Native.Nat.{ℕ, ◌+◌, ◌-◌, ◌≤◌, ◌<◌}
 use native.Mathlib.Omega.{arith}
 use lib.Dec.{ltb}
 use lib.ListN.{length, get_or}
 use borrow.Author.Tests.{ltb-true, ltb-false}
-use Rattle.definition.specs.declared.NameOrder.{NameOrder}
-use Rattle.definition.specs.declared.NameOrder.TheVariants.{Before, Equal, After}
+use Rattle.std.specs.Option.{SomeIff}
+use Rattle.std.proofs.Common.{Option, Ordering, Less, Equal, Greater, nat_cmp, Some, None}
 use Rattle.definition.specs.Names.{compare_names, same_name}
-use Rattle.definition.specs.Cards.{card_words}
 use Rattle.definition.proofs.Lists.{same_name_eq, same_name_refl}
 use Rattle.definition.proofs.NamesInOrder.{names_ordered}
-use Rattle.numbering.specs.declared.lookup.FoundName.TheVariants.{Card, Nothing}
 use Rattle.numbering.specs.Hashes.{hash_of, HashesAre}
-use Rattle.numbering.specs.Numbers.{name_in, representative}
+use Rattle.numbering.specs.Numbers.{representative}
 use Rattle.numbering.specs.Table.{most_probes, home_of, Probed, Held}
 use Rattle.numbering.specs.Order.{InOrder, by_hash, by_name, by_card, Placed, CardsSorted}
-use Rattle.numbering.specs.Lookup.{FoundAs, Earlier, by_hash as earlier_hash, by_name as earlier_name, Begins}
+use Rattle.numbering.specs.Lookup.{FoundAs, is_earlier, Earlier, by_hash as earlier_hash, by_name as earlier_name, Begins}
+use borrow.Author.Tests.{lt-ltb}
+use Rattle.std.proofs.lemmas.List.{get_or_default}
+use Rattle.std.proofs.lemmas.Cmp.{ranked, tied_itself, nat_cmp_total}
+use Rattle.std.specs.Ordering.{ordering_then, is_lt}
+use Rattle.std.specs.List.Sorted.{IsPartitionedBy, IsPartitionPoint}
 use Rattle.numbering.proofs.Laws.{rep_most, rep_named}
 use Rattle.numbering.proofs.TableLaws.{found_own, vacant, far, none_named, false_true, true_false}
 
@@ -26,131 +29,139 @@ use Rattle.numbering.proofs.TableLaws.{found_own, vacant, far, none_named, false
 
 module _ (named : ℕ → List ℕ) (slots n : ℕ) (table name : List ℕ) (h : Held named slots n table) (start d : ℕ) (at : start ≡ home_of slots name)
     (p : Probed named table name start d) where
-  pub found_far : d ≡ most_probes → FoundAs named n name Nothing
+  pub found_far : d ≡ most_probes → FoundAs named n name None
   found_far q = none_named named slots n name (far named slots table n h name start d at p q)
 
-  pub found_vacant : get_or table (start + d) 0 ≡ 0 → FoundAs named n name Nothing
+  pub found_vacant : get_or table (start + d) 0 ≡ 0 → FoundAs named n name None
   found_vacant z = none_named named slots n name (vacant named slots table n h name start d at p z)
 
-  pub found_card : (d ≡ most_probes → ⊥) → (get_or table (start + d) 0 ≡ 0 → ⊥) → FoundAs named n name (Card (get_or table (start + d) 0 - 1))
+  pub found_card : (d ≡ most_probes → ⊥) → (get_or table (start + d) 0 ≡ 0 → ⊥) → FoundAs named n name (Some (get_or table (start + d) 0 - 1))
   found_card near ne =
       let e : get_or table (start + d) 0 ≡ (get_or table (start + d) 0 - 1) + 1 = omega (arith, ne) in
       let o = found_own named slots table n h name start d at p (omega (arith, near, p.most)) (get_or table (start + d) 0 - 1) e in
       (o.0, sym o.2, o.1)
 
--- ---- A test's two sides.
+  -- What is one less than the word where the search got.
+  pub found_word : d < most_probes → (r : Option ℕ) → SomeIff r (1 ≤ get_or table (start + d) 0) (get_or table (start + d) 0 - 1) → FoundAs named n name r
+  found_word near (Some x) s = rw s.1 (found_card (λ q. omega arith) (λ z. omega (arith, s.0)))
+  found_word near None s = found_vacant (omega (arith, s))
 
-pub holds : {E : Type 0} → E → (true ≡ true → E) × (true ≡ false → E → ⊥)
-holds x = ((λ e. x), true_false)
+-- ---- A card before those of a name.
 
-pub fails : {E : Type 0} → (E → ⊥) → (false ≡ true → E) × (false ≡ false → E → ⊥)
-fails x = (false_true, λ e. x)
+module _ (named : ℕ → List ℕ) (hashes name : List ℕ) (hash card : ℕ) where
+  pub told_earlier : is_earlier named hashes name hash card ≡ true → Earlier named hashes name hash card
+  told_earlier e = go (nat_cmp (get_or hashes card 0) hash) refl (compare_names (named card) name) refl e
+    where
+      go : (o : Ordering) → o ≡ nat_cmp (get_or hashes card 0) hash → (p : Ordering) → p ≡ compare_names (named card) name →
+          is_lt (ordering_then o p) ≡ true → Earlier named hashes name hash card
+      go Less a p b f = earlier_hash (ranked (get_or hashes card 0) hash Less a)
+      go Greater a p b f = false_true f
+      go Equal a Less b f = earlier_name (ranked (get_or hashes card 0) hash Equal a) (sym b)
+      go Equal a Equal b f = false_true f
+      go Equal a Greater b f = false_true f
 
-equal_before : Equal ≡ Before → ⊥
-equal_before e = let z : ◌≡◌ {A = ℕ} 0 1 = cc in omega arith
+  pub told_not : is_earlier named hashes name hash card ≡ false → Earlier named hashes name hash card → ⊥
+  told_not e (earlier_hash k) = let t : is_earlier named hashes name hash card ≡ true = rw (lt-ltb (get_or hashes card 0) hash k) refl in true_false (sym t ∙ e)
+  told_not e (earlier_name q c) =
+      let o : nat_cmp (get_or hashes card 0) hash ≡ Equal = rw q (tied_itself nat_cmp_total hash) in
+      let t : is_earlier named hashes name hash card ≡ true = rw (o, c) refl in
+      true_false (sym t ∙ e)
 
-after_before : After ≡ Before → ⊥
-after_before e = let z : ◌≡◌ {A = ℕ} 0 1 = cc in omega arith
-
-module _ (text cards hashes name : List ℕ) (hash card own : ℕ) (o : own ≡ get_or hashes card 0) where
-  pub less_earlier : own < hash → Earlier text cards hashes name hash card
-  less_earlier l = earlier_hash (omega (arith, o))
-
-  pub more_not : hash < own → Earlier text cards hashes name hash card → ⊥
-  more_not l (earlier_hash k) = omega (arith, o)
-  more_not l (earlier_name e c) = omega (arith, o)
-
-  module _ (least : hash ≤ own) (most : own ≤ hash) where
-    same_hash : get_or hashes card 0 ≡ hash
-    same_hash = omega (arith, o, least, most)
-
-    -- By what the comparison of the card's name with the name gave.
-    module _ (bytes : List ℕ) (q : bytes ≡ name_in text cards card) (told : NameOrder) (g : told ≡ compare_names bytes name) where
-      compared : (v : NameOrder) → told ≡ v → compare_names (name_in text cards card) name ≡ v
-      compared v f = ap (λ (b : List ℕ). compare_names b name) (sym q) ∙ sym g ∙ f
-
-      pub before_earlier : told ≡ Before → Earlier text cards hashes name hash card
-      before_earlier f = earlier_name same_hash (compared Before f)
-
-      pub equal_not : told ≡ Equal → Earlier text cards hashes name hash card → ⊥
-      equal_not f (earlier_hash k) = omega (arith, same_hash)
-      equal_not f (earlier_name e c) = equal_before (sym (compared Equal f) ∙ c)
-
-      pub after_not : told ≡ After → Earlier text cards hashes name hash card → ⊥
-      after_not f (earlier_hash k) = omega (arith, same_hash)
-      after_not f (earlier_name e c) = after_before (sym (compared After f) ∙ c)
+  pub earlier_told : Earlier named hashes name hash card → is_earlier named hashes name hash card ≡ true
+  earlier_told h = go (is_earlier named hashes name hash card) refl
+    where
+      go : (b : Bool) → is_earlier named hashes name hash card ≡ b → is_earlier named hashes name hash card ≡ true
+      go true e = e
+      go false e = absurd (told_not e h)
 
 -- ---- In the order.
 
-module _ (text cards hashes name : List ℕ) (hash : ℕ) where
+module _ (named : ℕ → List ℕ) (hashes name : List ℕ) (hash : ℕ) where
   -- A card of the name does not stand before an earlier one.
-  none_earlier : (i j : ℕ) → name_in text cards i ≡ name → get_or hashes i 0 ≡ hash → InOrder text cards hashes i j → Earlier text cards hashes name hash j → ⊥
+  none_earlier : (i j : ℕ) → named i ≡ name → get_or hashes i 0 ≡ hash → InOrder named hashes i j → Earlier named hashes name hash j → ⊥
   none_earlier i j q h (by_hash l) (earlier_hash k) = omega arith
   none_earlier i j q h (by_hash l) (earlier_name e c) = omega arith
   none_earlier i j q h (by_name f b) (earlier_hash k) = omega arith
   none_earlier i j q h (by_name f b) (earlier_name e c) =
-      (names_ordered.no_two (name_in text cards i) (name_in text cards j) b).1 (ap (compare_names (name_in text cards j)) q ∙ c)
+      (names_ordered.no_two (named i) (named j) b).1 (ap (compare_names (named j)) q ∙ c)
   none_earlier i j q h (by_card f b l) (earlier_hash k) = omega arith
-  none_earlier i j q h (by_card f b l) (earlier_name e c) = (names_ordered.no_two (name_in text cards j) name c).0 (sym b ∙ q)
+  none_earlier i j q h (by_card f b l) (earlier_name e c) = (names_ordered.no_two (named j) name c).0 (sym b ∙ q)
 
   -- One that is not earlier, and stands before a card of the name, has it too.
-  named_too : (i j : ℕ) → name_in text cards j ≡ name → get_or hashes j 0 ≡ hash → InOrder text cards hashes i j → (Earlier text cards hashes name hash i → ⊥) →
-      (name_in text cards i ≡ name) × (i ≤ j)
+  named_too : (i j : ℕ) → named j ≡ name → get_or hashes j 0 ≡ hash → InOrder named hashes i j → (Earlier named hashes name hash i → ⊥) →
+      (named i ≡ name) × (i ≤ j)
   named_too i j q h (by_hash l) unearly = absurd (unearly (earlier_hash (omega arith)))
-  named_too i j q h (by_name f b) unearly = absurd (unearly (earlier_name (f ∙ h) (ap (compare_names (name_in text cards i)) (sym q) ∙ b)))
+  named_too i j q h (by_name f b) unearly = absurd (unearly (earlier_name (f ∙ h) (ap (compare_names (named i)) (sym q) ∙ b)))
   named_too i j q h (by_card f b l) unearly = (b ∙ q, l)
 
-  module _ (n : ℕ) (order : List ℕ) (place : ℕ) (e : n ≡ length cards / card_words) (p : HashesAre (name_in text cards) n hashes) (made : hash ≡ hash_of name)
-      (s : CardsSorted text cards hashes n order) (b : Begins text cards hashes order name hash place) where
-    hash_here : (i : ℕ) → i < n → name_in text cards i ≡ name → get_or hashes i 0 ≡ hash
+  module _ (n : ℕ) (order : List ℕ) (place : ℕ) (p : HashesAre named n hashes) (made : hash ≡ hash_of name)
+      (s : CardsSorted named hashes n order) (b : Begins named n hashes order name hash place) where
+    hash_here : (i : ℕ) → i < n → named i ≡ name → get_or hashes i 0 ≡ hash
     hash_here i l q = p.hashes_are i l ∙ ap hash_of q ∙ sym made
 
     -- The cards of the name begin there.
-    reached : (i : ℕ) → i < n → name_in text cards i ≡ name → (place < n) × (name_in text cards (get_or order place 0) ≡ name) × (get_or order place 0 ≤ i)
+    reached : (i : ℕ) → i < n → named i ≡ name → (place < n) × (named (get_or order place 0) ≡ name) × (get_or order place 0 ≤ i)
     reached i l q = go (s.all_cards i l) (ltb (s.all_cards i l).place place) refl
       where
         go : (w : Placed i 0 n order) → (t : Bool) → ltb w.place place ≡ t →
-            (place < n) × (name_in text cards (get_or order place 0) ≡ name) × (get_or order place 0 ≤ i)
+            (place < n) × (named (get_or order place 0) ≡ name) × (get_or order place 0 ≤ i)
         go w true f =
             let k = ltb-true w.place place f in
             absurd (none_earlier i (get_or order (place - 1) 0) q (hash_here i l q)
-            (rw w.placed at (s.cards_ordered.in_order w.place (place - 1) (omega arith) (omega arith) (omega (arith, b.place_most, e))))
+            (rw w.placed at (s.cards_ordered.in_order w.place (place - 1) (omega arith) (omega arith) (omega (arith, b.place_most))))
             (b.before_earlier (omega arith)))
         go w false f =
             let k = ltb-false w.place place f in
             let here : place < n = omega (arith, w.below_end) in
             let o = named_too (get_or order place 0) i q (hash_here i l q)
             (rw w.placed at (s.cards_ordered.in_order place w.place (omega arith) (omega arith) w.below_end))
-            (b.here_not (omega (arith, e))) in
+            (b.here_not (omega arith)) in
             (here, o.0, o.1)
 
-    pub ordered_card : place < n → same_name name (name_in text cards (get_or order place 0)) ≡ true →
-        FoundAs (name_in text cards) n name (Card (get_or order place 0))
+    pub ordered_card : place < n → same_name name (named (get_or order place 0)) ≡ true →
+        FoundAs named n name (Some (get_or order place 0))
     ordered_card l t =
-        let q : name_in text cards (get_or order place 0) ≡ name = sym (same_name_eq name (name_in text cards (get_or order place 0)) t) in
+        let q : named (get_or order place 0) ≡ name = sym (same_name_eq name (named (get_or order place 0)) t) in
         let k = s.each_card place l in
-        let m = rep_most (name_in text cards) (get_or order place 0) in
-        let o = reached (representative (name_in text cards) (get_or order place 0)) (omega (arith, k, m))
-        (sym (rep_named (name_in text cards) (get_or order place 0)) ∙ q) in
+        let m = rep_most named (get_or order place 0) in
+        let o = reached (representative named (get_or order place 0)) (omega (arith, k, m))
+        (sym (rep_named named (get_or order place 0)) ∙ q) in
         (k, q, omega (arith, m, o.2))
 
-    pub ordered_none : (place < n → same_name name (name_in text cards (get_or order place 0)) ≡ false) → FoundAs (name_in text cards) n name Nothing
-    ordered_none other i l = go (same_name name (name_in text cards i)) refl
+    pub ordered_none : (place < n → same_name name (named (get_or order place 0)) ≡ false) → FoundAs named n name None
+    ordered_none other i l = go (same_name name (named i)) refl
       where
-        go : (t : Bool) → same_name name (name_in text cards i) ≡ t → same_name name (name_in text cards i) ≡ false
+        go : (t : Bool) → same_name name (named i) ≡ t → same_name name (named i) ≡ false
         go true f =
-            let o = reached i l (sym (same_name_eq name (name_in text cards i) f)) in
+            let o = reached i l (sym (same_name_eq name (named i) f)) in
             true_false (sym (same_name_refl name) ∙ ap (same_name name) (sym o.1) ∙ other o.0)
         go false f = f
 
 -- ---- The search in the order.
 
-module _ (text cards hashes order name : List ℕ) (hash : ℕ) where
-  pub begins_here : (low high : ℕ) → high ≤ length cards / card_words → (0 < low → Earlier text cards hashes name hash (get_or order (low - 1) 0)) →
-      (high < length cards / card_words → Earlier text cards hashes name hash (get_or order high 0) → ⊥) → low ≡ high →
-      Begins text cards hashes order name hash low
-  begins_here low high m b a e = record { place_most = omega (arith, e); before_earlier = b; here_not = rw (sym e) at a }
+earlier_before : {named : ℕ → List ℕ} {hashes name : List ℕ} {hash i j : ℕ} → InOrder named hashes i j → Earlier named hashes name hash j → Earlier named hashes name hash i
+earlier_before (by_hash l) (earlier_hash k) = earlier_hash (omega arith)
+earlier_before (by_hash l) (earlier_name q c) = earlier_hash (omega arith)
+earlier_before (by_name f b) (earlier_hash k) = earlier_hash (omega arith)
+earlier_before {named} {hashes} {name} {hash} {i} {j} (by_name f b) (earlier_name q c) =
+    earlier_name (f ∙ q) (names_ordered.transitive (named i) (named j) name b c)
+earlier_before (by_card f b l) (earlier_hash k) = earlier_hash (omega arith)
+earlier_before {name = name} (by_card f b l) (earlier_name q c) = earlier_name (f ∙ q) (ap (λ (n : List ℕ). compare_names n name) b ∙ c)
 
-  pub low_moved : (middle : ℕ) → Earlier text cards hashes name hash (get_or order middle 0) → 0 < middle + 1 →
-      Earlier text cards hashes name hash (get_or order (middle + 1 - 1) 0)
-  low_moved middle e l = let q : middle + 1 - 1 ≡ middle = omega arith in rw q e
+module _ (named : ℕ → List ℕ) (n : ℕ) (hashes order name : List ℕ) (hash : ℕ) (long : length order ≡ n) (s : CardsSorted named hashes n order) where
+  -- Before an earlier card all are earlier.
+  pub order_parted : IsPartitionedBy (is_earlier named hashes name hash) order
+  order_parted i j d h l e =
+      let m : i < length order = omega arith in
+      let f = rw (get_or_default order j d 0 l) at e in
+      rw (get_or_default order i d 0 m) (earlier_told named hashes name hash _
+      (earlier_before (s.cards_ordered.in_order i j (omega arith) h (omega arith)) (told_earlier named hashes name hash _ f)))
+
+  pub begins_at : (place : ℕ) → place ≤ length order
+      → IsPartitionPoint (λ c. is_earlier named hashes name hash c ≡ true) (λ c. is_earlier named hashes name hash c ≡ false) order place
+      → Begins named n hashes order name hash place
+  begins_at place m p = record {
+    place_most = omega arith;
+    before_earlier = λ l. told_earlier named hashes name hash _ (p.0 (place - 1) 0 (omega arith) (omega arith));
+    here_not = λ l. told_not named hashes name hash _ (p.1 place 0 (omega arith) (omega arith));
+  }

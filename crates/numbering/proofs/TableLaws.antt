@@ -3,10 +3,10 @@ use mathlib.Core.Path.{◌≡◌, refl, sym, ◌∙◌, ap}
 use mathlib.Core.List.{List}
 use mathlib.Core.Bool.{Bool, true, false}
 use Prim.Native.Nat.{ℕ, ◌+◌, ◌-◌, ◌*◌, ◌/◌, ◌≤◌, ◌<◌}
-use native.Mathlib.Nat.{mul-le-mul, mul-lt-mul_of_pos_right, mul_comm, div-lt_iff_lt-mul}
+use native.Mathlib.Nat.{mul-lt-mul_of_pos_right, mul_comm, div-lt_iff_lt-mul}
 use native.Mathlib.Omega.{arith}
 use lib.Dec.{eqb, ltb}
-use lib.ListN.{length, drop, get_or, set, length-set, get_or-eq_default}
+use lib.ListN.{length, get_or, set, length-set}
 use lib.Seq.{get_or-set_same, get_or-set_other}
 use borrow.Author.Tests.{eqb-true, eqb-false, ltb-true, ltb-false}
 use Rattle.definition.specs.Names.{same_name}
@@ -14,15 +14,9 @@ use Rattle.definition.proofs.Lists.{same_name_eq, same_name_refl}
 use Rattle.numbering.specs.Hashes.{hash_of}
 use Rattle.numbering.specs.Numbers.{representative}
 use Rattle.numbering.specs.Table.{most_probes, home, home_of, Other, Probed, Placed, Held, Turned}
-use Rattle.numbering.proofs.Laws.{numbers_more, rest_more, rep_most, rep_named, rep_rep, numbers_one}
+use Rattle.numbering.proofs.Laws.{rep_most, rep_named, rep_rep, numbers_one}
 
 module _ (named : ℕ → List ℕ) (slots : ℕ) where
-  pub held_none : (table : List ℕ) → ((k : ℕ) → get_or table k 0 ≡ 0) → Held named slots 0 table
-  held_none table z = record {
-    entries = λ k j e. absurd (omega (arith, z k));
-    placed = λ j l. absurd (omega arith);
-  }
-
   module _ (table : List ℕ) (n : ℕ) (h : Held named slots n table) (name : List ℕ) (start d : ℕ) (at : start ≡ home_of slots name)
       (p : Probed named table name start d) where
     -- The word is of a card: that is the first of the name.
@@ -41,7 +35,7 @@ module _ (named : ℕ → List ℕ) (slots : ℕ) where
         let o = p.passed w.steps l in
         let x : o.other ≡ r = omega (arith, o.word_is, stands r e w) in
         let t : true ≡ false = sym (same_name_refl name) ∙ ap (same_name name) (e ∙ ap named (sym x)) ∙ o.other_named in
-        let z : ◌≡◌ {A = ℕ} 0 1 = cc in omega arith
+        cc
 
     -- The word is 0, or the search went as far as it may: no first card has the name.
     pub vacant : get_or table (start + d) 0 ≡ 0 → (r : ℕ) → r < n → representative named r ≡ r → name ≡ named r → ⊥
@@ -188,20 +182,7 @@ module _ (named : ℕ → List ℕ) (table name : List ℕ) (start d : ℕ) (pas
     here = λ k j e. let q : j ≡ get_or table (start + d) 0 - 1 = omega arith in ap (λ (m : ℕ). same_name name (named m)) q ∙ s;
   }
 
-  pub probed_end : d ≡ most_probes → Probed named table name start d
-  probed_end q = record { most = omega arith; passed = passed; here = λ k j e. absurd (omega arith) }
-
-pub other_here : (named : ℕ → List ℕ) (table name : List ℕ) (k : ℕ) → (get_or table k 0 ≡ 0 → ⊥) → same_name name (named (get_or table k 0 - 1)) ≡ false →
-    Other named table name k
-other_here named table name k ne s = record { other = get_or table k 0 - 1; word_is = omega (arith, ne); other_named = s }
-
 -- ---- Where a search begins.
-
-pub product_fits : (a s : ℕ) → a < 4294967296 → s ≤ 65536 → a * s < 18446744073709551616
-product_fits a s h k =
-    let l : a ≤ 4294967295 = omega arith in
-    let m : a * s ≤ 4294967295 * 65536 = mul-le-mul l k in
-    omega arith
 
 pub home_less : (a s : ℕ) → a < 4294967296 → 0 < s → a * s / 4294967296 < s
 home_less a s h k =
@@ -215,32 +196,13 @@ pub start_is : (slots hash start : ℕ) (name : List ℕ) → start ≡ home slo
 unfolding home_of
 start_is slots hash start name e q = e ∙ ap (home slots) q
 
--- ---- Zeros.
-
-pub zeros_more : (table : List ℕ) (i : ℕ) → ((k : ℕ) → k < i → get_or table k 0 ≡ 0) → i < length table → (k : ℕ) → k < i + 1 → get_or (set table i 0) k 0 ≡ 0
-zeros_more table i z room k h = go (eqb k i) refl
-  where
-    go : (b : Bool) → eqb k i ≡ b → get_or (set table i 0) k 0 ≡ 0
-    go true f = ap (λ (m : ℕ). get_or (set table i 0) m 0) (eqb-true k i f) ∙ get_or-set_same table i 0 0 room
-    go false f = let ne = eqb-false k i f in get_or-set_other table i k 0 0 ne ∙ z k (omega (arith, ne))
-
-pub zeros_all : (table : List ℕ) (i : ℕ) → ((k : ℕ) → k < i → get_or table k 0 ≡ 0) → length table ≤ i → (k : ℕ) → get_or table k 0 ≡ 0
-zeros_all table i z l k = go (ltb k i) refl
-  where
-    go : (b : Bool) → ltb k i ≡ b → get_or table k 0 ≡ 0
-    go true f = z k (ltb-true k i f)
-    go false f = let h = ltb-false k i f in get_or-eq_default table 0 {n = k} (omega arith)
-
 -- ---- One card.
 
 pub false_true : {A : Type 0} → false ≡ true → A
-false_true e = absurd (let z : ◌≡◌ {A = ℕ} 0 1 = cc in omega arith)
+false_true e = absurd cc
 
 pub true_false : {A : Type 0} → true ≡ false → A
-true_false e = absurd (let z : ◌≡◌ {A = ℕ} 0 1 = cc in omega arith)
-
-pub turned_far : (named : ℕ → List ℕ) (n : ℕ) (table numbers : List ℕ) → Turned named n false table numbers numbers
-turned_far named n table numbers = record { held = false_true; numbered = false_true; untouched = λ e. refl }
+true_false e = absurd cc
 
 module _ (named : ℕ → List ℕ) (table numbers : List ℕ) (n start d : ℕ) (h : Held named (length table - most_probes) n table)
     (at : start ≡ home_of (length table - most_probes) (named n)) (p : Probed named table (named n) start d) (far : d ≡ most_probes → ⊥) where
@@ -262,14 +224,3 @@ module _ (named : ℕ → List ℕ) (table numbers : List ℕ) (n start d : ℕ)
         numbered = λ t. ap (set numbers n) (found_first named (length table - most_probes) table n h start d at p few (get_or table (start + d) 0 - 1) e);
         untouched = true_false;
       }
-
-module _ (named : ℕ → List ℕ) (n : ℕ) (done : Bool) (table numbers₀ numbers : List ℕ) (t : Turned named n done table numbers₀ numbers) where
-  pub turn_numbers : done ≡ true → ((i : ℕ) → i < n → get_or numbers₀ i 0 ≡ representative named i) → n < length numbers₀ → (i : ℕ) → i < n + 1 →
-      get_or numbers i 0 ≡ representative named i
-  turn_numbers e all room i h = rw (t.numbered e) (numbers_more named numbers₀ n (representative named n) all room refl i h)
-
-  pub turn_rest : done ≡ true → (m : ℕ) → n < m → (start : List ℕ) → drop m numbers₀ ≡ drop m start → drop m numbers ≡ drop m start
-  turn_rest e m h start r = rw (t.numbered e) (rest_more m n (representative named n) start numbers₀ h r)
-
-  pub turn_stays : done ≡ false → (m : ℕ) (start : List ℕ) → drop m numbers₀ ≡ drop m start → drop m numbers ≡ drop m start
-  turn_stays e m start r = ap (drop m) (t.untouched e) ∙ r

@@ -22,9 +22,10 @@ use Rattle.parser_laws.proofs.Picking.{other}
 use Rattle.parser_laws.proofs.Theory.{has_left}
 use Rattle.parser_laws.proofs.Ahead.{open_part, skip_part, no_part}
 use Rattle.parser_lexer.specs.Ahead.{Ahead}
-use Rattle.parser_lexer.specs.declared.Cursor.{Cursor}
-use Rattle.parser_values.specs.declared.End.{End}
-use Rattle.parser_values.specs.declared.End.TheVariants.{Bad}
+use Rattle.parser_lexer.specs.declared.cursor.Cursor.{Cursor}
+use Rattle.std.specs.Prelude.{Err}
+use Rattle.parser_values.specs.declared.error.SyntaxError.TheVariants.{NotInGrammar}
+use Rattle.parser_values.specs.Reads.{End}
 use Rattle.parser_items.specs.Lists.{put_cards, Lists}
 use Rattle.parser.specs.Symbols.{last_of, body_of, more_of, rest_of}
 
@@ -278,7 +279,7 @@ module _ (text : List ℕ) {c : Cursor} (a : Ahead text c) (j : ℕ) (l : 5 ≤ 
     ready = f.ready;
   }
 
-  pub more_lacks : (before : List ℕ) → has (first_set_of (more_of j)) c.sort ≡ false → Lists (more_of j) text c (Bad c.begins) before before
+  pub more_lacks : (before : List ℕ) → has (first_set_of (more_of j)) c.sort ≡ false → Lists (more_of j) text c (Err (NotInGrammar c.begins)) before before
   unfolding put_cards
   more_lacks before w = record {
     cards = [];

@@ -21,12 +21,13 @@ use Rattle.parser_laws.proofs.Tests.{clash, within_bounds, subset, subset_has}
 use Rattle.parser_laws.proofs.Steps.{told, whole_verdict}
 use Rattle.parser_laws.proofs.Ahead.{open_part, skip_part, no_part, at_whole, not_whole}
 use Rattle.parser_lexer.specs.Ahead.{Ahead}
-use Rattle.parser_lexer.specs.declared.Cursor.{Cursor}
-use Rattle.parser_values.specs.declared.End.TheVariants.{At, Bad, Deep}
+use Rattle.parser_lexer.specs.declared.cursor.Cursor.{Cursor}
+use Rattle.std.specs.Prelude.{Ok, Err}
+use Rattle.parser_values.specs.declared.error.SyntaxError.{SyntaxError}
+use Rattle.parser_values.specs.Errors.{number, place}
 use Rattle.parser_items.specs.Lists.{put_cards}
 use Rattle.parser_items.proofs.Writing.{put_append}
 use Rattle.parser.specs.Headings.{Defines, Definitions, Told}
-use Rattle.parser.specs.declared.Read.TheVariants.{Accepted}
 
 -- What begins a definition is a token.
 a_token : (s : ℕ) → has (first Definition) s ≡ true → s ≤ 54
@@ -83,7 +84,7 @@ module _ (text : List ℕ) where
   }
 
   pub further : {c k : Cursor} {before middle after : List ℕ} (us : List Symbol) → Definitions text before (part Definition ∷ us) c middle →
-      Defines text c (At k) middle after → Definitions text before us k after
+      Defines text c (Ok k) middle after → Definitions text before us k after
   further {c} {k} {before} {middle} us i f = record {
     cards = i.cards ++ f.cards;
     head = length i.cards;
@@ -123,7 +124,7 @@ module _ (text : List ℕ) where
   accepted_is l (refused m q) e = absurd (let z : ◌≡◌ {A = ℕ} 0 1 = cc in omega arith)
 
   pub whole : {c : Cursor} {before after : List ℕ} → c.sort ≡ 55 → Definitions text before (part Definition* ∷ []) c after →
-      Told text (Accepted c.cards) before after
+      Told text (Ok c.cards) before after
   unfolding cards_read
   whole {c} {before} e i =
       let l : Listing = record { cards = i.cards; head = i.head; end = c.last } in
@@ -131,10 +132,6 @@ module _ (text : List ℕ) where
       let m : cards_read t.0 ≡ i.cards = ap (λ (x : Listing). x.cards) t.2 in
       (t.0, t.1, i.counted ∙ ap length (sym m), i.written ∙ ap (put_cards before card_capacity 0) (sym m))
 
-  pub refused_29 : {c : Cursor} {p : ℕ} {before middle after : List ℕ} (us : List Symbol) → Definitions text before (part Definition ∷ us) c middle →
-      Defines text c (Bad p) middle after → reading text ≡ refused 29 p
-  refused_29 {c} {p} us i f = refused_is 29 p (reading text) (reading_is ∙ i.goes ∙ f.goes us i.cards i.head)
-
-  pub refused_30 : {c : Cursor} {p : ℕ} {before middle after : List ℕ} (us : List Symbol) → Definitions text before (part Definition ∷ us) c middle →
-      Defines text c (Deep p) middle after → reading text ≡ refused 30 p
-  refused_30 {c} {p} us i f = refused_is 30 p (reading text) (reading_is ∙ i.goes ∙ f.goes us i.cards i.head)
+  pub refuses : {c : Cursor} {e : SyntaxError} {before middle after : List ℕ} (us : List Symbol) → Definitions text before (part Definition ∷ us) c middle →
+      Defines text c (Err e) middle after → Told text (Err e) before after
+  refuses {e = e} us i f = refused_is (number e) (place e) (reading text) (reading_is ∙ i.goes ∙ f.goes us i.cards i.head)

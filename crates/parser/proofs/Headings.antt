@@ -1,6 +1,6 @@
 -- How a definition comes to its card: it begins, tokens of it are read, a part is opened, its kind and its name are noted, it ends and its card is
 -- written; or it is refused.
-use mathlib.Core.Path.{◌≡◌, refl, sym, ap, ◌∙◌}
+use mathlib.Core.Path.{◌≡◌, refl, sym, ap, subst, ◌∙◌}
 use mathlib.Core.List.{List, [], ◌∷◌, ◌++◌, append_assoc}
 use mathlib.Core.Bool.{true, false}
 use Prim.Native.Nat.{ℕ, ◌+◌, ◌-◌, ◌≤◌}
@@ -13,7 +13,7 @@ use Rattle.definition.specs.GrammarSets.{nullable, first}
 use Rattle.definition.specs.Machine.{has, first_set_of, empties}
 use Rattle.definition.specs.Cards.{Card}
 use Rattle.definition.specs.ItemCards.{begun, of_kind, named_by, ended, noting, level_after}
-use Rattle.definition.specs.Refusals.{card_capacity, text_capacity}
+use Rattle.definition.specs.Refusals.{card_capacity}
 use Rattle.parser_laws.specs.Verdict.{next_of}
 use Rattle.parser_laws.specs.Standing.{from, standing}
 use Rattle.parser_laws.proofs.Tests.{within_is, within_bounds}
@@ -21,14 +21,15 @@ use Rattle.parser_laws.proofs.Picking.{above, other}
 use Rattle.parser_laws.proofs.Steps.{by_mark}
 use Rattle.parser_laws.proofs.Ahead.{take_token, no_token_lem, open_part, skip_part, no_part, begin_heading, name_item_lem, kind_heading, end_heading}
 use Rattle.parser_lexer.specs.Ahead.{Ahead}
-use Rattle.parser_lexer.specs.declared.Cursor.{Cursor}
-use Rattle.parser_values.specs.Reads.{goes_on, Stays}
-use Rattle.parser_values.specs.declared.End.{End}
-use Rattle.parser_values.specs.declared.End.TheVariants.{At, Bad, Deep}
-use Rattle.parser_values.proofs.Readers.{Refused}
+use Rattle.parser_lexer.specs.declared.cursor.Cursor.{Cursor}
+use Rattle.parser_values.specs.Reads.{goes_on, Stays, Moves}
+use Rattle.std.specs.Prelude.{Ok, Err}
+use Rattle.parser_values.specs.declared.error.SyntaxError.{SyntaxError}
+use Rattle.parser_values.specs.declared.error.SyntaxError.TheVariants.{NotInGrammar}
+use Rattle.parser_values.specs.Reads.{End}
 use Rattle.parser_items.specs.Lists.{card_of, put_card, put_cards, Lists}
 use Rattle.parser_items.proofs.Writing.{heading_last}
-use Rattle.parser.specs.Headings.{Heading, Defines, Behind, headed}
+use Rattle.parser.specs.Headings.{Heading, Defines}
 
 module _ (text : List ℕ) where
   -- The alternative that the token ahead begins.
@@ -43,7 +44,7 @@ module _ (text : List ℕ) where
   }
 
   -- None does.
-  pub refuses : (b : Cursor) → Ahead text b → has (first Definition) b.sort ≡ false → (before after : List ℕ) → Defines text b (Bad b.begins) before after
+  pub refuses : (b : Cursor) → Ahead text b → has (first Definition) b.sort ≡ false → (before after : List ℕ) → Defines text b (Err (NotInGrammar b.begins)) before after
   unfolding nullable
   refuses b a w before after = record {
     cards = [];
@@ -65,7 +66,7 @@ module _ (text : List ℕ) where
     }
 
     pub lacks_token : (lo hi : ℕ) → Heading text b (one lo hi ∷ us) c x → within lo hi c.sort ≡ false → (before after : List ℕ) →
-        Defines text b (Bad c.begins) before after
+        Defines text b (Err (NotInGrammar c.begins)) before after
     lacks_token lo hi i w before after = record {
       cards = [];
       written = tt;
@@ -96,7 +97,7 @@ module _ (text : List ℕ) where
     }
 
     pub lacks_part : (n : Part) → Heading text b (part n ∷ us) c x → nullable n ≡ false → has (first n) c.sort ≡ false → (before after : List ℕ) →
-        Defines text b (Bad c.begins) before after
+        Defines text b (Err (NotInGrammar c.begins)) before after
     lacks_part n i j w before after = record {
       cards = [];
       written = tt;
@@ -122,7 +123,7 @@ module _ (text : List ℕ) where
 
     -- What stands ahead is no name, and need be no token either.
     pub lacks_name : (lo hi : ℕ) → Heading text b (mark named ∷ one lo hi ∷ us) c x → within lo hi c.sort ≡ false → (before after : List ℕ) →
-        Defines text b (Bad c.begins) before after
+        Defines text b (Err (NotInGrammar c.begins)) before after
     unfolding standing noting level_after
     lacks_name lo hi i w before after = record {
       cards = [];
@@ -136,33 +137,36 @@ module _ (text : List ℕ) where
       ready = tt;
     }
 
-  -- What is left of it is read, and it ends: its card is written last, at the number before its parts' cards. Or it is refused.
-  pub ends : {b c : Cursor} {x : Card} {before middle after : List ℕ} (qs : List Symbol) (r : End) → Heading text b (qs ++ (mark heading_ends ∷ [])) c x →
-      c.cards ≡ b.cards + 1 → Lists qs text c r before middle → after ≡ headed r b x middle → Defines text b r before after
-  unfolding put_cards
-  ends {b} {c} {x} {before} {middle} {after} qs r i n f w = go r f w
-    where
-      so_far : (r : End) (f : Lists qs text c r before middle) (ss : List Symbol) (cs : List Card) (h : ℕ) →
-          standing text b.last (part Definition ∷ ss) 0 cs h ≡ goes_on text r (mark heading_ends ∷ ss) 0 (cs ++ (x ∷ f.cards)) (length cs)
-      so_far r f ss cs h =
-          i.goes ss cs h ∙
-          ap (λ (y : List Symbol). standing text c.last y 0 (cs ++ (x ∷ [])) (length cs)) (append_assoc qs (mark heading_ends ∷ []) ss) ∙
-          f.goes (mark heading_ends ∷ ss) (cs ++ (x ∷ [])) (length cs) ∙
-          ap (λ (y : List Card). goes_on text r (mark heading_ends ∷ ss) 0 y (length cs)) (append_assoc cs (x ∷ []) f.cards)
+  -- What is left of it is read.
+  so_far : {b c : Cursor} {x : Card} {before middle : List ℕ} (qs : List Symbol) (r : End) → Heading text b (qs ++ (mark heading_ends ∷ [])) c x →
+      (f : Lists qs text c r before middle) (ss : List Symbol) (cs : List Card) (h : ℕ) →
+      standing text b.last (part Definition ∷ ss) 0 cs h ≡ goes_on text r (mark heading_ends ∷ ss) 0 (cs ++ (x ∷ f.cards)) (length cs)
+  so_far {b} {c} {x} qs r i f ss cs h =
+      i.goes ss cs h ∙
+      ap (λ (y : List Symbol). standing text c.last y 0 (cs ++ (x ∷ [])) (length cs)) (append_assoc qs (mark heading_ends ∷ []) ss) ∙
+      f.goes (mark heading_ends ∷ ss) (cs ++ (x ∷ [])) (length cs) ∙
+      ap (λ (y : List Card). goes_on text r (mark heading_ends ∷ ss) 0 y (length cs)) (append_assoc cs (x ∷ []) f.cards)
 
-      go : (r : End) → Lists qs text c r before middle → after ≡ headed r b x middle → Defines text b r before after
-      go (At k) f w = record {
-        cards = ended k.last x ∷ f.cards;
-        written =
-            w ∙
-            ap (λ (ws : List ℕ). put_card ws card_capacity b.cards (ended k.last x)) (f.written ∙
-            ap (λ (m : ℕ). put_cards before card_capacity m f.cards) n) ∙
-            heading_last before card_capacity b.cards (b.cards + 1) (ended k.last x) f.cards (omega arith);
-        goes = λ ss cs h. so_far (At k) f ss cs h ∙ end_heading text k.last 0 ss cs h x f.cards;
-        ready = (f.ready.0, f.ready.1 ∙ omega (arith, n));
-      }
-      go (Bad p) f w = record { cards = []; written = tt; goes = λ ss cs h. so_far (Bad p) f ss cs h; ready = tt }
-      go (Deep p) f w = record { cards = []; written = tt; goes = λ ss cs h. so_far (Deep p) f ss cs h; ready = tt }
+  -- It ends: its card is written last, at the number before its parts' cards.
+  pub ends : {b c k : Cursor} {x : Card} {before middle after : List ℕ} (qs : List Symbol) → Heading text b (qs ++ (mark heading_ends ∷ [])) c x →
+      c.cards ≡ b.cards + 1 → Lists qs text c (Ok k) before middle → after ≡ put_card middle card_capacity b.cards (ended k.last x) →
+      Defines text b (Ok k) before after
+  unfolding put_cards
+  ends {b} {c} {k} {x} {before} {middle} {after} qs i n f w = record {
+    cards = ended k.last x ∷ f.cards;
+    written =
+        w ∙
+        ap (λ (ws : List ℕ). put_card ws card_capacity b.cards (ended k.last x)) (f.written ∙
+        ap (λ (m : ℕ). put_cards before card_capacity m f.cards) n) ∙
+        heading_last before card_capacity b.cards (b.cards + 1) (ended k.last x) f.cards (omega arith);
+    goes = λ ss cs h. so_far qs (Ok k) i f ss cs h ∙ end_heading text k.last 0 ss cs h x f.cards;
+    ready = (f.ready.0, f.ready.1 ∙ omega (arith, n));
+  }
+
+  -- Or it is refused.
+  pub fails : {b c : Cursor} {x : Card} {e : SyntaxError} {before middle after : List ℕ} (qs : List Symbol) →
+      Heading text b (qs ++ (mark heading_ends ∷ [])) c x → Lists qs text c (Err e) before middle → Defines text b (Err e) before after
+  fails {e = e} qs i f = record { cards = []; written = tt; goes = λ ss cs h. so_far qs (Err e) i f ss cs h; ready = tt }
 
   -- ---- As code goes.
 
@@ -213,18 +217,24 @@ module _ (text : List ℕ) where
 
   -- None of these.
   pub undefined : (b : Cursor) → Ahead text b → (b.sort ≡ 16 → ⊥) → within 20 28 b.sort ≡ false → (before after : List ℕ) →
-      Defines text b (Bad b.begins) before after
+      Defines text b (Err (NotInGrammar b.begins)) before after
   unfolding has first
   undefined b a n w before after = refuses b a (rw (other 16 b.sort n, w)) before after
 
--- ---- Places, and words.
+-- ---- What is promised of a cursor's own text.
 
-pub behind : (size at : ℕ) (c : Cursor) (e : End) → at ≤ c.last → size ≤ text_capacity → Stays size c e → Behind at e
-behind size at c (At k) l u m = (omega arith, omega arith)
-behind size at c (Bad p) l u m = tt
-behind size at c (Deep p) l u m = tt
+pub heading_in : {text : List ℕ} {b k : Cursor} {us : List Symbol} {x : Card} {r : End} {before after : List ℕ} → k.text.now ≡ text →
+    (Heading k.text.now b us k x → Defines k.text.now b r before after) × Stays k.text.now k r →
+    (Heading text b us k x → Defines text b r before after) × Stays text k r
+heading_in {text} {b} {k} {us} {x} {r} {before} {after} i f =
+    subst (λ (t : List ℕ). (Heading t b us k x → Defines t b r before after) × Stays t k r) i f
 
-pub unheaded : (e : End) → Refused e → (b : Cursor) (x : Card) (ws : List ℕ) → ws ≡ headed e b x ws
-unheaded (At k) u b x ws = absurd u
-unheaded (Bad p) u b x ws = refl
-unheaded (Deep p) u b x ws = refl
+pub definition_in : {text : List ℕ} {b k : Cursor} {us : List Symbol} {x : Card} {r : End} {before after : List ℕ} → k.text.now ≡ text →
+    (Heading k.text.now b us k x → Defines k.text.now b r before after) × Moves k.text.now k r →
+    (Heading text b us k x → Defines text b r before after) × Moves text k r
+definition_in {text} {b} {k} {us} {x} {r} {before} {after} i f =
+    subst (λ (t : List ℕ). (Heading t b us k x → Defines t b r before after) × Moves t k r) i f
+
+pub next_in : {text : List ℕ} {k : Cursor} {r : End} {before after : List ℕ} → k.text.now ≡ text →
+    (Ahead k.text.now k → Defines k.text.now k r before after) × Moves k.text.now k r → (Ahead text k → Defines text k r before after) × Moves text k r
+next_in {text} {k} {r} {before} {after} i f = subst (λ (t : List ℕ). (Ahead t k → Defines t k r before after) × Moves t k r) i f

@@ -3,11 +3,9 @@ use mathlib.Core.Path.{◌≡◌, sym, ap, ◌∙◌}
 use mathlib.Core.List.{List, ◌++◌}
 use Prim.Native.Nat.{ℕ, ◌+◌, ◌*◌, ◌≤◌, ◌<◌}
 use native.Mathlib.Omega.{arith}
-use native.Mathlib.Nat.{zero-add}
-use native.Mathlib.Numerals.{add-one}
 use borrow.Author.Tests.{lt-ltb, le-ltb}
-use lib.ListN.{length, take, drop, set, get_or}
-use lib.Seq.{paste, paste-suc, take_at}
+use lib.ListN.{length, take, drop}
+use lib.Seq.{take_at}
 use Rattle.definition.specs.Lists.{flat_map, written}
 use Rattle.definition.specs.Cards.{Card, words_of_card}
 use Rattle.definition.specs.Derivation.{Seen}
@@ -15,13 +13,18 @@ use Rattle.definition.specs.ItemCards.{cards_read}
 use Rattle.definition.specs.Reading.{accepted, refused, reading}
 use Rattle.definition.specs.Refusals.{text_capacity, card_capacity, read_cards_capacity}
 use Rattle.definition.specs.Answers.{answer}
+use Rattle.definition.specs.Numbers.{count_answer}
 use Rattle.definition.specs.Outcomes.{unlisted, listed_in, is_short, parsed, parse}
 use Rattle.definition.proofs.BuiltWords.{written_starts}
 use Rattle.parser_laws.proofs.Filed.{words_length}
 use Rattle.parser_items.specs.Lists.{put_cards}
 use Rattle.parser_items.proofs.Writing.{put_from_first}
 use Rattle.parser.specs.Headings.{Told}
-use Rattle.parser.specs.declared.Read.TheVariants.{Accepted}
+use Rattle.std.specs.Prelude.{Result, Ok, Err}
+use Rattle.parser_values.specs.declared.error.SyntaxError.{SyntaxError}
+use Rattle.parser_values.specs.declared.error.SyntaxError.TheVariants.{NotInGrammar, NestedTooDeep}
+use Rattle.parser_values.specs.Errors.{number, place, refused_by}
+use Rattle.definition.specs.declared.refusal.Refused.{Refused}
 
 module _ (text ws : List ℕ) where
   pub parse_short : length ws < read_cards_capacity → parse text ws ≡ unlisted ws 31
@@ -66,7 +69,7 @@ written_so cs n ws before e l b =
 -- All that an accepted call does: the cards were written to words of their own, of which the first are copied.
 pub copied_so :
     (text ws : List ℕ) → read_cards_capacity ≤ length ws → length text ≤ text_capacity → (n : ℕ) (before after last : List ℕ) →
-    Told text (Accepted n) before after → n ≤ card_capacity → length before ≡ read_cards_capacity → last ≡ take (n * 5) after ++ drop (n * 5) ws →
+    Told text (Ok n) before after → n ≤ card_capacity → length before ≡ read_cards_capacity → last ≡ take (n * 5) after ++ drop (n * 5) ws →
     record { answer = answer 0 n; list = last } ≡ parse text ws
 unfolding listed_in
 copied_so text ws h k n before after last t l b w =
@@ -77,10 +80,8 @@ copied_so text ws h k n before after last t l b w =
     ap (λ (m : ℕ). record { answer = answer 0 m; list = written ws 0 (flat_map words_of_card cs) }) t.2 ∙
     sym (parse_accepted text ws h k t.0 t.1 (omega (arith, t.2)))
 
--- A loop that copies: one word more.
-pub copied_next : (dst src : List ℕ) (i : ℕ) → i < length dst → i < length src → set (paste dst 0 src i) i (get_or src i 0) ≡ paste dst 0 src (i + 1)
-copied_next dst src i h k =
-    rw (add-one i) (ap (λ (n : ℕ). set (paste dst 0 src i) n (get_or src i 0)) (sym (zero-add i)) ∙ paste-suc dst 0 src i 0 (omega arith) k)
-
-pub copied_all : (dst src : List ℕ) (i n : ℕ) → i ≡ n → paste dst 0 src i ≡ take n src ++ drop n dst
-copied_all dst src i n e = rw e (ap (λ (m : ℕ). take n src ++ drop m dst) (zero-add n))
+-- A refused call.
+pub refused_so : (text ws : List ℕ) → read_cards_capacity ≤ length ws → length text ≤ text_capacity → (e : SyntaxError) (r : Result ℕ Refused) →
+    r ≡ Err (refused_by e) → reading text ≡ refused (number e) (place e) → record { answer = count_answer r; list = ws } ≡ parse text ws
+refused_so text ws h k (NotInGrammar p) r i t = rw i (sym (parse_refused text ws h k 29 p t))
+refused_so text ws h k (NestedTooDeep p) r i t = rw i (sym (parse_refused text ws h k 30 p t))

@@ -1,20 +1,18 @@
 -- What a function promises that reads a definition, and what it goes by in the middle of one.
-use Rattle.std.specs.Prelude.{◌≡◌, List, [], ◌∷◌, ◌++◌, ℕ, ◌+◌, ◌≤◌, length}
+use Rattle.std.specs.Prelude.{Result, Ok, Err, ◌≡◌, List, [], ◌∷◌, ◌++◌, ℕ, ◌+◌, length}
 use Rattle.definition.specs.Grammar.{Symbol, part, Definition, Document}
 use Rattle.definition.specs.Cards.{Card}
-use Rattle.definition.specs.ItemCards.{ended, cards_read}
+use Rattle.definition.specs.ItemCards.{cards_read}
 use Rattle.definition.specs.Derivation.{Seen}
 use Rattle.definition.specs.Reading.{accepted, refused, reading}
-use Rattle.definition.specs.Refusals.{card_capacity, text_capacity}
+use Rattle.definition.specs.Refusals.{card_capacity}
 use Rattle.parser_laws.specs.Standing.{standing}
 use Rattle.parser_lexer.specs.Ahead.{Ahead}
-use Rattle.parser_lexer.specs.declared.Cursor.{Cursor}
-use Rattle.parser_values.specs.Reads.{goes_on, Ready}
-use Rattle.parser_values.specs.declared.End.{End}
-use Rattle.parser_values.specs.declared.End.TheVariants.{At, Bad, Deep}
-use Rattle.parser_items.specs.Lists.{put_card, put_cards}
-use Rattle.parser.specs.declared.Read.{Read}
-use Rattle.parser.specs.declared.Read.TheVariants.{Accepted, Refused}
+use Rattle.parser_lexer.specs.declared.cursor.Cursor.{Cursor}
+use Rattle.parser_values.specs.declared.error.SyntaxError.{SyntaxError}
+use Rattle.parser_values.specs.Errors.{number, place}
+use Rattle.parser_values.specs.Reads.{End, goes_on, Ready}
+use Rattle.parser_items.specs.Lists.{put_cards}
 
 -- In the middle of a definition that began at b, and whose card so far is x: it has come to c, and the symbols qs are left of it. Its card's number is
 -- how many cards there were before it. No part of it has a card yet, and nothing is written.
@@ -23,23 +21,10 @@ pub record Heading (text : List ℕ) (b : Cursor) (qs : List Symbol) (c : Cursor
       standing text c.last (qs ++ ss) 0 (cs ++ (x ∷ [])) (length cs)
   pub ahead : Ahead text c
 
--- The words after a heading ended: its card is written at its own number, behind which its parts' cards stand. A refused one is not written.
-abbrev pub headed : End → Cursor → Card → List ℕ → List ℕ
-headed (At k) b x ws = put_card ws card_capacity b.cards (ended k.last x)
-headed (Bad p) b x ws = ws
-headed (Deep p) b x ws = ws
-
--- Where a heading ends, it ends behind the place where it began, and within a text's room.
-abbrev pub Behind : ℕ → End → Type 0
-Behind at (At k) = (at ≤ k.last) × (k.last ≤ text_capacity)
-Behind at (Bad p) = Unit {0}
-Behind at (Deep p) = Unit {0}
-
 -- The words hold new cards from a number on. Where the reading was refused, nothing is said of them.
 abbrev pub Written : End → List ℕ → ℕ → List Card → List ℕ → Type 0
-Written (At k) before n cs after = after ≡ put_cards before card_capacity n cs
-Written (Bad p) before n cs after = Unit {0}
-Written (Deep p) before n cs after = Unit {0}
+Written (Ok k) before n cs after = after ≡ put_cards before card_capacity n cs
+Written (Err e) before n cs after = Unit {0}
 
 -- A definition: whatever symbols come after it, and whatever cards there are, the reading ends as the reading by them from the end on, with the new
 -- cards behind those there were, of which the first is the newest heading's; or in the refusal.
@@ -60,7 +45,7 @@ pub record Definitions (text before : List ℕ) (qs : List Symbol) (c : Cursor) 
 
 -- What the reading of a whole text promises: it is Reading's. Where the text is accepted, with so many cards, their words are written, as far as there is
 -- room.
-abbrev pub Told : List ℕ → Read → List ℕ → List ℕ → Type 0
-Told text (Accepted n) before after = (es : List Seen) × (reading text ≡ accepted es) × (n ≡ length (cards_read es)) × (after ≡
+abbrev pub Told : List ℕ → Result ℕ SyntaxError → List ℕ → List ℕ → Type 0
+Told text (Ok n) before after = (es : List Seen) × (reading text ≡ accepted es) × (n ≡ length (cards_read es)) × (after ≡
     put_cards before card_capacity 0 (cards_read es))
-Told text (Refused k p) before after = reading text ≡ refused k p
+Told text (Err e) before after = reading text ≡ refused (number e) (place e)

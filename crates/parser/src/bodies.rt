@@ -1,12 +1,8 @@
 // What follows the name of a heading, or the word `schema`, by the heading's kind.
-ghost use Rattle.std.specs.Prelude.{◌≡◌, [], ◌∷◌, ◌*◌, ◌≤◌, length};
+ghost use Rattle.std.specs.Prelude.{◌≡◌, [], ◌∷◌, ◌≤◌};
 ghost use Rattle.definition.specs.Grammar.{part, Roots?, DirectiveUse*};
 ghost use Rattle.definition.specs.Machine.{has, first_set_of};
-ghost use Rattle.definition.specs.Cards.{card_words};
-ghost use Rattle.definition.specs.Refusals.{card_capacity, text_capacity};
-ghost use Rattle.parser_lexer.specs.Ahead.{Ahead, Lies};
-ghost use Rattle.parser_values.specs.Reads.{Stays};
-ghost use Rattle.parser_items.specs.Lists.{Lists};
+ghost use Rattle.parser_items.specs.Lists.{MayListed, Short};
 ghost use Rattle.parser.specs.Symbols.{last_of, body_of, more_of, rest_of};
 
 use crate::directives::directive_rest;
@@ -15,88 +11,71 @@ use ast::kinds::{
     INTERFACE_TYPE_DEFINITION, OBJECT_TYPE_DEFINITION, SCALAR_TYPE_DEFINITION,
     SCALAR_TYPE_EXTENSION, SCHEMA_DEFINITION, SCHEMA_EXTENSION, UNION_TYPE_DEFINITION,
 };
+use parser_items::cards::Cards;
 use parser_items::{directive_uses, enum_values, fields, input_fields, interfaces, members, roots};
 use parser_lexer::Cursor;
 use parser_lexer::sorts::{AT, BRACE_OPENS, EQUALS, IMPLEMENTS};
-use parser_values::End;
+use parser_values::SyntaxError;
 
 // Roots, or none.
-fn optional_roots(text: &[u8], c: Cursor, cards: &mut [u32]) -> End
-    requires { Lies (length text.now) c ×
-        (length text.now ≤ text_capacity) ×
-        (length cards.old ≡ card_words * card_capacity) }
-    ensures { (Ahead text.now c → Lists (part Roots? ∷ []) text.now c result cards.old cards.new) ×
-        Stays (length text.now) c result }
+fn optional_roots<'a>(c: Cursor<'a>, cards: &mut Cards) -> Result<Cursor<'a>, SyntaxError>
+    requires { Short c }
+    ensures { MayListed (part Roots? ∷ []) c.entry result cards.old cards.new }
 {
     if c.sort == BRACE_OPENS {
-        return roots(text, c, cards);
+        return roots(c, cards);
     }
-    End::At(c)
+    Ok(c)
 }
 
 // What a body ends with.
-fn last_part(text: &[u8], c: Cursor, cards: &mut [u32], kind: u32) -> End
-    requires { Lies (length text.now) c ×
-        (length text.now ≤ text_capacity) ×
-        (length cards.old ≡ card_words * card_capacity) }
-    ensures { (Ahead text.now c → Lists (last_of kind) text.now c result cards.old cards.new) ×
-        Stays (length text.now) c result }
+fn last_part<'a>(c: Cursor<'a>, cards: &mut Cards, kind: u32) -> Result<Cursor<'a>, SyntaxError>
+    requires { Short c }
+    ensures { MayListed (last_of kind) c.entry result cards.old cards.new }
 {
     if kind <= SCHEMA_DEFINITION {
-        return roots(text, c, cards);
+        return roots(c, cards);
     }
     if kind <= SCALAR_TYPE_DEFINITION {
-        return End::At(c);
+        return Ok(c);
     }
     if kind <= INTERFACE_TYPE_DEFINITION {
-        return fields(text, c, cards);
+        return fields(c, cards);
     }
     if kind <= UNION_TYPE_DEFINITION {
-        return members(text, c, cards);
+        return members(c, cards);
     }
     if kind <= ENUM_TYPE_DEFINITION {
-        return enum_values(text, c, cards);
+        return enum_values(c, cards);
     }
     if kind <= INPUT_OBJECT_TYPE_DEFINITION {
-        return input_fields(text, c, cards);
+        return input_fields(c, cards);
     }
-    optional_roots(text, c, cards)
+    optional_roots(c, cards)
 }
 
 // The directive uses, and what a body ends with.
-fn uses_and_last(text: &[u8], c: Cursor, cards: &mut [u32], kind: u32) -> End
-    requires { Lies (length text.now) c ×
-        (length text.now ≤ text_capacity) ×
-        (length cards.old ≡ card_words * card_capacity) }
-    ensures { (Ahead text.now c → Lists (part DirectiveUse* ∷ last_of kind) text.now c result cards.old cards.new) ×
-        Stays (length text.now) c result }
+fn uses_and_last<'a>(c: Cursor<'a>, cards: &mut Cards, kind: u32) -> Result<Cursor<'a>, SyntaxError>
+    requires { Short c }
+    ensures { MayListed (part DirectiveUse* ∷ last_of kind) c.entry result cards.old cards.new }
 {
-    let used = directive_uses(text, c, cards);
-    let End::At(k) = used else {
-        return used;
-    };
-    last_part(text, k, cards, kind)
+    let k = directive_uses(c, cards)?;
+    last_part(k, cards, kind)
 }
 
 // A body. Objects and interfaces may name interfaces first.
-fn body(text: &[u8], c: Cursor, cards: &mut [u32], kind: u32) -> End
-    requires { Lies (length text.now) c ×
-        (length text.now ≤ text_capacity) ×
-        (length cards.old ≡ card_words * card_capacity) }
-    ensures { (Ahead text.now c → Lists (body_of kind) text.now c result cards.old cards.new) ×
-        Stays (length text.now) c result }
+fn body<'a>(c: Cursor<'a>, cards: &mut Cards, kind: u32) -> Result<Cursor<'a>, SyntaxError>
+    requires { Short c }
+    ensures { MayListed (body_of kind) c.entry result cards.old cards.new }
 {
     if kind < OBJECT_TYPE_DEFINITION {
-        return uses_and_last(text, c, cards, kind);
+        return uses_and_last(c, cards, kind);
     }
     if INTERFACE_TYPE_DEFINITION < kind {
-        return uses_and_last(text, c, cards, kind);
+        return uses_and_last(c, cards, kind);
     }
-    let implemented = interfaces(text, c, cards);
-    let End::At(k) = implemented else {
-        return implemented;
-    };
-    uses_and_last(text, k, cards, kind)
+    let k = interfaces(c, cards)?;
+    uses_and_last(k, cards, kind)
 }
 
 // Whether a token of a sort begins something of an extension's body.
@@ -127,41 +106,38 @@ fn begins_more(kind: u32, sort: u32) -> bool
 }
 
 // The body of an extension, of which something must be there. Its kind is that of the definition which it extends, and 11 for the schema.
-fn more(text: &[u8], c: Cursor, cards: &mut [u32], kind: u32) -> End
-    requires { Lies (length text.now) c ×
-        (length text.now ≤ text_capacity) ×
-        (length cards.old ≡ card_words * card_capacity) ×
+fn more<'a>(c: Cursor<'a>, cards: &mut Cards, kind: u32) -> Result<Cursor<'a>, SyntaxError>
+    requires { Short c ×
         (5 ≤ kind) ×
         (kind ≤ 11) }
-    ensures { (Ahead text.now c → Lists (more_of kind) text.now c result cards.old cards.new) ×
-        Stays (length text.now) c result }
+    ensures { MayListed (more_of kind) c.entry result cards.old cards.new }
 {
     if begins_more(kind, c.sort) {
-        return body(text, c, cards, kind);
+        return body(c, cards, kind);
     }
-    End::Bad(c.begins)
+    Err(SyntaxError::NotInGrammar(c.begins))
 }
 
 // What follows the name of a heading, or the word `schema`.
-pub fn heading_rest(text: &[u8], c: Cursor, cards: &mut [u32], kind: u32) -> End
-    requires { Lies (length text.now) c ×
-        (length text.now ≤ text_capacity) ×
-        (length cards.old ≡ card_words * card_capacity) ×
+pub fn heading_rest<'a>(
+    c: Cursor<'a>,
+    cards: &mut Cards,
+    kind: u32,
+) -> Result<Cursor<'a>, SyntaxError>
+    requires { Short c ×
         (kind ≤ 17) }
-    ensures { (Ahead text.now c → Lists (rest_of kind) text.now c result cards.old cards.new) ×
-        Stays (length text.now) c result }
+    ensures { MayListed (rest_of kind) c.entry result cards.old cards.new }
 {
     if kind <= DIRECTIVE_DEFINITION {
-        return directive_rest(text, c);
+        return directive_rest(c);
     }
     if kind <= INPUT_OBJECT_TYPE_DEFINITION {
-        return body(text, c, cards, kind);
+        return body(c, cards, kind);
     }
     if kind <= SCHEMA_EXTENSION {
-        return more(text, c, cards, kind);
+        return more(c, cards, kind);
     }
     more(
-        text,
         c,
         cards,
         kind - (SCALAR_TYPE_EXTENSION - SCALAR_TYPE_DEFINITION),

@@ -20,7 +20,7 @@ use Rattle.parser_laws.proofs.Theory.{has_left, has_right}
 use Rattle.parser_laws.proofs.Steps.{by_mark}
 use Rattle.parser_laws.proofs.Ahead.{no_token_lem, open_part, skip_part, no_part}
 use Rattle.parser_lexer.specs.Ahead.{Ahead}
-use Rattle.parser_lexer.specs.declared.Cursor.{Cursor}
+use Rattle.parser_lexer.specs.declared.cursor.Cursor.{Cursor}
 
 -- Whether one of the alternatives is empty.
 unfoldable leaves : List (List Symbol) → Bool

@@ -16,35 +16,23 @@ use Rattle.parser_laws.specs.Standing.{standing}
 use Rattle.parser_laws.proofs.Tests.{subset}
 use Rattle.parser_laws.proofs.Ahead.{token_of, open_part, repeats, begin_item, name_item_lem, end_item}
 use Rattle.parser_lexer.specs.Ahead.{Ahead}
-use Rattle.parser_lexer.specs.declared.Cursor.{Cursor}
+use Rattle.parser_lexer.specs.declared.cursor.Cursor.{Cursor}
 use Rattle.parser_values.specs.Reads.{goes_on, Ready, Reads}
-use Rattle.parser_values.specs.declared.End.{End}
-use Rattle.parser_values.specs.declared.End.TheVariants.{At, Bad, Deep}
-use Rattle.parser_values.proofs.Readers.{Refused}
+use Rattle.std.specs.Prelude.{Ok, Err}
+use Rattle.parser_values.specs.declared.error.SyntaxError.{SyntaxError}
+use Rattle.parser_values.specs.Reads.{End}
 use Rattle.parser_items.specs.Lists.{put_card, put_cards, Lists, Listing, Item}
 use Rattle.parser_items.proofs.Writing.{put_append}
 use Rattle.parser_items.proofs.Beginning.{wanting, by_token, Sole, as_sole}
 
 module _ (text : List ℕ) where
   ready_same : {m n : ℕ} (r : End) → m ≡ n → Ready text m r → Ready text n r
-  ready_same (At k) e (a, f) = (a, f ∙ e)
-  ready_same (Bad p) e u = u
-  ready_same (Deep p) e u = u
+  ready_same (Ok k) e (a, f) = (a, f ∙ e)
+  ready_same (Err x) e u = u
 
   -- Cards behind cards behind cards.
   goes_same : (r : End) (ss : List Symbol) (h : ℕ) (xs ys : List Card) → xs ≡ ys → goes_on text r ss 0 xs h ≡ goes_on text r ss 0 ys h
   goes_same r ss h xs ys e = ap (λ (x : List Card). goes_on text r ss 0 x h) e
-
-  -- What is refused is so whatever comes after, and whatever cards there are.
-  refused_alike : (e : End) → Refused e → (ss ts : List Symbol) (cs ds : List Card) (h : ℕ) → goes_on text e ss 0 cs h ≡ goes_on text e ts 0 ds h
-  refused_alike (At k) u ss ts cs ds h = absurd u
-  refused_alike (Bad p) u ss ts cs ds h = refl
-  refused_alike (Deep p) u ss ts cs ds h = refl
-
-  refused_ready : (e : End) → Refused e → (n : ℕ) → Ready text n e
-  refused_ready (At k) u n = absurd u
-  refused_ready (Bad p) u n = tt
-  refused_ready (Deep p) u n = tt
 
   -- What has no card.
   pub unlisted : {c : Cursor} {r : End} {ps : List Symbol} (before : List ℕ) → Reads ps text c 0 r → Lists ps text c r before before
@@ -70,7 +58,7 @@ module _ (text : List ℕ) where
 
   -- Symbols of what is left are read.
   pub further : {b c k : Cursor} {before middle after : List ℕ} (ps qs us : List Symbol) → Listing ps text b before (qs ++ us) c middle →
-      Lists qs text c (At k) middle after → Listing ps text b before us k after
+      Lists qs text c (Ok k) middle after → Listing ps text b before us k after
   further {b} {c} {k} {before} {middle} {after} ps qs us i f = record {
     cards = i.cards ++ f.cards;
     written =
@@ -111,15 +99,14 @@ module _ (text : List ℕ) where
       count n xs ys = rw (length-append xs ys) (omega arith)
 
   -- Symbols of what is left are refused, and so is all.
-  pub or_refused_lem : {c : Cursor} {before after : List ℕ} (qs us : List Symbol) (e : End) → Refused e → Lists qs text c e before after →
-      Lists (qs ++ us) text c e before after
-  or_refused_lem {c} qs us e u f = record {
+  pub or_refused_lem : {c : Cursor} {before after : List ℕ} (qs us : List Symbol) (e : SyntaxError) → Lists qs text c (Err e) before after →
+      Lists (qs ++ us) text c (Err e) before after
+  or_refused_lem {c} qs us e f = record {
     cards = f.cards;
     written = f.written;
     goes = λ ss cs h.
         ap (λ (x : List Symbol). standing text c.last x 0 cs h) (append_assoc qs us ss) ∙
-        f.goes (us ++ ss) cs h ∙
-        refused_alike e u (us ++ ss) ss (cs ++ f.cards) (cs ++ f.cards) h;
+        f.goes (us ++ ss) cs h;
     ready = f.ready;
   }
 
@@ -179,7 +166,7 @@ module _ (text : List ℕ) where
     counted = refl;
   }
 
-  pub item_reads : {b c k : Cursor} {x : Card} (ps qs us : List Symbol) → Item ps text b (qs ++ us) c x → Reads qs text c 0 (At k) → Item ps text b us k x
+  pub item_reads : {b c k : Cursor} {x : Card} (ps qs us : List Symbol) → Item ps text b (qs ++ us) c x → Reads qs text c 0 (Ok k) → Item ps text b us k x
   item_reads {b} {c} {k} {x} ps qs us i f = record {
     goes = λ ss cs h.
         i.goes ss cs h ∙
@@ -190,18 +177,17 @@ module _ (text : List ℕ) where
   }
 
   -- Refused in an item: no card is listed.
-  pub item_refused : {b c : Cursor} {x : Card} (before : List ℕ) (ps qs us : List Symbol) (e : End) → Refused e → Item ps text b (qs ++ us) c x →
-      Reads qs text c 0 e → Lists ps text b e before before
+  pub item_refused : {b c : Cursor} {x : Card} (before : List ℕ) (ps qs us : List Symbol) (e : SyntaxError) → Item ps text b (qs ++ us) c x →
+      Reads qs text c 0 (Err e) → Lists ps text b (Err e) before before
   unfolding put_cards
-  item_refused {b} {c} {x} before ps qs us e u i f = record {
+  item_refused {b} {c} {x} before ps qs us e i f = record {
     cards = [];
     written = refl;
     goes = λ ss cs h.
         i.goes ss cs h ∙
         ap (λ (y : List Symbol). standing text c.last y 0 (cs ++ (x ∷ [])) h) (append_assoc qs us ss) ∙
-        f.goes (us ++ ss) (cs ++ (x ∷ [])) h ∙
-        refused_alike e u (us ++ ss) ss (cs ++ (x ∷ [])) (cs ++ []) h;
-    ready = refused_ready e u (b.cards + 0);
+        f.goes (us ++ ss) (cs ++ (x ∷ [])) h;
+    ready = tt;
   }
 
   -- The token ahead is its name.
@@ -220,7 +206,7 @@ module _ (text : List ℕ) where
   -- It ends, and its card is written: k is the cursor with one card more.
   pub item_ends_lem : {b c : Cursor} {x : Card} {before after : List ℕ} (ps : List Symbol) (k : Cursor) → Ahead text k → k.last ≡ c.last →
       k.cards ≡ b.cards + 1 → Item ps text b (mark item_ends ∷ []) c x → after ≡ put_card before card_capacity b.cards (ended c.last x) →
-      Lists ps text b (At k) before after
+      Lists ps text b (Ok k) before after
   unfolding put_cards
   item_ends_lem {b} {c} {x} ps k a e n i w = record {
     cards = ended c.last x ∷ [];

@@ -1,14 +1,13 @@
 -- What a function promises that reads symbols with cards and writes the cards' words.
-use Rattle.std.specs.Prelude.{◌≡◌, List, [], ◌∷◌, ◌++◌, ℕ, ◌+◌, ◌-◌, ◌*◌, leb, length, set}
+use Rattle.std.specs.Prelude.{◌≡◌, List, [], ◌∷◌, ◌++◌, ℕ, ◌+◌, ◌-◌, ◌*◌, ◌≤◌, leb, length, set}
 use Rattle.definition.specs.Lists.{choose}
 use Rattle.definition.specs.Grammar.{Symbol}
 use Rattle.definition.specs.Cards.{Card}
-use Rattle.definition.specs.Refusals.{card_capacity}
+use Rattle.definition.specs.Refusals.{card_capacity, text_capacity}
 use Rattle.parser_laws.specs.Standing.{standing}
 use Rattle.parser_lexer.specs.Ahead.{Ahead}
-use Rattle.parser_lexer.specs.declared.Cursor.{Cursor}
-use Rattle.parser_values.specs.Reads.{goes_on, Ready}
-use Rattle.parser_values.specs.declared.End.{End}
+use Rattle.parser_lexer.specs.declared.cursor.Cursor.{Cursor}
+use Rattle.parser_values.specs.Reads.{End, goes_on, Ready, Stays, Moves}
 
 abbrev pub card_of : ℕ → ℕ → ℕ → ℕ → ℕ → Card
 card_of k at size name n = record { kind = k; item_at = at; item_len = size; name_at = name; name_len = n }
@@ -17,9 +16,20 @@ card_of k at size name n = record { kind = k; item_at = at; item_len = size; nam
 abbrev pub item_card : ℕ → Cursor → Cursor → ℕ → Card
 item_card k first name end = card_of k first.begins (end - first.begins) name.begins (name.ends - name.begins)
 
--- The cursor behind an item, with one card more than where the item began.
-abbrev pub one_more : Cursor → Cursor → Cursor
-one_more first c = record { sort = c.sort; begins = c.begins; ends = c.ends; last = c.last; cards = first.cards + 1 }
+-- The cursor k behind an item: that of c, with one card more than where the item began.
+abbrev pub OneMore : Cursor → Cursor → Cursor → Type 0
+OneMore first c k =
+    (k.text.now ≡ c.text.now) ×
+    (k.sort ≡ c.sort) ×
+    (k.begins ≡ c.begins) ×
+    (k.ends ≡ c.ends) ×
+    (k.last ≡ c.last) ×
+    (k.cards ≡ first.cards + 1)
+
+-- The text is short enough for a store, so that its places are words of a card. Readers of values and of tokens take any text, so no cursor says this of
+-- itself.
+abbrev pub Short : Cursor → Type 0
+Short c = length c.text.now ≤ text_capacity
 
 -- Words with card n written, where n is below the room.
 unfoldable pub put_card : List ℕ → ℕ → ℕ → Card → List ℕ
@@ -39,6 +49,21 @@ pub record Lists (ps : List Symbol) (text : List ℕ) (c : Cursor) (r : End) (be
   pub written : after ≡ put_cards before card_capacity c.cards cards
   pub goes : (ss : List Symbol) (cs : List Card) (h : ℕ) → standing text c.last (ps ++ ss) 0 cs h ≡ goes_on text r ss 0 (cs ++ cards) h
   pub ready : Ready text (c.cards + length cards) r
+
+-- What is promised of the symbols ps from c on: where a token must be read, and where none need be. As in parser_values, that the cursor tells what stands
+-- ahead is a premise of what is promised of the reading, and none of what is promised of places.
+abbrev pub MustList : List Symbol → List ℕ → Cursor → End → List ℕ → List ℕ → Type 0
+MustList ps text c e before after = (Ahead text c → Lists ps text c e before after) × Moves text c e
+
+abbrev pub MayList : List Symbol → List ℕ → Cursor → End → List ℕ → List ℕ → Type 0
+MayList ps text c e before after = (Ahead text c → Lists ps text c e before after) × Stays text c e
+
+-- The same of a cursor's own text, as contracts say it.
+abbrev pub MustListed : List Symbol → Cursor → End → List ℕ → List ℕ → Type 0
+MustListed ps c e before after = MustList ps c.text.now c e before after
+
+abbrev pub MayListed : List Symbol → Cursor → End → List ℕ → List ℕ → Type 0
+MayListed ps c e before after = MayList ps c.text.now c e before after
 
 -- In the middle of reading ps from b on: it has come to c, and the symbols qs are left of ps.
 pub record Listing (ps : List Symbol) (text : List ℕ) (b : Cursor) (before : List ℕ) (qs : List Symbol) (c : Cursor) (after : List ℕ) : Type 0 where

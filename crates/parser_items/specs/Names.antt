@@ -4,7 +4,10 @@ use Rattle.definition.specs.Lists.{Among}
 use Rattle.definition.specs.Grammar.{Symbol, Part, one, part, mark, rule, item, named, name, item_ends}
 use Rattle.definition.specs.GrammarSets.{nullable, first}
 use Rattle.definition.specs.Machine.{has, first_set_of}
-use Rattle.parser_values.specs.Reads.{Optional}
+use Rattle.parser_lexer.specs.Ahead.{Ahead}
+use Rattle.parser_lexer.specs.declared.cursor.Cursor.{Cursor}
+use Rattle.parser_values.specs.Reads.{End, Stays, Optional}
+use Rattle.parser_items.specs.Lists.{Lists}
 
 abbrev pub name_item : ℕ → List Symbol
 name_item k = mark (item k) ∷ mark named ∷ name ∷ mark item_ends ∷ []
@@ -34,3 +37,8 @@ pub record Joined (x y k : ℕ) (l : NameList) : Type 0 where
   pub again : Among (one y y ∷ part l.name ∷ part l.more ∷ []) (rule l.more)
   pub done : Among [] (rule l.more)
   pub joiner : first l.more ≡ (y, y) ∷ []
+
+-- Whichever list of names it is that begins, is joined and has cards so.
+abbrev pub NamesListed : (x y k : ℕ) → Cursor → End → List ℕ → List ℕ → Type 0
+NamesListed x y k c e before after =
+    (Ahead c.text.now c → (l : NameList) → Joined x y k l → Lists (part l.optional ∷ []) c.text.now c e before after) × Stays c.text.now c e

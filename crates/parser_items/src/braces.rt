@@ -1,18 +1,15 @@
 // Lists in braces, of at least one item: root operations, and the definitions of fields, enum values and input fields.
-ghost use Rattle.std.specs.Prelude.{◌≡◌, [], ◌∷◌, ◌*◌, ◌≤◌, length};
+ghost use Rattle.std.specs.Prelude.{[], ◌∷◌};
 ghost use Rattle.definition.specs.Grammar.{part, Roots, Fields?, EnumValues?, InputFields?};
-ghost use Rattle.definition.specs.Cards.{card_words};
-ghost use Rattle.definition.specs.Refusals.{card_capacity, text_capacity};
-ghost use Rattle.parser_lexer.specs.Ahead.{Ahead, Lies};
-ghost use Rattle.parser_values.specs.Reads.{Moves, Stays};
-ghost use Rattle.parser_items.specs.Lists.{Lists};
+ghost use Rattle.parser_items.specs.Lists.{MustListed, MayListed, Short};
 ghost use Rattle.parser_items.specs.Braces.{item_of, list_of, optional_of};
 
+use crate::cards::Cards;
 use crate::definitions::{ItemDefinition, definition};
 use crate::operations::root;
+use parser_lexer::Cursor;
 use parser_lexer::sorts::{BRACE_CLOSES, BRACE_OPENS};
-use parser_lexer::{Cursor, next_token};
-use parser_values::{End, take};
+use parser_values::{SyntaxError, take};
 
 // What the list is of.
 #[derive(Clone, Copy)]
@@ -21,108 +18,74 @@ pub enum Braced {
     Definitions(ItemDefinition),
 }
 
-fn item(text: &[u8], c: Cursor, cards: &mut [u32], list: Braced) -> End
-    requires { Lies (length text.now) c ×
-        (length text.now ≤ text_capacity) ×
-        (length cards.old ≡ card_words * card_capacity) }
-    ensures { (Ahead text.now c → Lists (part (item_of list) ∷ []) text.now c result cards.old cards.new) ×
-        Moves (length text.now) c result }
+fn item<'a>(c: Cursor<'a>, cards: &mut Cards, list: Braced) -> Result<Cursor<'a>, SyntaxError>
+    requires { Short c }
+    ensures { MustListed (part (item_of list) ∷ []) c.entry result cards.old cards.new }
 {
     match list {
-        Braced::Operations => root(text, c, cards),
-        Braced::Definitions(d) => definition(text, c, cards, d),
+        Braced::Operations => root(c, cards),
+        Braced::Definitions(d) => definition(c, cards, d),
     }
 }
 
 // A list: `{`, items and `}`.
-fn items(text: &[u8], c: Cursor, cards: &mut [u32], list: Braced) -> End
-    requires { Lies (length text.now) c ×
-        (length text.now ≤ text_capacity) ×
-        (length cards.old ≡ card_words * card_capacity) }
-    ensures { (Ahead text.now c → Lists (part (list_of list) ∷ []) text.now c result cards.old cards.new) ×
-        Moves (length text.now) c result }
+fn items<'a>(c: Cursor<'a>, cards: &mut Cards, list: Braced) -> Result<Cursor<'a>, SyntaxError>
+    requires { Short c }
+    ensures { MustListed (part (list_of list) ∷ []) c.entry result cards.old cards.new }
 {
-    let begun = take(text, c, BRACE_OPENS, BRACE_OPENS);
-    let End::At(first) = begun else {
-        return begun;
-    };
-    let mut k = first;
+    let mut k = take(c, BRACE_OPENS, BRACE_OPENS)?;
     loop {
-        let read = item(text, k, cards, list);
-        let End::At(j) = read else {
-            return read;
-        };
+        let j = item(k, cards, list)?;
         if j.sort == BRACE_CLOSES {
-            return End::At(next_token(text, j.ends, j.cards));
+            return Ok(j.next());
         }
         k = j;
     }
 }
 
 // A list, or none.
-fn optional_items(text: &[u8], c: Cursor, cards: &mut [u32], list: Braced) -> End
-    requires { Lies (length text.now) c ×
-        (length text.now ≤ text_capacity) ×
-        (length cards.old ≡ card_words * card_capacity) }
-    ensures { (Ahead text.now c → Lists (part (optional_of list) ∷ []) text.now c result cards.old cards.new) ×
-        Stays (length text.now) c result }
+fn optional_items<'a>(
+    c: Cursor<'a>,
+    cards: &mut Cards,
+    list: Braced,
+) -> Result<Cursor<'a>, SyntaxError>
+    requires { Short c }
+    ensures { MayListed (part (optional_of list) ∷ []) c.entry result cards.old cards.new }
 {
     if c.sort != BRACE_OPENS {
-        return End::At(c);
+        return Ok(c);
     }
-    items(text, c, cards, list)
+    items(c, cards, list)
 }
 
 // The root operations of a schema: 3.3 of the specification.
-pub fn roots(text: &[u8], c: Cursor, cards: &mut [u32]) -> End
-    requires { Lies (length text.now) c ×
-        (length text.now ≤ text_capacity) ×
-        (length cards.old ≡ card_words * card_capacity) }
-    ensures { (Ahead text.now c → Lists (part Roots ∷ []) text.now c result cards.old cards.new) ×
-        Moves (length text.now) c result }
+pub fn roots<'a>(c: Cursor<'a>, cards: &mut Cards) -> Result<Cursor<'a>, SyntaxError>
+    requires { Short c }
+    ensures { MustListed (part Roots ∷ []) c.entry result cards.old cards.new }
 {
-    items(text, c, cards, Braced::Operations)
+    items(c, cards, Braced::Operations)
 }
 
 // The fields of a type, or none: 3.6, FieldsDefinition.
-pub fn fields(text: &[u8], c: Cursor, cards: &mut [u32]) -> End
-    requires { Lies (length text.now) c ×
-        (length text.now ≤ text_capacity) ×
-        (length cards.old ≡ card_words * card_capacity) }
-    ensures { (Ahead text.now c → Lists (part Fields? ∷ []) text.now c result cards.old cards.new) ×
-        Stays (length text.now) c result }
+pub fn fields<'a>(c: Cursor<'a>, cards: &mut Cards) -> Result<Cursor<'a>, SyntaxError>
+    requires { Short c }
+    ensures { MayListed (part Fields? ∷ []) c.entry result cards.old cards.new }
 {
-    optional_items(text, c, cards, Braced::Definitions(ItemDefinition::Field))
+    optional_items(c, cards, Braced::Definitions(ItemDefinition::Field))
 }
 
 // The values of an enum, or none: 3.9, EnumValuesDefinition.
-pub fn enum_values(text: &[u8], c: Cursor, cards: &mut [u32]) -> End
-    requires { Lies (length text.now) c ×
-        (length text.now ≤ text_capacity) ×
-        (length cards.old ≡ card_words * card_capacity) }
-    ensures { (Ahead text.now c → Lists (part EnumValues? ∷ []) text.now c result cards.old cards.new) ×
-        Stays (length text.now) c result }
+pub fn enum_values<'a>(c: Cursor<'a>, cards: &mut Cards) -> Result<Cursor<'a>, SyntaxError>
+    requires { Short c }
+    ensures { MayListed (part EnumValues? ∷ []) c.entry result cards.old cards.new }
 {
-    optional_items(
-        text,
-        c,
-        cards,
-        Braced::Definitions(ItemDefinition::EnumValue),
-    )
+    optional_items(c, cards, Braced::Definitions(ItemDefinition::EnumValue))
 }
 
 // The fields of an input object, or none: 3.10, InputFieldsDefinition.
-pub fn input_fields(text: &[u8], c: Cursor, cards: &mut [u32]) -> End
-    requires { Lies (length text.now) c ×
-        (length text.now ≤ text_capacity) ×
-        (length cards.old ≡ card_words * card_capacity) }
-    ensures { (Ahead text.now c → Lists (part InputFields? ∷ []) text.now c result cards.old cards.new) ×
-        Stays (length text.now) c result }
+pub fn input_fields<'a>(c: Cursor<'a>, cards: &mut Cards) -> Result<Cursor<'a>, SyntaxError>
+    requires { Short c }
+    ensures { MayListed (part InputFields? ∷ []) c.entry result cards.old cards.new }
 {
-    optional_items(
-        text,
-        c,
-        cards,
-        Braced::Definitions(ItemDefinition::InputField),
-    )
+    optional_items(c, cards, Braced::Definitions(ItemDefinition::InputField))
 }

@@ -1,80 +1,64 @@
 // Items that are a name alone, joined by a token: the interfaces of a type and the members of a union.
-ghost use Rattle.std.specs.Prelude.{◌≡◌, [], ◌∷◌, ◌*◌, ◌≤◌, length};
+ghost use Rattle.std.specs.Prelude.{[], ◌∷◌, ◌≤◌};
 ghost use Rattle.definition.specs.Grammar.{part, Implements?, Members?};
-ghost use Rattle.definition.specs.Cards.{card_words};
-ghost use Rattle.definition.specs.Refusals.{card_capacity, text_capacity};
-ghost use Rattle.parser_lexer.specs.Ahead.{Ahead, Lies};
-ghost use Rattle.parser_values.specs.Reads.{Moves, Stays};
-ghost use Rattle.parser_items.specs.Lists.{Lists};
-ghost use Rattle.parser_items.specs.Names.{name_item, NameList, Joined};
+ghost use Rattle.parser_items.specs.Lists.{MustListed, MayListed, Short};
+ghost use Rattle.parser_items.specs.Names.{name_item, NamesListed};
 
-use crate::cards::end_item;
+use crate::cards::Cards;
+use crate::ending::end_item;
 use ast::kinds::{IMPLEMENTS_INTERFACE, UNION_MEMBER};
+use parser_lexer::Cursor;
 use parser_lexer::sorts::{AMP, BAR, EQUALS, FIRST_NAME, IMPLEMENTS, NAME};
-use parser_lexer::{Cursor, next_token};
-use parser_values::{End, take, take_optional};
+use parser_values::{SyntaxError, take, take_optional};
 
 // A name, with a card of a kind.
-fn name_item(text: &[u8], c: Cursor, cards: &mut [u32], kind: u32) -> End
-    requires { Lies (length text.now) c ×
-        (length text.now ≤ text_capacity) ×
-        (length cards.old ≡ card_words * card_capacity) }
-    ensures { (Ahead text.now c → Lists (name_item kind) text.now c result cards.old cards.new) ×
-        Moves (length text.now) c result }
+fn name_item<'a>(c: Cursor<'a>, cards: &mut Cards, kind: u32) -> Result<Cursor<'a>, SyntaxError>
+    requires { Short c }
+    ensures { MustListed (name_item kind) c.entry result cards.old cards.new }
 {
-    let named = take(text, c, FIRST_NAME, NAME);
-    let End::At(k) = named else {
-        return named;
-    };
-    End::At(end_item(cards, kind, c, c, k))
+    let k = take(c, FIRST_NAME, NAME)?;
+    Ok(end_item(cards, kind, c, c, k))
 }
 
 // A list of names, or none: it begins with a token of one sort, and a token of another stands between names and may stand before the first.
-fn names(text: &[u8], c: Cursor, cards: &mut [u32], opener: u32, joiner: u32, kind: u32) -> End
-    requires { Lies (length text.now) c ×
-        (length text.now ≤ text_capacity) ×
-        (length cards.old ≡ card_words * card_capacity) ×
+fn names<'a>(
+    c: Cursor<'a>,
+    cards: &mut Cards,
+    opener: u32,
+    joiner: u32,
+    kind: u32,
+) -> Result<Cursor<'a>, SyntaxError>
+    requires { Short c ×
         (opener ≤ 54) ×
         (joiner ≤ 54) }
-    ensures { (Ahead text.now c → (l : NameList) → Joined opener joiner kind l →
-        Lists (part l.optional ∷ []) text.now c result cards.old cards.new) ×
-        Stays (length text.now) c result }
+    ensures { NamesListed opener joiner kind c.entry result cards.old cards.new }
 {
     if c.sort != opener {
-        return End::At(c);
+        return Ok(c);
     }
-    let first = next_token(text, c.ends, c.cards);
-    let mut k = take_optional(text, first, joiner);
+    let first = c.next();
+    let mut k = take_optional(first, joiner);
     loop {
-        let read = name_item(text, k, cards, kind);
-        let End::At(j) = read else {
-            return read;
-        };
+        let j = name_item(k, cards, kind)?;
         if j.sort != joiner {
-            return read;
+            return Ok(j);
         }
-        k = next_token(text, j.ends, j.cards);
+        k = j.next();
     }
 }
 
 // The interfaces of a type, or none: 3.6 of the specification, ImplementsInterfaces.
-pub fn interfaces(text: &[u8], c: Cursor, cards: &mut [u32]) -> End
-    requires { Lies (length text.now) c ×
-        (length text.now ≤ text_capacity) ×
-        (length cards.old ≡ card_words * card_capacity) }
-    ensures { (Ahead text.now c → Lists (part Implements? ∷ []) text.now c result cards.old cards.new) ×
-        Stays (length text.now) c result }
+pub fn interfaces<'a>(c: Cursor<'a>, cards: &mut Cards) -> Result<Cursor<'a>, SyntaxError>
+    requires { Short c }
+    ensures { MayListed (part Implements? ∷ []) c.entry result cards.old cards.new }
 {
-    names(text, c, cards, IMPLEMENTS, AMP, IMPLEMENTS_INTERFACE)
+    names(c, cards, IMPLEMENTS, AMP, IMPLEMENTS_INTERFACE)
 }
 
 // The members of a union, or none: 3.8, UnionMemberTypes.
-pub fn members(text: &[u8], c: Cursor, cards: &mut [u32]) -> End
-    requires { Lies (length text.now) c ×
-        (length text.now ≤ text_capacity) ×
-        (length cards.old ≡ card_words * card_capacity) }
-    ensures { (Ahead text.now c → Lists (part Members? ∷ []) text.now c result cards.old cards.new) ×
-        Stays (length text.now) c result }
+pub fn members<'a>(c: Cursor<'a>, cards: &mut Cards) -> Result<Cursor<'a>, SyntaxError>
+    requires { Short c }
+    ensures { MayListed (part Members? ∷ []) c.entry result cards.old cards.new }
 {
-    names(text, c, cards, EQUALS, BAR, UNION_MEMBER)
+    names(c, cards, EQUALS, BAR, UNION_MEMBER)
 }

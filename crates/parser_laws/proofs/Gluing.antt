@@ -127,7 +127,7 @@ module _ (b : List ℕ) where
       ap (λ (n : ℕ). choose (ends_line x || eqb (character (x ∷ bs)) 0) 0 (1 + n))
       (comment_same (character (x ∷ bs) - 1) bs (omega (arith, character_size x bs)))
 
-comment_size : (k : ℕ) (bs : List ℕ) → comment k bs ≤ length bs
+pub comment_size : (k : ℕ) (bs : List ℕ) → comment k bs ≤ length bs
 unfolding comment
 comment_size k [] = omega arith
 comment_size (suc k) (x ∷ bs) = let h = comment_size k bs in omega arith
@@ -237,7 +237,7 @@ module _ (b : List ℕ) where
           let m = one_more_lem (block (character (x ∷ bs) - 1) bs) n q.1 in
           rw (character_same b x bs, q.0, f (character (x ∷ bs) - 1) m.0 m.1) (ap some (sym m.2))
 
-plain_size : (k : ℕ) (bs : List ℕ) (n : ℕ) → plain k bs ≡ some n → n ≤ length bs
+pub plain_size : (k : ℕ) (bs : List ℕ) (n : ℕ) → plain k bs ≡ some n → n ≤ length bs
 unfolding plain
 plain_size k [] n e = let z : ◌≡◌ {A = ℕ} 0 1 = cc in absurd (omega arith)
 plain_size (suc k) (x ∷ bs) n e =
@@ -260,7 +260,7 @@ plain_size zero (x ∷ bs) n e = go (eqb x 34) (eqb x 92) e (λ k m. plain_size 
         let m = one_more_lem (plain (character (x ∷ bs) - 1) bs) n q.1 in
         omega (arith, f (character (x ∷ bs) - 1) m.0 m.1, m.2)
 
-block_size : (k : ℕ) (bs : List ℕ) (n : ℕ) → block k bs ≡ some n → n ≤ length bs
+pub block_size : (k : ℕ) (bs : List ℕ) (n : ℕ) → block k bs ≡ some n → n ≤ length bs
 unfolding block tripled
 block_size k [] n e = let z : ◌≡◌ {A = ℕ} 0 1 = cc in absurd (omega arith)
 block_size (suc k) (x ∷ bs) n e =
@@ -326,7 +326,7 @@ module _ (b : List ℕ) where
   unfolding number_of is_digit is_name_start
   number_of_same s n bs h = rw (test_same b (λ y. is_digit y || eqb y 46 || is_name_start y) refl refl n bs h)
 
-integer_size : (bs : List ℕ) → integer bs ≤ length bs
+pub integer_size : (bs : List ℕ) → integer bs ≤ length bs
 unfolding integer
 integer_size bs = go (eqb (byte 0 bs) 48) refl
   where
@@ -334,14 +334,14 @@ integer_size bs = go (eqb (byte 0 bs) 48) refl
     go true e = test_there [] (λ y. eqb y 48) refl 0 bs e
     go false e = run_size is_digit bs
 
-begun_size : (m : ℕ) (bs : List ℕ) (n : ℕ) → m ≤ length bs → begun m bs ≡ some n → n ≤ length bs
+pub begun_size : (m : ℕ) (bs : List ℕ) (n : ℕ) → m ≤ length bs → begun m bs ≡ some n → n ≤ length bs
 unfolding begun
 begun_size m bs n h e =
     let q = unless (eqb (run is_digit (drop m bs)) 0) (some (m + run is_digit (drop m bs))) n e in
     let z : m + run is_digit (drop m bs) ≡ n = cc in
     omega (arith, run_size is_digit (drop m bs), length-drop m bs)
 
-fraction_size : (bs : List ℕ) (n : ℕ) → fraction bs ≡ some n → n ≤ length bs
+pub fraction_size : (bs : List ℕ) (n : ℕ) → fraction bs ≡ some n → n ≤ length bs
 unfolding fraction
 fraction_size bs n e = go (eqb (byte 0 bs) 46) refl e
   where
@@ -349,7 +349,7 @@ fraction_size bs n e = go (eqb (byte 0 bs) 46) refl e
     go true i k = begun_size 1 bs n (test_there [] (λ y. eqb y 46) refl 0 bs i) k
     go false i k = let z : 0 ≡ n = cc in omega arith
 
-exponent_size : (bs : List ℕ) (n : ℕ) → exponent bs ≡ some n → n ≤ length bs
+pub exponent_size : (bs : List ℕ) (n : ℕ) → exponent bs ≡ some n → n ≤ length bs
 unfolding exponent
 exponent_size bs n e = go (eqb (byte 0 bs) 101 || eqb (byte 0 bs) 69) refl (eqb (byte 1 bs) 43 || eqb (byte 1 bs) 45) refl e
   where

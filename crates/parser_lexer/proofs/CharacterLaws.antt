@@ -1,18 +1,15 @@
 -- The laws of a character, one for each answer.
-use mathlib.Core.Path.{◌≡◌, ◌∙◌}
-use mathlib.Core.Bool.{◌&&◌}
+use mathlib.Core.Path.{◌≡◌, refl}
+use mathlib.Core.Bool.{Bool, true, false, ◌&&◌}
 use mathlib.Core.List.{List, [], ◌∷◌}
-use Prim.Native.Nat.{ℕ, ◌+◌, ◌<◌, ◌≤◌}
-use native.Mathlib.Nat.{add-zero}
+use Prim.Native.Nat.{ℕ, ◌<◌, ◌≤◌}
 use native.Mathlib.Omega.{arith}
-use borrow.Author.Tests.{ne_eqb, le-leb, lt-leb}
-use lib.ListN.{get_or, drop}
-use lib.Seq.{get_or-drop}
+use borrow.Author.Tests.{ne_eqb, eqb-true, eqb-false, le-leb, lt-leb}
+use lib.Dec.{eqb}
+use lib.ListN.{get_or}
 use Rattle.definition.specs.Lists.{choose}
 use Rattle.definition.specs.Lexical.{continues, character}
 use Rattle.parser_lexer.specs.Characters.{second_of}
-
--- ---- By the first three bytes.
 
 module _ (b c d : ℕ) where
   pub of_tab : b ≡ 9 → character (b ∷ c ∷ d ∷ []) ≡ 1
@@ -34,6 +31,19 @@ module _ (b c d : ℕ) where
   pub of_one : 32 ≤ b → b ≤ 127 → character (b ∷ c ∷ d ∷ []) ≡ 1
   unfolding character
   of_one h k = simp (ne_eqb b 9 (omega arith), ne_eqb b 10 (omega arith), ne_eqb b 13 (omega arith), le-leb 32 b h, le-leb b 127 k)
+
+  -- However the code has told that it is a tab, a line's end or ASCII from the space on.
+  pub of_first : 9 ≤ b → b ≤ 127 → (10 < b → (b ≡ 13 → ⊥) → 32 ≤ b) → character (b ∷ c ∷ d ∷ []) ≡ 1
+  of_first h k f = go (eqb b 9) refl (eqb b 10) refl (eqb b 13) refl
+    where
+      go : (t : Bool) → eqb b 9 ≡ t → (u : Bool) → eqb b 10 ≡ u → (v : Bool) → eqb b 13 ≡ v → character (b ∷ c ∷ d ∷ []) ≡ 1
+      go true x u y v z = of_tab (eqb-true b 9 x)
+      go false x true y v z = of_line_feed (eqb-true b 10 y)
+      go false x false y true z = of_return (eqb-true b 13 z)
+      go false x false y false z =
+          let m = eqb-false b 9 x in
+          let n = eqb-false b 10 y in
+          of_one (f (omega arith) (eqb-false b 13 z)) k
 
   module _ (wide : 127 < b) where
     pub of_none : b < 194 → character (b ∷ c ∷ d ∷ []) ≡ 0
@@ -88,16 +98,7 @@ module _ (b c d : ℕ) where
       lt-leb b 239 h,
     )
 
--- ---- At a place of a text.
-
--- The byte i after a place.
-pub byte_at : (s : List ℕ) (at i : ℕ) → get_or (drop at s) i 0 ≡ get_or s (at + i) 0
-byte_at s at i = get_or-drop at s i 0
-
-pub first_at : (s : List ℕ) (at : ℕ) → get_or (drop at s) 0 0 ≡ get_or s at 0
-first_at s at = get_or-drop at s 0 0 ∙ rw add-zero
-
 -- Three bytes tell a character.
-pub character_at : (s : List ℕ) (at : ℕ) → character (drop at s) ≡ character (get_or s at 0 ∷ get_or s (at + 1) 0 ∷ get_or s (at + 2) 0 ∷ [])
+pub by_three : (bs : List ℕ) → character bs ≡ character (get_or bs 0 0 ∷ get_or bs 1 0 ∷ get_or bs 2 0 ∷ [])
 unfolding character
-character_at s at = rw (first_at s at, byte_at s at 1, byte_at s at 2)
+by_three bs = refl

@@ -1,19 +1,22 @@
 -- Names, and the words of the grammar among them.
 use mathlib.Core.Path.{◌≡◌, refl, sym, ap, ◌∙◌}
 use mathlib.Core.List.{List, [], ◌∷◌}
-use mathlib.Core.Bool.{Bool, true, false, ◌&&◌, ◌||◌, not}
-use Prim.Native.Nat.{ℕ, suc, ◌+◌, ◌-◌, ◌≤◌, ◌<◌}
+use mathlib.Core.Bool.{Bool, true, false, ◌&&◌, ◌||◌, not, cond}
+use Prim.Native.Nat.{ℕ, suc, ◌+◌, ◌≤◌}
 use native.Mathlib.Omega.{arith}
-use borrow.Author.Tests.{eq-eqb, ne_eqb, le-leb, lt-leb, ltb-true}
+use borrow.Author.Tests.{eq-eqb, ne_eqb, le-leb}
 use lib.Dec.{eqb, ltb}
-use lib.ListN.{length, get_or, take, drop, drop_of_length-le, length-drop}
-use lib.Seq.{length-take-le, get_or-take, get_or-drop}
+use lib.ListN.{length, get_or}
+use Rattle.std.specs.Cmp.Lexicographic.{pointwise}
+use Rattle.std.specs.List.{prefix_len}
+use Rattle.std.specs.Prelude.{nat_eq}
+use Rattle.std.proofs.lemmas.Slice.Eq.{bytes_eq-Decides}
 use Rattle.definition.specs.Lists.{choose, all, any}
 use Rattle.definition.specs.Names.{is_name_byte, same_name}
 use Rattle.definition.specs.Grammar.{words, place_of, sort_of_name}
 use Rattle.definition.specs.Lexical.{byte, run}
-use Rattle.definition.proofs.Lists.{same_name_eq}
-use Rattle.name.proofs.Laws.{start_lower, continue_start, continue_digit, step}
+use Rattle.definition.proofs.Lists.{same_name_eq, same_name_refl}
+use Rattle.name.proofs.Laws.{start_lower, continue_start}
 use Rattle.parser_laws.proofs.Tests.{clash, both}
 
 -- ---- How far a name reaches.
@@ -21,27 +24,25 @@ use Rattle.parser_laws.proofs.Tests.{clash, both}
 pub lower : (b : ℕ) → 97 ≤ b → b ≤ 122 → is_name_byte b ≡ true
 lower b h k = continue_start b (start_lower b h ∙ le-leb b 122 k)
 
-pub past_lower : (b : ℕ) → 122 < b → is_name_byte b ≡ false
-past_lower b h = continue_digit b (start_lower b (omega arith) ∙ lt-leb b 122 h) (omega arith) ∙ lt-leb b 57 (omega arith)
+-- How many bytes pass a test, in the words of std.
+pub run_prefix : (p : ℕ → Bool) (bs : List ℕ) → run p bs ≡ prefix_len p bs
+unfolding run
+run_prefix p [] = refl
+run_prefix p (b ∷ bs) = go (p b) (run_prefix p bs)
+  where
+    go : (t : Bool) → run p bs ≡ prefix_len p bs → choose t (1 + run p bs) 0 ≡ cond t (1 + prefix_len p bs) 0
+    go true h = ap (λ (n : ℕ). 1 + n) h
+    go false h = refl
 
-module _ (p : ℕ → Bool) (s : List ℕ) (at i : ℕ) (k : at ≤ i) where
-  pub run_on : i < length s → p (get_or s i 0) ≡ true → run p (drop at s) ≡ i - at + run p (drop i s) → run p (drop at s) ≡ i + 1 - at + run p (drop (i + 1) s)
-  unfolding run
-  run_on l e h =
-      let g : run p (drop i s) ≡ 1 + run p (drop (i + 1) s) = rw (step s i l, e) in
-      omega arith
-
-  pub run_stops : i < length s → p (get_or s i 0) ≡ false → run p (drop at s) ≡ i - at + run p (drop i s) → i - at ≡ run p (drop at s)
-  unfolding run
-  run_stops l e h =
-      let g : run p (drop i s) ≡ 0 = rw (step s i l, e) in
-      omega arith
-
-  pub run_ends : length s ≤ i → run p (drop at s) ≡ i - at + run p (drop i s) → i - at ≡ run p (drop at s)
-  unfolding run
-  run_ends l h =
-      let g : run p (drop i s) ≡ 0 = rw (drop_of_length-le s l) in
-      omega arith
+-- What `==` says of two names is what their order says.
+pub same_as : (x y : List ℕ) → pointwise nat_eq x y ≡ same_name x y
+same_as x y = go (pointwise nat_eq x y) refl (same_name x y) refl
+  where
+    go : (t : Bool) → pointwise nat_eq x y ≡ t → (u : Bool) → same_name x y ≡ u → t ≡ u
+    go true e true f = refl
+    go true e false f = clash (sym f ∙ ap (same_name x) (sym ((bytes_eq-Decides x y).0 e)) ∙ same_name_refl x)
+    go false e true f = clash (sym e ∙ (bytes_eq-Decides x y).1 (same_name_eq x y f))
+    go false e false f = refl
 
 -- ---- Which word a name is.
 
@@ -103,37 +104,29 @@ marked n i bs y = not (eqb (length y) n) || any (eqb (byte i y)) bs
 unfoldable pub deciding : ℕ → ℕ → List ℕ → Bool
 deciding n i bs = ltb i n && all (marked n i bs) words
 
--- The name is a part of a text; the byte at its place i is the text's byte k.
-module _ (s : List ℕ) (at n : ℕ) (fits : at + n ≤ length s) where
-  part_length : length (take n (drop at s)) ≡ n
-  part_length = length-take-le n (drop at s) (rw (length-drop at s) (omega arith))
+pub only : (w : List ℕ) (n : ℕ) → length w ≡ n → (x : List ℕ) (i : ℕ) → alone x n i ≡ true → get_or w i 0 ≡ byte i x →
+    choose (same_name w x) (sort_of_name x) 54 ≡ sort_of_name w
+unfolding alone
+only w n l x i a e =
+    let b = both (ltb i n) (all (λ y. same_name y x || elsewhere x n i y) words) a in
+    let f : elsewhere x n i w ≡ false = rw (eq-eqb _ _ l, eq-eqb _ _ e) in
+    one_word (elsewhere x n i) x w f b.1
 
-  part_byte : (i k : ℕ) → k ≡ at + i → ltb i n ≡ true → byte i (take n (drop at s)) ≡ get_or s k 0
-  part_byte i k e h = get_or-take n (drop at s) i 0 (ltb-true i n h) ∙ get_or-drop at s i 0 ∙ ap (λ (j : ℕ). get_or s j 0) (sym e)
+pub only_size : (w x : List ℕ) → length w ≡ length x → lone x ≡ true → choose (same_name w x) (sort_of_name x) 54 ≡ sort_of_name w
+unfolding lone
+only_size w x e a =
+    let f : not (eqb (length w) (length x)) ≡ false = rw (eq-eqb _ _ e) in
+    one_word (λ y. not (eqb (length y) (length x))) x w f a
 
-  pub only : (x : List ℕ) (i k : ℕ) → k ≡ at + i → alone x n i ≡ true → get_or s k 0 ≡ byte i x →
-      choose (same_name (take n (drop at s)) x) (sort_of_name x) 54 ≡ sort_of_name (take n (drop at s))
-  unfolding alone
-  only x i k d a e =
-      let b = both (ltb i n) (all (λ y. same_name y x || elsewhere x n i y) words) a in
-      let f : elsewhere x n i (take n (drop at s)) ≡ false = rw (eq-eqb _ _ part_length, eq-eqb _ _ (part_byte i k d b.0 ∙ e)) in
-      one_word (elsewhere x n i) x (take n (drop at s)) f b.1
+pub no_byte : (w : List ℕ) (n : ℕ) → length w ≡ n → (i : ℕ) (bs : List ℕ) → deciding n i bs ≡ true → Passed bs (get_or w i 0) → 54 ≡ sort_of_name w
+unfolding deciding
+no_byte w n l i bs a h =
+    let b = both (ltb i n) (all (marked n i bs) words) a in
+    let f : marked n i bs w ≡ false = rw (eq-eqb _ _ l, passed bs (get_or w i 0) h) in
+    sym (no_word (marked n i bs) w f b.1)
 
-  pub only_size : (x : List ℕ) → n ≡ length x → lone x ≡ true → choose (same_name (take n (drop at s)) x) (sort_of_name x) 54 ≡ sort_of_name (take n (drop at s))
-  unfolding lone
-  only_size x e a =
-      let f : not (eqb (length (take n (drop at s))) (length x)) ≡ false = rw (eq-eqb _ _ (part_length ∙ e)) in
-      one_word (λ y. not (eqb (length y) (length x))) x (take n (drop at s)) f a
-
-  pub no_byte : (i k : ℕ) (bs : List ℕ) → k ≡ at + i → deciding n i bs ≡ true → Passed bs (get_or s k 0) → 54 ≡ sort_of_name (take n (drop at s))
-  unfolding deciding
-  no_byte i k bs d a h =
-      let b = both (ltb i n) (all (marked n i bs) words) a in
-      let f : marked n i bs (take n (drop at s)) ≡ false = rw (eq-eqb _ _ part_length, part_byte i k d b.0, passed bs (get_or s k 0) h) in
-      sym (no_word (marked n i bs) (take n (drop at s)) f b.1)
-
-  pub no_size : (ns : List ℕ) → sizes ns ≡ true → Passed ns n → 54 ≡ sort_of_name (take n (drop at s))
-  unfolding sizes
-  no_size ns a h =
-      let f : any (eqb (length (take n (drop at s)))) ns ≡ false = rw part_length (passed ns n h) in
-      sym (no_word (λ y. any (eqb (length y)) ns) (take n (drop at s)) f a)
+pub no_size : (w ns : List ℕ) → sizes ns ≡ true → Passed ns (length w) → 54 ≡ sort_of_name w
+unfolding sizes
+no_size w ns a h =
+    let f : any (eqb (length w)) ns ≡ false = passed ns (length w) h in
+    sym (no_word (λ y. any (eqb (length y)) ns) w f a)

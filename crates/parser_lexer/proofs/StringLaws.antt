@@ -1,40 +1,34 @@
--- The laws of strings at a place of a text: first of what both kinds share, then one for each answer.
+-- The laws of strings: first of what both kinds share, then one for each answer.
 use mathlib.Core.Path.{◌≡◌, refl, sym, ap, ◌∙◌}
-use mathlib.Core.Bool.{Bool, true, false, ◌&&◌, ◌||◌}
+use mathlib.Core.Bool.{Bool, true, false, cond, not, ◌&&◌, ◌||◌}
 use mathlib.Core.List.{List, [], ◌∷◌}
+use mathlib.Core.Logic.{inl, inr}
 use mathlib.Core.Option.{Option, none, some}
 use Prim.Native.Nat.{ℕ, zero, suc, ◌+◌, ◌-◌, ◌<◌, ◌≤◌}
 use native.Mathlib.Nat.{add_assoc, zero-add}
 use native.Mathlib.Omega.{arith}
-use borrow.Author.Tests.{eq-eqb, ne_eqb, leb-true}
+use borrow.Author.Tests.{eq-eqb, ne_eqb, eqb-true, eqb-false, leb-true, le-leb}
 use lib.Dec.{eqb, leb}
-use lib.ListN.{length, get_or, drop, drop_of_length-le}
-use lib.Seq.{drop-drop}
+use lib.ListN.{length, get_or, drop, length-drop}
+use Rattle.std.proofs.lemmas.List.Sums.{prefix_len-le-length}
+use Rattle.std.specs.List.{prefix_len}
+use types.Run.{OneOf}
 use Rattle.definition.specs.Lists.{choose, found, any}
-use Rattle.definition.specs.Lexical.{between, character, ends_line, is_digit, is_hex, escape, plain, tripled, block, lexed, string}
-use Rattle.name.proofs.Laws.{step}
-use Rattle.parser_laws.proofs.Tests.{both}
-use Rattle.parser_laws.proofs.Gluing.{character_size}
-use Rattle.parser_lexer.specs.Strings.{is_escaped, code_at, plain_part, block_part, string_of}
-use Rattle.parser_lexer.proofs.CharacterLaws.{byte_at, first_at, character_at, of_one}
+use Rattle.definition.specs.Lexical.{byte, between, character, ends_line, is_digit, is_hex, escape, plain, tripled, block, lexed, unreadable, string}
+use Rattle.parser_laws.proofs.Tests.{both, clash}
+use Rattle.parser_laws.proofs.Gluing.{test_there, character_size}
+use Rattle.parser_lexer.specs.Strings.{is_simple, is_code, later, plain_part, BlockPart, string_token}
+use Rattle.parser_lexer.proofs.CharacterLaws.{by_three, of_one}
 
 -- ---- Bytes that are passed over.
 
--- A measure of what stands k bytes on, from here.
-abbrev pub later : ℕ → Option ℕ → Option ℕ
-later k o = found o (λ n. some (k + n)) none
-
-later_zero : (o : Option ℕ) → o ≡ later 0 o
+pub later_zero : (o : Option ℕ) → o ≡ later 0 o
 later_zero none = refl
 later_zero (some n) = ap some (sym (zero-add n))
 
-later_later : (j k : ℕ) (o : Option ℕ) → later j (later k o) ≡ later (j + k) o
+pub later_later : (j k : ℕ) (o : Option ℕ) → later j (later k o) ≡ later (j + k) o
 later_later j k none = refl
 later_later j k (some n) = ap some (sym (add_assoc j k n))
-
-string_later : (j k : ℕ) (o : Option ℕ) → string_of j (later k o) ≡ string_of (j + k) o
-string_later j k none = refl
-string_later j k (some n) = ap (λ (m : ℕ). lexed 16 m) (sym (add_assoc j k n))
 
 -- A function that counts down the bytes to pass over measures what stands after them.
 module _ (f : ℕ → List ℕ → Option ℕ) (ends : (k : ℕ) → f k [] ≡ none) (goes : (k b : ℕ) (bs : List ℕ) → f (suc k) (b ∷ bs) ≡ later 1 (f k bs)) where
@@ -49,150 +43,111 @@ module _ (f : ℕ → List ℕ → Option ℕ) (ends : (k : ℕ) → f k [] ≡ 
   onward zero h b bs = absurd (h refl)
   onward (suc n) h b bs = let e : suc n - 1 ≡ n = omega arith in rw e (sym (goes n b bs) ∙ passes (suc n) (b ∷ bs))
 
--- ---- A string of which the bytes before i are read.
-
-pub string_goes : (f : List ℕ → Option ℕ) (s : List ℕ) (at i n : ℕ) → at ≤ i → f (drop i s) ≡ later n (f (drop (i + n) s)) →
-    string_of (i - at) (f (drop i s)) ≡ string_of (i + n - at) (f (drop (i + n) s))
-string_goes f s at i n l e =
-    let k : i - at + n ≡ i + n - at = omega arith in
-    ap (string_of (i - at)) e ∙ string_later (i - at) n (f (drop (i + n) s)) ∙ ap (λ (j : ℕ). string_of j (f (drop (i + n) s))) k
-
 -- ---- An escape.
 
-test_itself : (t : Bool) → choose t true false ≡ t
-test_itself true = refl
-test_itself false = refl
+-- An escape lies in the bytes: none of its tests passes past the end.
+pub escape_size : (bs : List ℕ) → escape bs ≤ length bs
+unfolding escape any is_hex is_digit
+escape_size bs =
+    go (any (eqb (byte 0 bs)) (34 ∷ 92 ∷ 47 ∷ 98 ∷ 102 ∷ 110 ∷ 114 ∷ 116 ∷ [])) refl (eqb (byte 0 bs) 117)
+    (is_hex (byte 1 bs) && is_hex (byte 2 bs) && is_hex (byte 3 bs) && is_hex (byte 4 bs)) refl
+  where
+    go : (t : Bool) → any (eqb (byte 0 bs)) (34 ∷ 92 ∷ 47 ∷ 98 ∷ 102 ∷ 110 ∷ 114 ∷ 116 ∷ []) ≡ t → (u v : Bool) →
+        (is_hex (byte 1 bs) && is_hex (byte 2 bs) && is_hex (byte 3 bs) && is_hex (byte 4 bs)) ≡ v → choose t 1 (choose u (choose v 5 0) 0) ≤ length bs
+    go true e u v f = let l = test_there [] (λ y. any (eqb y) (34 ∷ 92 ∷ 47 ∷ 98 ∷ 102 ∷ 110 ∷ 114 ∷ 116 ∷ [])) refl 0 bs e in omega arith
+    go false e true true f =
+        let p = both (is_hex (byte 1 bs) && is_hex (byte 2 bs) && is_hex (byte 3 bs)) (is_hex (byte 4 bs)) f in
+        let l = test_there [] is_hex refl 4 bs p.1 in
+        omega arith
+    go false e true false f = omega arith
+    go false e false v f = omega arith
 
-pub escaped_last : (b : ℕ) → (b ≡ 34 → ⊥) → (b ≡ 92 → ⊥) → (b ≡ 47 → ⊥) → (b ≡ 98 → ⊥) → (b ≡ 102 → ⊥) → (b ≡ 110 → ⊥) → (b ≡ 114 → ⊥) → is_escaped b ≡ eqb b 116
-unfolding any
-escaped_last b h i j k l m n = rw (ne_eqb b 34 h, ne_eqb b 92 i, ne_eqb b 47 j, ne_eqb b 98 k, ne_eqb b 102 l, ne_eqb b 110 m, ne_eqb b 114 n)
-    (test_itself (eqb b 116))
+pub and_and : (a b c : Bool) → (a && (b && c)) ≡ (a && b && c)
+and_and true b c = refl
+and_and false b c = refl
 
-pub hex_digit : (b : ℕ) → between 48 57 b ≡ true → is_hex b ≡ true
-unfolding is_hex is_digit
-hex_digit b e = rw e
+pub and_pairs : (a b c d : Bool) → ((a && b) && (c && d)) ≡ (a && b && c && d)
+and_pairs a b c d = and_and (a && b) c d
 
-module _ (b : ℕ) (no_digit : between 48 57 b ≡ false) where
-  pub hex_capital : between 65 70 b ≡ true → is_hex b ≡ true
-  unfolding is_hex is_digit
-  hex_capital e = rw (no_digit, e)
+pub escape_one : (bs : List ℕ) → OneOf (34 ∷ 47 ∷ 92 ∷ 98 ∷ 102 ∷ 110 ∷ 114 ∷ 116 ∷ []) (get_or bs 0 0) → 1 ≡ escape bs
+unfolding escape any
+escape_one bs (inl h) = rw h
+escape_one bs (inr (inl h)) = rw h
+escape_one bs (inr (inr (inl h))) = rw h
+escape_one bs (inr (inr (inr (inl h)))) = rw h
+escape_one bs (inr (inr (inr (inr (inl h))))) = rw h
+escape_one bs (inr (inr (inr (inr (inr (inl h)))))) = rw h
+escape_one bs (inr (inr (inr (inr (inr (inr (inl h))))))) = rw h
+escape_one bs (inr (inr (inr (inr (inr (inr (inr h))))))) = rw h
 
-  pub hex_small : between 65 70 b ≡ false → is_hex b ≡ between 97 102 b
-  unfolding is_hex is_digit
-  hex_small e = rw (no_digit, e)
+pub escape_code : (bs : List ℕ) → get_or bs 0 0 ≡ 117 → escape bs ≡ choose (is_code bs) 5 0
+unfolding escape any
+escape_code bs h = rw h
 
-module _ (s : List ℕ) (at : ℕ) where
-  pub code_first : is_hex (get_or s (at + 1) 0) ≡ false → code_at s at ≡ false
-  code_first e = rw e
+pub escape_none : (bs : List ℕ) (b : ℕ) → b ≡ get_or bs 0 0 → (OneOf (34 ∷ 47 ∷ 92 ∷ 98 ∷ 102 ∷ 110 ∷ 114 ∷ 116 ∷ []) b → ⊥) → (b ≡ 117 → ⊥) → 0 ≡ escape bs
+unfolding escape any
+escape_none bs b e n u = rw (
+  ← e,
+  ne_eqb b 34 (λ h. n (inl h)),
+  ne_eqb b 92 (λ h. n (inr (inr (inl h)))),
+  ne_eqb b 47 (λ h. n (inr (inl h))),
+  ne_eqb b 98 (λ h. n (inr (inr (inr (inl h))))),
+  ne_eqb b 102 (λ h. n (inr (inr (inr (inr (inl h)))))),
+  ne_eqb b 110 (λ h. n (inr (inr (inr (inr (inr (inl h))))))),
+  ne_eqb b 114 (λ h. n (inr (inr (inr (inr (inr (inr (inl h)))))))),
+  ne_eqb b 116 (λ h. n (inr (inr (inr (inr (inr (inr (inr h)))))))),
+  ne_eqb b 117 u,
+)
 
-  module _ (first : is_hex (get_or s (at + 1) 0) ≡ true) where
-    pub code_second : is_hex (get_or s (at + 2) 0) ≡ false → code_at s at ≡ false
-    code_second e = rw (first, e)
+-- ---- ASCII has one byte.
 
-    module _ (second : is_hex (get_or s (at + 2) 0) ≡ true) where
-      pub code_third : is_hex (get_or s (at + 3) 0) ≡ false → code_at s at ≡ false
-      code_third e = rw (first, second, e)
+pub ascii : (bs : List ℕ) → 32 ≤ get_or bs 0 0 → get_or bs 0 0 ≤ 127 → character bs ≡ 1
+ascii bs h k = by_three bs ∙ of_one _ _ _ h k
 
-      pub code_fourth : is_hex (get_or s (at + 3) 0) ≡ true → code_at s at ≡ is_hex (get_or s (at + 4) 0)
-      code_fourth e = rw (first, second, e)
-
-module _ (s : List ℕ) (at : ℕ) where
-  pub escape_one : is_escaped (get_or s at 0) ≡ true → escape (drop at s) ≡ 1
-  unfolding escape
-  escape_one e = rw (first_at s at, e)
-
-  module _ (not-one : is_escaped (get_or s at 0) ≡ false) where
-    pub escape_none : (get_or s at 0 ≡ 117 → ⊥) → escape (drop at s) ≡ 0
-    unfolding escape
-    escape_none e = rw (first_at s at, not-one, ne_eqb _ _ e)
-
-    pub escape_code : get_or s at 0 ≡ 117 → escape (drop at s) ≡ choose (code_at s at) 5 0
-    unfolding escape
-    escape_code e = rw (first_at s at, not-one, eq-eqb _ _ e, byte_at s at 1, byte_at s at 2, byte_at s at 3, byte_at s at 4)
-
--- ---- A character has three bytes at most, and ASCII has one.
-
-module _ (s : List ℕ) (at : ℕ) where
-  pub character_most : character (drop at s) ≤ 3
-  character_most = rw (character_at s at) (character_size (get_or s at 0) (get_or s (at + 1) 0 ∷ get_or s (at + 2) 0 ∷ []))
-
-  pub ascii : between 32 127 (get_or s at 0) ≡ true → character (drop at s) ≡ 1
-  ascii e =
-      let p = both (leb 32 (get_or s at 0)) (leb (get_or s at 0) 127) e in
-      character_at s at ∙ of_one _ _ _ (leb-true _ _ p.0) (leb-true _ _ p.1)
-
-  pub not_a_line : between 32 127 (get_or s at 0) ≡ true → ends_line (get_or s at 0) ≡ false
-  unfolding ends_line
-  not_a_line e =
-      let p = both (leb 32 (get_or s at 0)) (leb (get_or s at 0) 127) e in
-      let h = leb-true 32 (get_or s at 0) p.0 in
-      simp (ne_eqb (get_or s at 0) 10 (omega arith), ne_eqb (get_or s at 0) 13 (omega arith))
+most : (bs : List ℕ) → 0 < length bs → character bs ≤ length bs
+most [] l = absurd (omega arith)
+most (b ∷ bs) l = character_size b bs
 
 -- ---- What goes on a string.
 
-module _ (s : List ℕ) (at : ℕ) where
-  module _ (e : ℕ) (measured : e ≡ escape (drop (at + 1) s)) (begun : get_or s at 0 ≡ 92) where
-    pub part_broken : e ≡ 0 → plain_part (drop at s) ≡ 0
-    unfolding plain_part
-    part_broken z = rw (first_at s at, eq-eqb _ _ begun, drop-drop 1 at s, ← measured, eq-eqb _ _ z)
-
-    pub part_escape : (e ≡ 0 → ⊥) → plain_part (drop at s) ≡ 1 + e
-    unfolding plain_part
-    part_escape z = rw (first_at s at, eq-eqb _ _ begun, drop-drop 1 at s, ← measured, ne_eqb _ _ z)
-
-  module _ (no-escape : get_or s at 0 ≡ 92 → ⊥) where
-    pub part_line : ends_line (get_or s at 0) ≡ true → plain_part (drop at s) ≡ 0
-    unfolding plain_part
-    part_line e = rw (first_at s at, ne_eqb _ _ no-escape, e)
-
-    pub part_character : ends_line (get_or s at 0) ≡ false → plain_part (drop at s) ≡ character (drop at s)
-    unfolding plain_part
-    part_character e = rw (first_at s at, ne_eqb _ _ no-escape, e)
-
-    pub part_ascii : between 32 127 (get_or s at 0) ≡ true → plain_part (drop at s) ≡ 1
-    part_ascii e = part_character (not_a_line s at e) ∙ ascii s at e
-
-pub line_feed : (b : ℕ) → b ≡ 10 → ends_line b ≡ true
-unfolding ends_line
-line_feed b e = rw e
-
-pub carriage_return : (b : ℕ) → b ≡ 13 → ends_line b ≡ true
-unfolding ends_line
-carriage_return b e = rw e
-
-pub no_line : (b : ℕ) → (b ≡ 10 → ⊥) → (b ≡ 13 → ⊥) → ends_line b ≡ false
+no_line : (b : ℕ) → (b ≡ 10 → ⊥) → (b ≡ 13 → ⊥) → ends_line b ≡ false
 unfolding ends_line
 no_line b e f = simp (ne_eqb b 10 e, ne_eqb b 13 f)
 
--- A line feed ends the line, so no string goes on over it.
-pub part_feed : (s : List ℕ) (at : ℕ) → get_or s at 0 ≡ 10 → plain_part (drop at s) ≡ 0
-part_feed s at e = part_line s at (omega arith) (line_feed (get_or s at 0) e)
+module _ (bs : List ℕ) where
+  module _ (e : ℕ) (measured : e ≡ escape (drop 1 bs)) (begun : get_or bs 0 0 ≡ 92) where
+    pub part_broken : e ≡ 0 → 0 ≡ plain_part bs
+    unfolding plain_part
+    part_broken z = rw (eq-eqb _ _ begun, ← measured, eq-eqb _ _ z)
 
--- ---- What goes on a block string.
+    pub part_escape : (e ≡ 0 → ⊥) → 1 + e ≡ plain_part bs
+    unfolding plain_part
+    part_escape z = rw (eq-eqb _ _ begun, ← measured, ne_eqb _ _ z)
 
-module _ (s : List ℕ) (at : ℕ) where
-  pub block_escape : get_or s at 0 ≡ 92 → block_part (drop at s) ≡ choose (tripled (drop (at + 1) s)) 4 1
-  unfolding block_part
-  block_escape e =
-      let a : between 32 127 (get_or s at 0) ≡ true = rw e in
-      rw (first_at s at, eq-eqb _ _ e, drop-drop 1 at s, ascii s at a)
+  pub part_line : OneOf (10 ∷ 13 ∷ []) (get_or bs 0 0) → 0 ≡ plain_part bs
+  unfolding plain_part ends_line
+  part_line (inl e) = rw e
+  part_line (inr e) = rw e
 
-  pub block_character : (get_or s at 0 ≡ 92 → ⊥) → block_part (drop at s) ≡ character (drop at s)
-  unfolding block_part
-  block_character e = rw (first_at s at, ne_eqb _ _ e)
+  pub part_character : (get_or bs 0 0 ≡ 92 → ⊥) → (get_or bs 0 0 ≡ 10 → ⊥) → (get_or bs 0 0 ≡ 13 → ⊥) → character bs ≡ plain_part bs
+  unfolding plain_part
+  part_character n e f = rw (ne_eqb _ _ n, no_line (get_or bs 0 0) e f)
 
-  pub tripled_first : (get_or s at 0 ≡ 34 → ⊥) → tripled (drop at s) ≡ false
-  unfolding tripled
-  tripled_first e = rw (first_at s at, ne_eqb _ _ e)
+  pub part_other : (get_or bs 0 0 ≡ 92 → ⊥) → (OneOf (10 ∷ 13 ∷ []) (get_or bs 0 0) → ⊥) → character bs ≡ plain_part bs
+  part_other n o = part_character n (λ e. o (inl e)) (λ e. o (inr e))
 
-  module _ (first : get_or s at 0 ≡ 34) where
-    pub tripled_second : (get_or s (at + 1) 0 ≡ 34 → ⊥) → tripled (drop at s) ≡ false
-    unfolding tripled
-    tripled_second e = rw (first_at s at, byte_at s at 1, eq-eqb _ _ first, ne_eqb _ _ e)
+  pub part_ascii : (get_or bs 0 0 ≡ 92 → ⊥) → 32 ≤ get_or bs 0 0 → get_or bs 0 0 ≤ 127 → 1 ≡ plain_part bs
+  part_ascii n h k = sym (ascii bs h k) ∙ part_character n (omega arith) (omega arith)
 
-    pub tripled_third : get_or s (at + 1) 0 ≡ 34 → tripled (drop at s) ≡ eqb (get_or s (at + 2) 0) 34
-    unfolding tripled
-    tripled_third e = rw (first_at s at, byte_at s at 1, byte_at s at 2, eq-eqb _ _ first, eq-eqb _ _ e)
+  pub part_size : 0 < length bs → plain_part bs ≤ length bs
+  unfolding plain_part
+  part_size l = go (eqb (get_or bs 0 0) 92) (ends_line (get_or bs 0 0)) (eqb (escape (drop 1 bs)) 0)
+    where
+      go : (t u v : Bool) → choose t (choose v 0 (1 + escape (drop 1 bs))) (choose u 0 (character bs)) ≤ length bs
+      go true u true = omega arith
+      go true u false = omega (arith, escape_size (drop 1 bs), length-drop 1 bs)
+      go false true v = omega arith
+      go false false v = omega (arith, most bs l)
 
 -- ---- A turn along a string.
 
@@ -224,23 +179,30 @@ plain_some b bs n q m z = rw q (go (eqb b 92) (ends_line b) (eqb (escape bs) 0) 
     go false true v m = absurd (z m)
     go false false v m = rw (← m, ne_eqb n 0 z) (plain_onward n z b bs)
 
-module _ (s : List ℕ) (i : ℕ) (l : i < length s) where
-  pub plain_closes : get_or s i 0 ≡ 34 → plain 0 (drop i s) ≡ some 1
-  unfolding plain
-  plain_closes e = rw (step s i l, e)
-
-  module _ (more : get_or s i 0 ≡ 34 → ⊥) (n : ℕ) (part : n ≡ plain_part (drop i s)) where
-    pub plain_broken : n ≡ 0 → plain 0 (drop i s) ≡ none
-    plain_broken z = ap (plain 0) (step s i l) ∙ plain_none _ _ (ne_eqb _ _ more) (sym (ap plain_part (step s i l)) ∙ sym part ∙ z)
-
-    pub plain_goes : (n ≡ 0 → ⊥) → plain 0 (drop i s) ≡ later n (plain 0 (drop (i + n) s))
-    plain_goes z =
-        ap (plain 0) (step s i l) ∙ plain_some _ _ n (ne_eqb _ _ more) (part ∙ ap plain_part (step s i l)) z ∙
-        ap (λ (r : List ℕ). later n (plain 0 (drop n r))) (sym (step s i l)) ∙ ap (λ (r : List ℕ). later n (plain 0 r)) (drop-drop n i s)
-
-pub plain_end : (s : List ℕ) (i : ℕ) → length s ≤ i → plain 0 (drop i s) ≡ none
+pub plain_closes : (bs : List ℕ) → 0 < length bs → get_or bs 0 0 ≡ 34 → plain 0 bs ≡ some 1
 unfolding plain
-plain_end s i l = rw (drop_of_length-le s l)
+plain_closes [] l e = absurd (omega arith)
+plain_closes (b ∷ bs) l e = rw e
+
+module _ (bs : List ℕ) (l : 0 < length bs) (more : get_or bs 0 0 ≡ 34 → ⊥) (n : ℕ) (part : n ≡ plain_part bs) where
+  pub plain_broken : n ≡ 0 → plain 0 bs ≡ none
+  plain_broken z = go bs l more part
+    where
+      go : (bs : List ℕ) → 0 < length bs → (get_or bs 0 0 ≡ 34 → ⊥) → n ≡ plain_part bs → plain 0 bs ≡ none
+      go [] l m p = absurd (omega arith)
+      go (b ∷ bs) l m p = plain_none b bs (ne_eqb _ _ m) (sym p ∙ z)
+
+  pub plain_goes : (n ≡ 0 → ⊥) → plain 0 bs ≡ later n (plain 0 (drop n bs))
+  plain_goes z = go bs l more part
+    where
+      go : (bs : List ℕ) → 0 < length bs → (get_or bs 0 0 ≡ 34 → ⊥) → n ≡ plain_part bs → plain 0 bs ≡ later n (plain 0 (drop n bs))
+      go [] l m p = absurd (omega arith)
+      go (b ∷ bs) l m p = plain_some b bs n (ne_eqb _ _ m) p z
+
+pub plain_end : (bs : List ℕ) → length bs ≡ 0 → plain 0 bs ≡ none
+unfolding plain
+plain_end [] l = refl
+plain_end (b ∷ bs) l = absurd (omega arith)
 
 -- ---- A turn along a block string.
 
@@ -248,9 +210,9 @@ block_onward : (n : ℕ) → (n ≡ 0 → ⊥) → (b : ℕ) (bs : List ℕ) →
 unfolding block
 block_onward = onward block (λ k. refl) (λ k b bs. refl)
 
-block_closed : (b : ℕ) (bs : List ℕ) → tripled (b ∷ bs) ≡ true → block 0 (b ∷ bs) ≡ some 3
-unfolding block
-block_closed b bs q = rw q
+-- How many bytes of a block string stand for one character, or for three quotes.
+unfoldable block_part : List ℕ → ℕ
+block_part bs = let c = character bs in choose (eqb (byte 0 bs) 92 && tripled (drop 1 bs)) 4 c
 
 block_none : (b : ℕ) (bs : List ℕ) → tripled (b ∷ bs) ≡ false → block_part (b ∷ bs) ≡ 0 → block 0 (b ∷ bs) ≡ none
 unfolding block block_part
@@ -271,30 +233,148 @@ block_some b bs n q m z = rw q (go (eqb b 92 && tripled bs) m)
     go true m = let e : 3 ≡ n - 1 = omega arith in ap (λ (k : ℕ). later 1 (block k bs)) e ∙ block_onward n z b bs
     go false m = rw (← m, ne_eqb n 0 z) (block_onward n z b bs)
 
-module _ (s : List ℕ) (i : ℕ) (l : i < length s) where
-  pub block_closes : tripled (drop i s) ≡ true → block 0 (drop i s) ≡ some 3
-  block_closes e = ap (block 0) (step s i l) ∙ block_closed _ _ (sym (ap tripled (step s i l)) ∙ e)
+-- Three quotes, told in the order of the code.
+pub tripled_then : (bs : List ℕ) → get_or bs 0 0 ≡ 34 → (eqb (get_or bs 1 0) 34 && eqb (get_or bs 2 0) 34) ≡ tripled bs
+unfolding tripled
+tripled_then bs e = rw e
 
-  module _ (more : tripled (drop i s) ≡ false) (n : ℕ) (part : n ≡ block_part (drop i s)) where
-    pub block_broken : n ≡ 0 → block 0 (drop i s) ≡ none
-    block_broken z = ap (block 0) (step s i l) ∙ block_none _ _ (sym (ap tripled (step s i l)) ∙ more) (sym (ap block_part (step s i l)) ∙ sym part ∙ z)
+pub tripled_first : (bs : List ℕ) → (get_or bs 0 0 ≡ 34 → ⊥) → false ≡ tripled bs
+unfolding tripled
+tripled_first bs e = rw (ne_eqb _ _ e)
 
-    pub block_goes : (n ≡ 0 → ⊥) → block 0 (drop i s) ≡ later n (block 0 (drop (i + n) s))
-    block_goes z =
-        ap (block 0) (step s i l) ∙ block_some _ _ n (sym (ap tripled (step s i l)) ∙ more) (part ∙ ap block_part (step s i l)) z ∙
-        ap (λ (r : List ℕ). later n (block 0 (drop n r))) (sym (step s i l)) ∙ ap (λ (r : List ℕ). later n (block 0 r)) (drop-drop n i s)
+pub simple_first : (b : ℕ) → 32 ≤ b → b ≤ 127 → (b ≡ 34 → ⊥) → (b ≡ 92 → ⊥) → is_simple b ≡ true
+simple_first b h k q s = rw (le-leb 32 b h, le-leb b 127 k, ne_eqb b 34 q, ne_eqb b 92 s)
 
-pub block_end : (s : List ℕ) (i : ℕ) → length s ≤ i → block 0 (drop i s) ≡ none
+pub block_closes : (bs : List ℕ) → tripled bs ≡ true → block 0 bs ≡ some 3
+unfolding block tripled
+block_closes [] q = clash q
+block_closes (b ∷ bs) q = rw q
+
+pub triple_size : (bs : List ℕ) → tripled bs ≡ true → 3 ≤ length bs
+unfolding tripled
+triple_size bs e =
+    let p = both (eqb (byte 0 bs) 34 && eqb (byte 1 bs) 34) (eqb (byte 2 bs) 34) e in
+    let l = test_there [] (λ y. eqb y 34) refl 2 bs p.1 in
+    omega arith
+
+part_within : (bs : List ℕ) → 0 < length bs → block_part bs ≤ length bs
+unfolding block_part
+part_within bs l = go (eqb (byte 0 bs) 92) (tripled (drop 1 bs)) refl
+  where
+    go : (t u : Bool) → tripled (drop 1 bs) ≡ u → choose (t && u) 4 (character bs) ≤ length bs
+    go true true e = omega (arith, triple_size (drop 1 bs) e, length-drop 1 bs)
+    go true false e = most bs l
+    go false u e = most bs l
+
+-- One character, or three quotes behind a backslash.
+one_part : (bs : List ℕ) (n : ℕ) → 0 < length bs → tripled bs ≡ false → n ≡ block_part bs → BlockPart bs n
+one_part [] n l q p = absurd (omega arith)
+one_part (b ∷ bs) n l q p = record {
+  within = rw p (part_within (b ∷ bs) l);
+  goes = go (eqb n 0) refl;
+}
+  where
+    go : (t : Bool) → eqb n 0 ≡ t → block 0 (b ∷ bs) ≡ choose t none (later n (block 0 (drop n (b ∷ bs))))
+    go true e = block_none b bs q (sym p ∙ eqb-true n 0 e)
+    go false e = block_some b bs n q p (eqb-false n 0 e)
+
+module _ (bs : List ℕ) (l : 0 < length bs) (more : tripled bs ≡ false) where
+  pub block_escape : get_or bs 0 0 ≡ 92 → tripled (drop 1 bs) ≡ true → BlockPart bs 4
+  unfolding block_part
+  block_escape e t = one_part bs 4 l more (rw (eq-eqb _ _ e, t))
+
+  pub block_backslash : get_or bs 0 0 ≡ 92 → tripled (drop 1 bs) ≡ false → BlockPart bs 1
+  unfolding block_part
+  block_backslash e t = one_part bs 1 l more (rw (eq-eqb _ _ e, t) (sym (ascii bs (omega arith) (omega arith))))
+
+  pub block_quote : get_or bs 0 0 ≡ 34 → BlockPart bs 1
+  unfolding block_part
+  block_quote e = one_part bs 1 l more (rw (ne_eqb (get_or bs 0 0) 92 (omega arith)) (sym (ascii bs (omega arith) (omega arith))))
+
+  pub block_character : (get_or bs 0 0 ≡ 92 → ⊥) → BlockPart bs (character bs)
+  unfolding block_part
+  block_character e = one_part bs (character bs) l more (rw (ne_eqb _ _ e))
+
+simple_one : (b : ℕ) (bs : List ℕ) → between 32 127 b ≡ true → not (eqb b 34) ≡ true → not (eqb b 92) ≡ true → block 0 (b ∷ bs) ≡ later 1 (block 0 bs)
+unfolding block_part tripled
+simple_one b bs h q s =
+    let p = both (leb 32 b) (leb b 127) h in
+    let e : character (b ∷ bs) ≡ 1 = ascii (b ∷ bs) (leb-true 32 b p.0) (leb-true b 127 p.1) in
+    block_some b bs 1 (no_triple (eqb b 34) refl q) (rw (no_test (eqb b 92) s) (sym e)) (omega arith)
+  where
+    no_test : (t : Bool) → not t ≡ true → t ≡ false
+    no_test true e = clash e
+    no_test false e = refl
+
+    no_triple : (t : Bool) → eqb b 34 ≡ t → not t ≡ true → tripled (b ∷ bs) ≡ false
+    no_triple true e f = clash f
+    no_triple false e f = rw e
+
+-- A row of bytes that stand for themselves.
+simple_row : (bs : List ℕ) → block 0 bs ≡ later (prefix_len is_simple bs) (block 0 (drop (prefix_len is_simple bs) bs))
+simple_row [] = later_zero (block 0 [])
+simple_row (b ∷ bs) = go (is_simple b) refl (simple_row bs)
+  where
+    go : (t : Bool) → is_simple b ≡ t → block 0 bs ≡ later (prefix_len is_simple bs) (block 0 (drop (prefix_len is_simple bs) bs)) →
+        block 0 (b ∷ bs) ≡ later (cond t (1 + prefix_len is_simple bs) 0) (block 0 (drop (cond t (1 + prefix_len is_simple bs) 0) (b ∷ bs)))
+    go true e h =
+        let p = both (between 32 127 b && not (eqb b 34)) (not (eqb b 92)) e in
+        let q = both (between 32 127 b) (not (eqb b 34)) p.0 in
+        let z : suc (prefix_len is_simple bs) ≡ 1 + prefix_len is_simple bs = omega arith in
+        simple_one b bs q.0 q.1 p.1 ∙ ap (later 1) h ∙ later_later 1 (prefix_len is_simple bs) (block 0 (drop (prefix_len is_simple bs) bs)) ∙
+        ap (λ (m : ℕ). later (1 + prefix_len is_simple bs) (block 0 (drop m (b ∷ bs)))) z
+    go false e h = later_zero (block 0 (b ∷ bs))
+
+pub block_row : (bs : List ℕ) (n : ℕ) → is_simple (get_or bs 0 0) ≡ true → n ≡ prefix_len is_simple bs → BlockPart bs n
+block_row [] n e p = clash e
+block_row (b ∷ bs) n e p = record {
+  within = rw p (prefix_len-le-length is_simple (b ∷ bs));
+  goes = rw (ne_eqb n 0 positive, p) (simple_row (b ∷ bs));
+}
+  where
+    positive : n ≡ 0 → ⊥
+    positive z = let q : prefix_len is_simple (b ∷ bs) ≡ 1 + prefix_len is_simple bs = rw e in absurd (omega arith)
+
+pub block_end : (bs : List ℕ) → length bs ≡ 0 → block 0 bs ≡ none
 unfolding block
-block_end s i l = rw (drop_of_length-le s l)
+block_end [] l = refl
+block_end (b ∷ bs) l = absurd (omega arith)
+
+-- ---- A loop along a string of which k bytes are opened: the bytes before `rest` are read.
+
+abbrev pub read_to : (List ℕ → Option ℕ) → ℕ → List ℕ → List ℕ → Type 0
+read_to f k bs rest = (length rest ≤ length bs) × (later k (f (drop k bs)) ≡ later (length bs - length rest) (f rest))
+
+pub at_first : (f : List ℕ → Option ℕ) (k : ℕ) (bs : List ℕ) → k ≤ length bs → read_to f k bs (drop k bs)
+at_first f k bs l =
+    let d = length-drop k bs in
+    let z : length bs - length (drop k bs) ≡ k = omega arith in
+    (omega arith, rw z)
+
+pub reads_on : (f : List ℕ → Option ℕ) (k : ℕ) (bs rest : List ℕ) (n : ℕ) → read_to f k bs rest → n ≤ length rest → f rest ≡ later n (f (drop n rest)) →
+    read_to f k bs (drop n rest)
+reads_on f k bs rest n h l e =
+    let d = length-drop n rest in
+    let z : length bs - length rest + n ≡ length bs - length (drop n rest) = omega arith in
+    (omega arith, h.1 ∙ ap (later (length bs - length rest)) e ∙ later_later _ n (f (drop n rest)) ∙ ap (λ (m : ℕ). later m (f (drop n rest))) z)
+
+-- A part of no byte breaks a block string, and else it goes on.
+pub block_broken : (bs : List ℕ) (n : ℕ) → BlockPart bs n → n ≡ 0 → block 0 bs ≡ none
+block_broken bs n p e = p.goes ∙ rw (eq-eqb n 0 e)
+
+pub block_goes : (bs : List ℕ) (n : ℕ) → BlockPart bs n → (n ≡ 0 → ⊥) → block 0 bs ≡ later n (block 0 (drop n bs))
+block_goes bs n p e = p.goes ∙ rw (ne_eqb n 0 e)
 
 -- ---- The whole.
 
-module _ (s : List ℕ) (at : ℕ) where
-  pub string_block : tripled (drop at s) ≡ true → string (drop at s) ≡ string_of 3 (block 0 (drop (at + 3) s))
-  unfolding string
-  string_block e = rw (e, drop-drop 3 at s)
+token_later : (k : ℕ) (o : Option ℕ) → string_token (later k o) ≡ found o (λ n. lexed 16 (k + n)) unreadable
+token_later k none = refl
+token_later k (some n) = refl
 
-  pub string_plain : tripled (drop at s) ≡ false → string (drop at s) ≡ string_of 1 (plain 0 (drop (at + 1) s))
-  unfolding string
-  string_plain e = rw (e, drop-drop 1 at s)
+pub string_block : (bs : List ℕ) → tripled bs ≡ true → string_token (later 3 (block 0 (drop 3 bs))) ≡ string bs
+unfolding string
+string_block bs e = rw e (token_later 3 (block 0 (drop 3 bs)))
+
+pub string_plain : (bs : List ℕ) → tripled bs ≡ false → string_token (later 1 (plain 0 (drop 1 bs))) ≡ string bs
+unfolding string
+string_plain bs e = rw e (token_later 1 (plain 0 (drop 1 bs)))

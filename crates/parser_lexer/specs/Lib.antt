@@ -4,4 +4,5 @@ pub mod Characters
 pub mod Lexemes
 pub mod Measures
 pub mod Numbers
+pub mod Places
 pub mod Strings

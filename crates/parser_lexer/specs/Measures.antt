@@ -1,14 +1,14 @@
 -- What a measurement says, as Lexical has it.
-use Rattle.std.proofs.Math.Option.{Option, none, some}
-use Rattle.std.specs.Prelude.{ℕ, ◌≤◌}
-use Rattle.parser_lexer.specs.declared.measure.Measure.{Measure}
-use Rattle.parser_lexer.specs.declared.measure.Measure.TheVariants.{Bytes, Broken}
+use Rattle.std.proofs.Math.Option as math
+use Rattle.std.specs.Prelude.{ℕ, Option, Some, None}
+use Rattle.definition.specs.Lexical.{Lexeme, lexed, unreadable}
 
-abbrev pub measured : Measure → Option ℕ
-measured (Bytes n) = some n
-measured Broken = none
+-- So many bytes; or none, where what was begun is broken.
+abbrev pub measured : Option ℕ → math.Option ℕ
+measured (Some n) = math.some n
+measured None = math.none
 
--- It is at most so many bytes.
-abbrev pub Holds : ℕ → Measure → Type 0
-Holds most (Bytes n) = n ≤ most
-Holds most Broken = Unit {0}
+-- A number of a sort with so many bytes, or nothing readable.
+abbrev pub numbered : Option (ℕ × ℕ) → Lexeme
+numbered (Some (sort, size)) = lexed sort size
+numbered None = unreadable

@@ -1,16 +1,8 @@
 -- Parts of what Lexical says of a number, by names.
-use Rattle.std.specs.Prelude.{List, Bool, ◌||◌, ℕ, ◌+◌, eqb, get_or, drop}
+use Rattle.std.specs.Prelude.{List, Bool, ◌||◌, ℕ, ◌+◌, eqb, drop}
 use Rattle.definition.specs.Lists.{choose, found}
 use Rattle.definition.specs.Names.{is_name_start}
 use Rattle.definition.specs.Lexical.{is_digit, fraction, exponent, number_of, Lexeme, unreadable}
-
--- The sign at a place.
-abbrev pub sign_at : List ℕ → ℕ → ℕ
-sign_at text at = choose (eqb (get_or text at 0) 45) 1 0
-
--- Whether x or y stands at a place.
-abbrev pub is_either : List ℕ → ℕ → ℕ → ℕ → Bool
-is_either text at x y = eqb (get_or text at 0) x || eqb (get_or text at 0) y
 
 -- What may not follow a number.
 abbrev pub is_attached : ℕ → Bool

@@ -1,16 +1,12 @@
 -- Parts of what Lexical says of a string, by names.
-use Rattle.std.specs.Prelude.{List, [], ◌∷◌, Bool, ◌&&◌, ℕ, ◌+◌, eqb, get_or, drop}
-use Rattle.std.proofs.Math.Option.{Option}
-use Rattle.definition.specs.Lists.{choose, found, any}
-use Rattle.definition.specs.Lexical.{byte, character, ends_line, is_hex, escape, tripled, Lexeme, lexed, unreadable}
+use Rattle.std.specs.Prelude.{◌≡◌, List, Bool, ◌&&◌, not, ℕ, ◌+◌, ◌≤◌, eqb, drop, length}
+use Rattle.std.proofs.Math.Option.{Option, none, some}
+use Rattle.definition.specs.Lists.{choose, found}
+use Rattle.definition.specs.Lexical.{byte, between, character, ends_line, is_hex, escape, block, Lexeme, lexed, unreadable}
 
--- Whether the byte is an escape by itself.
-abbrev pub is_escaped : ℕ → Bool
-is_escaped b = any (eqb b) (34 ∷ 92 ∷ 47 ∷ 98 ∷ 102 ∷ 110 ∷ 114 ∷ 116 ∷ [])
-
--- Whether four hexadecimal digits follow a place.
-abbrev pub code_at : List ℕ → ℕ → Bool
-code_at text at = is_hex (get_or text (at + 1) 0) && is_hex (get_or text (at + 2) 0) && is_hex (get_or text (at + 3) 0) && is_hex (get_or text (at + 4) 0)
+-- Whether four hexadecimal digits follow the first byte.
+abbrev pub is_code : List ℕ → Bool
+is_code bs = is_hex (byte 1 bs) && is_hex (byte 2 bs) && is_hex (byte 3 bs) && is_hex (byte 4 bs)
 
 -- How many bytes go on a string where it is not closed: an escape with its `\`, or a character that does not end a line; 0 where neither stands.
 unfoldable pub plain_part : List ℕ → ℕ
@@ -20,10 +16,19 @@ plain_part bs =
     let other : ℕ = choose (ends_line (byte 0 bs)) 0 (character bs) in
     choose (eqb (byte 0 bs) 92) escaped other
 
--- The same of a block string: `\"""`, or a character.
-unfoldable pub block_part : List ℕ → ℕ
-block_part bs = let c = character bs in choose (eqb (byte 0 bs) 92 && tripled (drop 1 bs)) 4 c
+-- A byte of a block string that stands for itself alone, whatever comes after it.
+abbrev pub is_simple : ℕ → Bool
+is_simple b = between 32 127 b && not (eqb b 34) && not (eqb b 92)
 
--- A string of which k bytes are read, by what the rest of it measures.
-abbrev pub string_of : ℕ → Option ℕ → Lexeme
-string_of k o = found o (λ n. lexed 16 (k + n)) unreadable
+-- A measure of what stands k bytes on, from here.
+abbrev pub later : ℕ → Option ℕ → Option ℕ
+later k o = found o (λ n. some (k + n)) none
+
+-- A string of so many bytes, or nothing readable.
+abbrev pub string_token : Option ℕ → Lexeme
+string_token o = found o (λ n. lexed 16 n) unreadable
+
+-- So many bytes go on a block string that does not close there; none where it is broken.
+pub record BlockPart (bs : List ℕ) (n : ℕ) : Type 0 where
+  pub within : n ≤ length bs
+  pub goes : block 0 bs ≡ choose (eqb n 0) none (later n (block 0 (drop n bs)))

@@ -1,5 +1,5 @@
 // The characters of a text: SourceCharacter (2.1.1) in well-formed UTF-8, so no surrogate and nothing overlong.
-ghost use Rattle.std.specs.Prelude.{◌≡◌, [], ◌∷◌, ◌<◌, length, get_or, drop};
+ghost use Rattle.std.specs.Prelude.{◌≡◌, [], ◌∷◌, ◌&&◌, ◌<◌, eqb, length, get_or};
 ghost use Rattle.definition.specs.Lexical as lexical;
 ghost use Rattle.parser_lexer.specs.Characters.{second_of};
 
@@ -18,6 +18,8 @@ pub const LAST_OF_ONE: u8 = 127;
 // The first bytes of the characters of two and of three bytes; they follow on one another.
 pub const FIRST_OF_TWO: u8 = 194;
 
+pub const LAST_OF_TWO: u8 = 223;
+
 pub const FIRST_OF_THREE: u8 = 224;
 
 pub const LAST_OF_THREE: u8 = 239;
@@ -35,36 +37,35 @@ pub const BEFORE_SURROGATES: u8 = 237;
 pub const NO_SURROGATE: u8 = 159;
 
 // The byte at a place, 0 past the end.
-pub fn byte_at(text: &[u8], i: usize) -> u8
-    ensures { result ≡ get_or text.now i 0 }
+pub fn byte_at(bytes: &[u8], i: usize) -> u8
+    ensures { result ≡ get_or bytes.now i 0 }
 {
-    if i < text.len() {
-        return text[i];
-    }
-    0
+    bytes.get(i).copied().unwrap_or(0)
 }
 
-// Whether a byte lies between two others.
-pub fn within(lo: u8, hi: u8, b: u8) -> bool
-    ensures { result ≡ lexical.between lo hi b }
+// Whether two bytes follow the first.
+pub fn is_followed(bytes: &[u8], second: u8, third: u8) -> bool
+    ensures { result ≡ (eqb (get_or bytes.now 1 0) second && eqb (get_or bytes.now 2 0) third) }
 {
-    if b < lo {
-        return false;
-    }
-    b <= hi
+    byte_at(bytes, 1) == second && byte_at(bytes, 2) == third
+}
+
+// Whether the byte goes on a character.
+fn continues(b: u8) -> bool
+    ensures { result ≡ lexical.continues b }
+{
+    matches!(b, FIRST_ON..=LAST_ON)
 }
 
 // Whether the byte may follow the first one of a character of three bytes.
 fn is_second(b: u8, c: u8) -> bool
     ensures { result ≡ second_of b c }
 {
-    if b == FIRST_OF_THREE {
-        return within(NOT_OVERLONG, LAST_ON, c);
+    match b {
+        FIRST_OF_THREE => matches!(c, NOT_OVERLONG..=LAST_ON),
+        BEFORE_SURROGATES => matches!(c, FIRST_ON..=NO_SURROGATE),
+        _ => continues(c),
     }
-    if b == BEFORE_SURROGATES {
-        return within(FIRST_ON, NO_SURROGATE, c);
-    }
-    within(FIRST_ON, LAST_ON, c)
 }
 
 // How many bytes the character has that three bytes begin with, where the first is not ASCII.
@@ -72,49 +73,21 @@ fn wide(b: u8, c: u8, d: u8) -> usize
     requires { 127 < b }
     ensures { result ≡ lexical.character (b ∷ c ∷ d ∷ []) }
 {
-    if b < FIRST_OF_TWO {
-        return 0;
+    match b {
+        FIRST_OF_TWO..=LAST_OF_TWO if continues(c) => 2,
+        FIRST_OF_THREE..=LAST_OF_THREE if is_second(b, c) && continues(d) => 3,
+        _ => 0,
     }
-    if b < FIRST_OF_THREE {
-        if within(FIRST_ON, LAST_ON, c) {
-            return 2;
-        }
-        return 0;
-    }
-    if LAST_OF_THREE < b {
-        return 0;
-    }
-    if !is_second(b, c) {
-        return 0;
-    }
-    if within(FIRST_ON, LAST_ON, d) {
-        return 3;
-    }
-    0
 }
 
-// How many bytes the character at a place has; 0 where there is none.
-pub fn character(text: &[u8], at: usize) -> usize
-    requires { at < length text.now }
-    ensures { result ≡ lexical.character (drop at text.now) }
+// How many bytes the character has that the bytes begin with; 0 where they begin with none.
+pub fn character(bytes: &[u8]) -> usize
+    requires { 0 < length bytes.now }
+    ensures { result ≡ lexical.character bytes.now }
 {
-    let b = text[at];
-    if b < SPACE {
-        if b == TAB {
-            return 1;
-        }
-        if b == LINE_FEED {
-            return 1;
-        }
-        if b == CARRIAGE_RETURN {
-            return 1;
-        }
-        return 0;
+    match bytes[0] {
+        TAB | LINE_FEED | CARRIAGE_RETURN | SPACE..=LAST_OF_ONE => 1,
+        0..SPACE => 0,
+        b => wide(b, byte_at(bytes, 1), byte_at(bytes, 2)),
     }
-    if b <= LAST_OF_ONE {
-        return 1;
-    }
-    let c = byte_at(text, at + 1);
-    let d = byte_at(text, at + 2);
-    wide(b, c, d)
 }

@@ -1,117 +1,79 @@
 // Numbers: IntValue and FloatValue (2.9.1, 2.9.2).
-ghost use Rattle.std.specs.Prelude.{◌≡◌, ◌+◌, ◌-◌, ◌≤◌, ◌<◌, eqb, length, drop};
+ghost use Rattle.std.specs.Prelude.{◌≡◌, ◌||◌, ◌≤◌, eqb, length, get_or};
 ghost use Rattle.definition.specs.Lists.{choose};
 ghost use Rattle.definition.specs.Lexical as lexical;
 ghost use Rattle.parser_lexer.specs.Lexemes.{told};
-ghost use Rattle.parser_lexer.specs.Measures.{measured, Holds};
-ghost use Rattle.parser_lexer.specs.Numbers.{sign_at, is_either, is_attached, number_from};
+ghost use Rattle.parser_lexer.specs.Measures.{measured, numbered};
+ghost use Rattle.parser_lexer.specs.Numbers.{is_attached, number_from};
 
-use crate::characters::{byte_at, within};
+use crate::characters::byte_at;
 use crate::lexeme::Lexeme;
-use crate::measure::Measure;
 use crate::sorts::{FLOAT, INT};
 
-const PLUS: u8 = 43;
-
-const MINUS: u8 = 45;
-
-const POINT: u8 = 46;
-
-const ZERO: u8 = 48;
-
-const NINE: u8 = 57;
-
-const CAPITAL_E: u8 = 69;
-
-const SMALL_E: u8 = 101;
-
-// How many digits stand from a place on.
-fn digits(text: &[u8], at: usize) -> usize
-    requires { at ≤ length text.now }
-    ensures { (result ≡ lexical.run lexical.is_digit (drop at text.now)) ×
-        (at + result ≤ length text.now) }
+// How many digits the bytes begin with.
+fn digits(bytes: &[u8]) -> usize
+    ensures { result ≡ lexical.run lexical.is_digit bytes.now }
 {
-    let mut i = at;
-    while i < text.len() {
-        if !within(ZERO, NINE, text[i]) {
-            return i - at;
-        }
-        i += 1;
-    }
-    i - at
+    bytes.iter().take_while(|b| b.is_ascii_digit()).count()
 }
 
 // A minus or nothing.
-fn sign(text: &[u8], at: usize) -> usize
-    requires { at < length text.now }
-    ensures { (result ≡ sign_at text.now at) ×
-        (result ≤ 1) }
+fn sign(bytes: &[u8]) -> usize
+    ensures { result ≡ choose (eqb (get_or bytes.now 0 0) 45) 1 0 }
 {
-    if text[at] == MINUS {
-        return 1;
-    }
-    0
+    usize::from(byte_at(bytes, 0) == b'-')
 }
 
 // The digits of an integer part: 0 stands alone.
-fn integer(text: &[u8], at: usize) -> usize
-    requires { at ≤ length text.now }
-    ensures { (result ≡ lexical.integer (drop at text.now)) ×
-        (at + result ≤ length text.now) }
+fn integer(bytes: &[u8]) -> usize
+    ensures { result ≡ lexical.integer bytes.now }
 {
-    if byte_at(text, at) == ZERO {
-        return 1;
+    if byte_at(bytes, 0) == b'0' {
+        1
+    } else {
+        digits(bytes)
     }
-    digits(text, at)
 }
 
 // A part that is begun by a mark of so many bytes: it must have a digit.
-fn begun(text: &[u8], at: usize, mark: usize) -> Measure
-    requires { at + mark ≤ length text.now }
-    ensures { (measured result ≡ lexical.begun mark (drop at text.now)) ×
-        Holds (length text.now - at) result }
+fn begun(bytes: &[u8], mark: usize) -> Option<usize>
+    requires { mark ≤ length bytes.now }
+    ensures { measured result ≡ lexical.begun mark bytes.now }
 {
-    let n = digits(text, at + mark);
-    if n == 0 {
-        return Measure::Broken;
+    match digits(&bytes[mark..]) {
+        0 => None,
+        n => Some(mark + n),
     }
-    Measure::Bytes(mark + n)
 }
 
-fn fraction(text: &[u8], at: usize) -> Measure
-    requires { at ≤ length text.now }
-    ensures { (measured result ≡ lexical.fraction (drop at text.now)) ×
-        Holds (length text.now - at) result }
+fn fraction(bytes: &[u8]) -> Option<usize>
+    ensures { measured result ≡ lexical.fraction bytes.now }
 {
-    if byte_at(text, at) == POINT {
-        return begun(text, at, 1);
+    if byte_at(bytes, 0) == b'.' {
+        begun(bytes, 1)
+    } else {
+        Some(0)
     }
-    Measure::Bytes(0)
 }
 
 // Whether one of two bytes stands at a place.
-fn is_either(text: &[u8], at: usize, x: u8, y: u8) -> bool
-    ensures { result ≡ is_either text.now at x y }
+fn is_either(bytes: &[u8], i: usize, x: u8, y: u8) -> bool
+    ensures { result ≡ (eqb (get_or bytes.now i 0) x || eqb (get_or bytes.now i 0) y) }
 {
-    let b = byte_at(text, at);
-    if b == x {
-        return true;
-    }
-    b == y
+    let b = byte_at(bytes, i);
+    b == x || b == y
 }
 
-fn exponent(text: &[u8], at: usize) -> Measure
-    requires { at ≤ length text.now }
-    ensures { (measured result ≡ lexical.exponent (drop at text.now)) ×
-        Holds (length text.now - at) result }
+fn exponent(bytes: &[u8]) -> Option<usize>
+    ensures { measured result ≡ lexical.exponent bytes.now }
 {
-    if !is_either(text, at, SMALL_E, CAPITAL_E) {
-        return Measure::Bytes(0);
+    if !is_either(bytes, 0, b'e', b'E') {
+        Some(0)
+    } else if is_either(bytes, 1, b'+', b'-') {
+        begun(bytes, 2)
+    } else {
+        begun(bytes, 1)
     }
-    if is_either(text, at + 1, PLUS, MINUS) {
-        return begun(text, at, 2);
-    }
-    begun(text, at, 1)
 }
 
 // What may not follow a number: a digit, a point or a NameStart.
@@ -119,60 +81,35 @@ fn exponent(text: &[u8], at: usize) -> Measure
 fn is_attached(b: u8) -> bool
     ensures { result ≡ is_attached b }
 {
-    if within(ZERO, NINE, b) {
-        return true;
-    }
-    if b == POINT {
-        return true;
-    }
-    name::is_name_start(b)
+    matches!(b, b'0'..=b'9' | b'.') || name::is_name_start(b)
 }
 
-// A number of n bytes, unless something is attached to it.
-fn number_of(text: &[u8], at: usize, n: usize, sort: u32) -> Lexeme
-    requires { at + n ≤ length text.now }
-    ensures { told result ≡ lexical.number_of sort n (drop at text.now) }
+// A number whose sign and digits are so many bytes: its sort and all its bytes. A fraction or an exponent makes it a float.
+fn number_from(bytes: &[u8], whole: usize) -> Option<(u32, usize)>
+    requires { whole ≤ length bytes.now }
+    ensures { numbered result ≡ number_from whole bytes.now }
 {
-    if is_attached(byte_at(text, at + n)) {
-        return Lexeme::Unreadable;
+    let fraction = fraction(&bytes[whole..])?;
+    let exponent = exponent(&bytes[whole + fraction..])?;
+    let size = whole + fraction + exponent;
+    if is_attached(byte_at(bytes, size)) {
+        return None;
     }
-    Lexeme::Token(sort, n)
+    let sort = if fraction + exponent == 0 { INT } else { FLOAT };
+    Some((sort, size))
 }
 
-// A fraction or an exponent makes a number a float.
-fn sort_of(more: usize) -> u32
-    ensures { result ≡ choose (eqb more 0) 14 15 }
+// The number that the bytes begin with.
+pub fn number(bytes: &[u8]) -> Lexeme
+    ensures { told result ≡ lexical.number bytes.now }
 {
-    if more == 0 {
-        return INT;
-    }
-    FLOAT
-}
-
-// A number whose sign and digits are i bytes.
-fn number_from(text: &[u8], at: usize, i: usize) -> Lexeme
-    requires { at + i ≤ length text.now }
-    ensures { told result ≡ number_from i (drop at text.now) }
-{
-    let Measure::Bytes(f) = fraction(text, at + i) else {
-        return Lexeme::Unreadable;
-    };
-    let Measure::Bytes(e) = exponent(text, at + i + f) else {
-        return Lexeme::Unreadable;
-    };
-    let sort = sort_of(f + e);
-    number_of(text, at, i + f + e, sort)
-}
-
-// The number at a place.
-pub fn number(text: &[u8], at: usize) -> Lexeme
-    requires { at < length text.now }
-    ensures { told result ≡ lexical.number (drop at text.now) }
-{
-    let signed = sign(text, at);
-    let whole = integer(text, at + signed);
+    let sign = sign(bytes);
+    let whole = integer(&bytes[sign..]);
     if whole == 0 {
         return Lexeme::Unreadable;
     }
-    number_from(text, at, signed + whole)
+    match number_from(bytes, sign + whole) {
+        Some((sort, size)) => Lexeme::Token(sort, size),
+        None => Lexeme::Unreadable,
+    }
 }

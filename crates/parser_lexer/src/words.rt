@@ -1,5 +1,5 @@
 // Names: how far one reaches, and which word of the grammar it is.
-ghost use Rattle.std.specs.Prelude.{◌≡◌, ◌+◌, ◌≤◌, length, take, drop};
+ghost use Rattle.std.specs.Prelude.{◌≡◌, length};
 ghost use Rattle.definition.specs.Names.{is_name_byte, same_name};
 ghost use Rattle.definition.specs.Lists.{choose};
 ghost use Rattle.definition.specs.Grammar.{sort_of_name};
@@ -7,64 +7,49 @@ ghost use Rattle.definition.specs.Lexical.{run};
 
 use crate::sorts;
 
-// How many bytes at `at` go on a name. Most are small letters, so those are told first.
-pub fn name_size(text: &[u8], at: usize) -> usize
-    requires { at ≤ length text.now }
-    ensures { result ≡ run is_name_byte (drop at text.now) }
+// Whether a byte goes on a name. Most are small letters, so those are told first.
+fn goes_on(b: u8) -> bool
+    ensures { result ≡ is_name_byte b }
 {
-    let mut i = at;
-    while i < text.len() {
-        let byte = text[i];
-        if b'z' < byte {
-            return i - at;
-        }
-        if byte < b'a' {
-            if !name::is_name_continue(byte) {
-                return i - at;
-            }
-        }
-        i += 1;
+    match b {
+        b'a'..=b'z' => true,
+        _ => name::is_name_continue(b),
     }
-    i - at
+}
+
+// How many bytes go on a name.
+pub fn name_size(bytes: &[u8]) -> usize
+    ensures { result ≡ run is_name_byte bytes.now }
+{
+    bytes.iter().take_while(|b| goes_on(**b)).count()
 }
 
 // The sort of a word where the name is that word, else the sort of any other name.
-fn sort_if(text: &[u8], at: usize, size: usize, word: &[u8], sort: u32) -> u32
-    ensures { result ≡ choose (same_name (take size (drop at text.now)) word.now) sort 54 }
+fn sort_if(name: &[u8], word: &[u8], sort: u32) -> u32
+    ensures { result ≡ choose (same_name name.now word.now) sort 54 }
 {
-    if name::span_is(text, at, size, word) {
-        return sort;
-    }
-    sorts::NAME
+    if name == word { sort } else { sorts::NAME }
 }
 
-// The sort of the name with so many bytes at `at`. Its size and one of its bytes leave at most one word that it can be, and most names none.
-pub fn word_sort(text: &[u8], at: usize, size: usize) -> u32
-    requires { at + size ≤ length text.now }
-    ensures { result ≡ sort_of_name (take size (drop at text.now)) }
+// Stays: one match on all words as byte strings has a goal for each byte in which two words differ; of eleven such goals of three words five stayed open.
+// The sort of a name. Its size and one of its bytes leave at most one word that it can be, and most names none.
+pub fn word_sort(name: &[u8]) -> u32
+    ensures { result ≡ sort_of_name name.now }
 {
-    match size {
-        2 => return sort_if(text, at, size, b"on", sorts::ON),
-        4 => return sort_of_four(text, at),
-        5 => return sort_of_five(text, at),
-        6 => return sort_of_six(text, at),
-        8 => return sort_of_eight(text, at),
-        9 => return sort_of_nine(text, at),
-        10 => return sort_of_ten(text, at),
-        12 => return sort_of_twelve(text, at),
-        15 => return sort_of_fifteen(text, at),
-        16 => return sort_if(
-            text,
-            at,
-            size,
-            b"FIELD_DEFINITION",
-            sorts::FIELD_DEFINITION_LOCATION,
-        ),
-        19 => return sort_of_nineteen(text, at),
-        22 => return sort_if(
-            text,
-            at,
-            size,
+    match name.len() {
+        2 => sort_if(name, b"on", sorts::ON),
+        4 => sort_of_four(name),
+        5 => sort_of_five(name),
+        6 => sort_of_six(name),
+        8 => sort_of_eight(name),
+        9 => sort_of_nine(name),
+        10 => sort_of_ten(name),
+        12 => sort_of_twelve(name),
+        15 => sort_of_fifteen(name),
+        16 => sort_if(name, b"FIELD_DEFINITION", sorts::FIELD_DEFINITION_LOCATION),
+        19 => sort_of_nineteen(name),
+        22 => sort_if(
+            name,
             b"INPUT_FIELD_DEFINITION",
             sorts::INPUT_FIELD_DEFINITION_LOCATION,
         ),
@@ -73,161 +58,134 @@ pub fn word_sort(text: &[u8], at: usize, size: usize) -> u32
 }
 
 // The sort of a name of four bytes, told by its second.
-fn sort_of_four(text: &[u8], at: usize) -> u32
-    requires { at + 4 ≤ length text.now }
-    ensures { result ≡ sort_of_name (take 4 (drop at text.now)) }
+fn sort_of_four(name: &[u8]) -> u32
+    requires { length name.now ≡ 4 }
+    ensures { result ≡ sort_of_name name.now }
 {
-    let second = text[at + 1];
-    match second {
-        b'y' => return sort_if(text, at, 4, b"type", sorts::TYPE),
-        b'n' => return sort_if(text, at, 4, b"enum", sorts::ENUM),
-        b'r' => return sort_if(text, at, 4, b"true", sorts::TRUE),
-        b'u' => return sort_if(text, at, 4, b"null", sorts::NULL),
-        b'N' => return sort_if(text, at, 4, b"ENUM", sorts::ENUM_LOCATION),
+    match name[1] {
+        b'y' => sort_if(name, b"type", sorts::TYPE),
+        b'n' => sort_if(name, b"enum", sorts::ENUM),
+        b'r' => sort_if(name, b"true", sorts::TRUE),
+        b'u' => sort_if(name, b"null", sorts::NULL),
+        b'N' => sort_if(name, b"ENUM", sorts::ENUM_LOCATION),
         _ => sorts::NAME,
     }
 }
 
 // The sort of a name of five bytes, told by its first.
-fn sort_of_five(text: &[u8], at: usize) -> u32
-    requires { at + 5 ≤ length text.now }
-    ensures { result ≡ sort_of_name (take 5 (drop at text.now)) }
+fn sort_of_five(name: &[u8]) -> u32
+    requires { length name.now ≡ 5 }
+    ensures { result ≡ sort_of_name name.now }
 {
-    let first = text[at];
-    match first {
-        b'f' => return sort_if(text, at, 5, b"false", sorts::FALSE),
-        b'u' => return sort_if(text, at, 5, b"union", sorts::UNION),
-        b'i' => return sort_if(text, at, 5, b"input", sorts::INPUT),
-        b'q' => return sort_if(text, at, 5, b"query", sorts::QUERY),
-        b'Q' => return sort_if(text, at, 5, b"QUERY", sorts::QUERY_LOCATION),
-        b'F' => return sort_if(text, at, 5, b"FIELD", sorts::FIELD_LOCATION),
-        b'U' => return sort_if(text, at, 5, b"UNION", sorts::UNION_LOCATION),
+    match name[0] {
+        b'f' => sort_if(name, b"false", sorts::FALSE),
+        b'u' => sort_if(name, b"union", sorts::UNION),
+        b'i' => sort_if(name, b"input", sorts::INPUT),
+        b'q' => sort_if(name, b"query", sorts::QUERY),
+        b'Q' => sort_if(name, b"QUERY", sorts::QUERY_LOCATION),
+        b'F' => sort_if(name, b"FIELD", sorts::FIELD_LOCATION),
+        b'U' => sort_if(name, b"UNION", sorts::UNION_LOCATION),
         _ => sorts::NAME,
     }
 }
 
 // The sort of a name of six bytes, told by its third.
-fn sort_of_six(text: &[u8], at: usize) -> u32
-    requires { at + 6 ≤ length text.now }
-    ensures { result ≡ sort_of_name (take 6 (drop at text.now)) }
+fn sort_of_six(name: &[u8]) -> u32
+    requires { length name.now ≡ 6 }
+    ensures { result ≡ sort_of_name name.now }
 {
-    let third = text[at + 2];
-    match third {
-        b'h' => return sort_if(text, at, 6, b"schema", sorts::SCHEMA),
-        b'a' => return sort_if(text, at, 6, b"scalar", sorts::SCALAR),
-        b't' => return sort_if(text, at, 6, b"extend", sorts::EXTEND),
-        b'H' => return sort_if(text, at, 6, b"SCHEMA", sorts::SCHEMA_LOCATION),
-        b'A' => return sort_if(text, at, 6, b"SCALAR", sorts::SCALAR_LOCATION),
-        b'J' => return sort_if(text, at, 6, b"OBJECT", sorts::OBJECT_LOCATION),
+    match name[2] {
+        b'h' => sort_if(name, b"schema", sorts::SCHEMA),
+        b'a' => sort_if(name, b"scalar", sorts::SCALAR),
+        b't' => sort_if(name, b"extend", sorts::EXTEND),
+        b'H' => sort_if(name, b"SCHEMA", sorts::SCHEMA_LOCATION),
+        b'A' => sort_if(name, b"SCALAR", sorts::SCALAR_LOCATION),
+        b'J' => sort_if(name, b"OBJECT", sorts::OBJECT_LOCATION),
         _ => sorts::NAME,
     }
 }
 
 // The sort of a name of eight bytes, told by its first.
-fn sort_of_eight(text: &[u8], at: usize) -> u32
-    requires { at + 8 ≤ length text.now }
-    ensures { result ≡ sort_of_name (take 8 (drop at text.now)) }
+fn sort_of_eight(name: &[u8]) -> u32
+    requires { length name.now ≡ 8 }
+    ensures { result ≡ sort_of_name name.now }
 {
-    let first = text[at];
-    match first {
-        b'm' => return sort_if(text, at, 8, b"mutation", sorts::MUTATION),
-        b'M' => return sort_if(text, at, 8, b"MUTATION", sorts::MUTATION_LOCATION),
+    match name[0] {
+        b'm' => sort_if(name, b"mutation", sorts::MUTATION),
+        b'M' => sort_if(name, b"MUTATION", sorts::MUTATION_LOCATION),
         _ => sorts::NAME,
     }
 }
 
 // The sort of a name of nine bytes, told by its first.
-fn sort_of_nine(text: &[u8], at: usize) -> u32
-    requires { at + 9 ≤ length text.now }
-    ensures { result ≡ sort_of_name (take 9 (drop at text.now)) }
+fn sort_of_nine(name: &[u8]) -> u32
+    requires { length name.now ≡ 9 }
+    ensures { result ≡ sort_of_name name.now }
 {
-    let first = text[at];
-    match first {
-        b'i' => return sort_if(text, at, 9, b"interface", sorts::INTERFACE),
-        b'd' => return sort_if(text, at, 9, b"directive", sorts::DIRECTIVE),
-        b'I' => return sort_if(text, at, 9, b"INTERFACE", sorts::INTERFACE_LOCATION),
+    match name[0] {
+        b'i' => sort_if(name, b"interface", sorts::INTERFACE),
+        b'd' => sort_if(name, b"directive", sorts::DIRECTIVE),
+        b'I' => sort_if(name, b"INTERFACE", sorts::INTERFACE_LOCATION),
         _ => sorts::NAME,
     }
 }
 
 // The sort of a name of ten bytes, told by its first.
-fn sort_of_ten(text: &[u8], at: usize) -> u32
-    requires { at + 10 ≤ length text.now }
-    ensures { result ≡ sort_of_name (take 10 (drop at text.now)) }
+fn sort_of_ten(name: &[u8]) -> u32
+    requires { length name.now ≡ 10 }
+    ensures { result ≡ sort_of_name name.now }
 {
-    let first = text[at];
-    match first {
-        b'i' => return sort_if(text, at, 10, b"implements", sorts::IMPLEMENTS),
-        b'r' => return sort_if(text, at, 10, b"repeatable", sorts::REPEATABLE),
-        b'E' => return sort_if(text, at, 10, b"ENUM_VALUE", sorts::ENUM_VALUE_LOCATION),
+    match name[0] {
+        b'i' => sort_if(name, b"implements", sorts::IMPLEMENTS),
+        b'r' => sort_if(name, b"repeatable", sorts::REPEATABLE),
+        b'E' => sort_if(name, b"ENUM_VALUE", sorts::ENUM_VALUE_LOCATION),
         _ => sorts::NAME,
     }
 }
 
 // The sort of a name of twelve bytes, told by its first.
-fn sort_of_twelve(text: &[u8], at: usize) -> u32
-    requires { at + 12 ≤ length text.now }
-    ensures { result ≡ sort_of_name (take 12 (drop at text.now)) }
+fn sort_of_twelve(name: &[u8]) -> u32
+    requires { length name.now ≡ 12 }
+    ensures { result ≡ sort_of_name name.now }
 {
-    let first = text[at];
-    match first {
-        b's' => return sort_if(text, at, 12, b"subscription", sorts::SUBSCRIPTION),
-        b'S' => return sort_if(text, at, 12, b"SUBSCRIPTION", sorts::SUBSCRIPTION_LOCATION),
-        b'I' => return sort_if(text, at, 12, b"INPUT_OBJECT", sorts::INPUT_OBJECT_LOCATION),
+    match name[0] {
+        b's' => sort_if(name, b"subscription", sorts::SUBSCRIPTION),
+        b'S' => sort_if(name, b"SUBSCRIPTION", sorts::SUBSCRIPTION_LOCATION),
+        b'I' => sort_if(name, b"INPUT_OBJECT", sorts::INPUT_OBJECT_LOCATION),
         _ => sorts::NAME,
     }
 }
 
 // The sort of a name of fifteen bytes, told by its first.
-fn sort_of_fifteen(text: &[u8], at: usize) -> u32
-    requires { at + 15 ≤ length text.now }
-    ensures { result ≡ sort_of_name (take 15 (drop at text.now)) }
+fn sort_of_fifteen(name: &[u8]) -> u32
+    requires { length name.now ≡ 15 }
+    ensures { result ≡ sort_of_name name.now }
 {
-    let first = text[at];
-    match first {
-        b'F' => return sort_if(
-            text,
-            at,
-            15,
-            b"FRAGMENT_SPREAD",
-            sorts::FRAGMENT_SPREAD_LOCATION,
-        ),
-        b'I' => return sort_if(
-            text,
-            at,
-            15,
-            b"INLINE_FRAGMENT",
-            sorts::INLINE_FRAGMENT_LOCATION,
-        ),
+    match name[0] {
+        b'F' => sort_if(name, b"FRAGMENT_SPREAD", sorts::FRAGMENT_SPREAD_LOCATION),
+        b'I' => sort_if(name, b"INLINE_FRAGMENT", sorts::INLINE_FRAGMENT_LOCATION),
         _ => sorts::NAME,
     }
 }
 
 // The sort of a name of nineteen bytes, told by its first.
-fn sort_of_nineteen(text: &[u8], at: usize) -> u32
-    requires { at + 19 ≤ length text.now }
-    ensures { result ≡ sort_of_name (take 19 (drop at text.now)) }
+fn sort_of_nineteen(name: &[u8]) -> u32
+    requires { length name.now ≡ 19 }
+    ensures { result ≡ sort_of_name name.now }
 {
-    let first = text[at];
-    match first {
-        b'F' => return sort_if(
-            text,
-            at,
-            19,
+    match name[0] {
+        b'F' => sort_if(
+            name,
             b"FRAGMENT_DEFINITION",
             sorts::FRAGMENT_DEFINITION_LOCATION,
         ),
-        b'V' => return sort_if(
-            text,
-            at,
-            19,
+        b'V' => sort_if(
+            name,
             b"VARIABLE_DEFINITION",
             sorts::VARIABLE_DEFINITION_LOCATION,
         ),
-        b'A' => return sort_if(
-            text,
-            at,
-            19,
+        b'A' => sort_if(
+            name,
             b"ARGUMENT_DEFINITION",
             sorts::ARGUMENT_DEFINITION_LOCATION,
         ),

@@ -13,20 +13,20 @@ use Rattle.parser_laws.specs.Standing.{standing}
 use Rattle.parser_laws.proofs.Tests.{subset}
 use Rattle.parser_laws.proofs.Ahead.{take_token, no_token_lem, open_deep, open_part, skip_part, no_part, go_deeper, go_back, repeats}
 use Rattle.parser_lexer.specs.Ahead.{Ahead}
-use Rattle.parser_lexer.specs.declared.Cursor.{Cursor}
-use Rattle.parser_values.specs.Reads.{goes_on, Ready, Reads, Within}
-use Rattle.parser_values.specs.declared.End.{End}
-use Rattle.parser_values.specs.declared.End.TheVariants.{At, Bad, Deep}
+use Rattle.parser_lexer.specs.declared.cursor.Cursor.{Cursor}
+use Rattle.parser_values.specs.Reads.{End, goes_on, Ready, Reads, Within}
+use Rattle.std.specs.Prelude.{Ok, Err}
+use Rattle.parser_values.specs.declared.error.SyntaxError.{SyntaxError}
+use Rattle.parser_values.specs.declared.error.SyntaxError.TheVariants.{NotInGrammar, NestedTooDeep}
 
 module _ (text : List ℕ) (level : ℕ) where
   ready_same : {m n : ℕ} (r : End) → m ≡ n → Ready text m r → Ready text n r
-  ready_same (At k) e (a, f) = (a, f ∙ e)
-  ready_same (Bad p) e u = u
-  ready_same (Deep p) e u = u
+  ready_same (Ok k) e (a, f) = (a, f ∙ e)
+  ready_same (Err x) e u = u
 
   -- ---- One after the other.
 
-  pub and_then : {c k : Cursor} {r : End} (ps qs : List Symbol) → Reads ps text c level (At k) → Reads qs text k level r → Reads (ps ++ qs) text c level r
+  pub and_then : {c k : Cursor} {r : End} (ps qs : List Symbol) → Reads ps text c level (Ok k) → Reads qs text k level r → Reads (ps ++ qs) text c level r
   and_then {c} {k} {r} ps qs f g = record {
     goes = λ ss cs h.
         ap (λ (x : List Symbol). standing text c.last x level cs h) (append_assoc ps qs ss) ∙
@@ -36,26 +36,20 @@ module _ (text : List ℕ) (level : ℕ) where
   }
 
   -- What is refused in the beginning is refused.
-  pub or_bad : {c : Cursor} {p : ℕ} (ps qs : List Symbol) → Reads ps text c level (Bad p) → Reads (ps ++ qs) text c level (Bad p)
-  or_bad {c} ps qs f = record {
-    goes = λ ss cs h. ap (λ (x : List Symbol). standing text c.last x level cs h) (append_assoc ps qs ss) ∙ f.goes (qs ++ ss) cs h;
-    ready = tt;
-  }
-
-  pub or_deep : {c : Cursor} {p : ℕ} (ps qs : List Symbol) → Reads ps text c level (Deep p) → Reads (ps ++ qs) text c level (Deep p)
-  or_deep {c} ps qs f = record {
+  pub or_err : {c : Cursor} {e : SyntaxError} (ps qs : List Symbol) → Reads ps text c level (Err e) → Reads (ps ++ qs) text c level (Err e)
+  or_err {c} ps qs f = record {
     goes = λ ss cs h. ap (λ (x : List Symbol). standing text c.last x level cs h) (append_assoc ps qs ss) ∙ f.goes (qs ++ ss) cs h;
     ready = tt;
   }
 
   -- Nothing to read.
-  pub reads_none : (c : Cursor) → Ahead text c → Reads [] text c level (At c)
+  pub reads_none : (c : Cursor) → Ahead text c → Reads [] text c level (Ok c)
   reads_none c a = record { goes = λ ss cs h. refl; ready = (a, refl) }
 
   -- ---- A token: k is the cursor behind it.
 
   pub reads_token : (c k : Cursor) → Ahead text c → Ahead text k → k.last ≡ c.ends → k.cards ≡ c.cards → (lo hi : ℕ) → hi ≤ 54 →
-      within lo hi c.sort ≡ true → level ≤ 32 → Reads (one lo hi ∷ []) text c level (At k)
+      within lo hi c.sort ≡ true → level ≤ 32 → Reads (one lo hi ∷ []) text c level (Ok k)
   reads_token c k a b e f lo hi i w l = record {
     goes = λ ss cs h.
         take_token text c.last c.sort c.begins c.ends a ss level cs h lo hi i w l ∙
@@ -64,7 +58,7 @@ module _ (text : List ℕ) (level : ℕ) where
   }
 
   pub lacks_token : (c : Cursor) → Ahead text c → (lo hi : ℕ) → within lo hi c.sort ≡ false → (qs : List Symbol) →
-      Reads (one lo hi ∷ qs) text c level (Bad c.begins)
+      Reads (one lo hi ∷ qs) text c level (Err (NotInGrammar c.begins))
   lacks_token c a lo hi w qs = record {
     goes = λ ss cs h. no_token_lem text c.last c.sort c.begins c.ends a (qs ++ ss) level cs h lo hi w;
     ready = tt;
@@ -90,7 +84,7 @@ module _ (text : List ℕ) (level : ℕ) where
     ready = f.ready;
   }
 
-  pub skips : (c : Cursor) → Ahead text c → (n : Part) → Among [] (rule n) → has (first n) c.sort ≡ false → Reads (part n ∷ []) text c level (At c)
+  pub skips : (c : Cursor) → Ahead text c → (n : Part) → Among [] (rule n) → has (first n) c.sort ≡ false → Reads (part n ∷ []) text c level (Ok c)
   unfolding empties
   skips c a n i w = record {
     goes = λ ss cs h. skip_part text c.last c.sort c.begins c.ends a ss level cs h n [] i refl w;
@@ -98,7 +92,7 @@ module _ (text : List ℕ) (level : ℕ) where
   }
 
   pub refuses : (c : Cursor) → Ahead text c → (n : Part) → nullable n ≡ false → has (first n) c.sort ≡ false →
-      Reads (part n ∷ []) text c level (Bad c.begins)
+      Reads (part n ∷ []) text c level (Err (NotInGrammar c.begins))
   refuses c a n i w = record {
     goes = λ ss cs h. no_part text c.last c.sort c.begins c.ends a ss level cs h n i w;
     ready = tt;
@@ -118,15 +112,14 @@ module _ (text : List ℕ) (level : ℕ) where
   }
     where
       back : (r : End) (ss : List Symbol) (cs : List Card) (h : ℕ) → goes_on text r (mark shallower ∷ ss) (level + 1) cs h ≡ goes_on text r ss level cs h
-      back (At k) ss cs h =
+      back (Ok k) ss cs h =
           let z : level + 1 - 1 ≡ level = omega arith in
           go_back text k.last (level + 1) ss cs h ∙ ap (λ (n : ℕ). standing text k.last ss n cs h) z
-      back (Bad p) ss cs h = refl
-      back (Deep p) ss cs h = refl
+      back (Err x) ss cs h = refl
 
   -- The opener of a 33rd level.
   pub too_deep_lem : (c : Cursor) → Ahead text c → (lo hi : ℕ) → hi ≤ 54 → within lo hi c.sort ≡ true → 32 ≤ level → (qs : List Symbol) →
-      Reads (mark deeper ∷ one lo hi ∷ qs) text c level (Deep c.begins)
+      Reads (mark deeper ∷ one lo hi ∷ qs) text c level (Err (NestedTooDeep c.begins))
   too_deep_lem c a lo hi i w l qs = record {
     goes = λ ss cs h.
         go_deeper text c.last level (one lo hi ∷ (qs ++ ss)) cs h ∙
@@ -137,7 +130,7 @@ module _ (text : List ℕ) (level : ℕ) where
   -- ---- In the middle: what loops go by.
 
   -- The beginning of ps ++ qs is read.
-  pub begun : {b c : Cursor} (ps qs : List Symbol) → Reads ps text b level (At c) → Within (ps ++ qs) text b level qs c
+  pub begun : {b c : Cursor} (ps qs : List Symbol) → Reads ps text b level (Ok c) → Within (ps ++ qs) text b level qs c
   begun {b} ps qs f = record {
     goes = λ ss cs h. ap (λ (x : List Symbol). standing text b.last x level cs h) (append_assoc ps qs ss) ∙ f.goes (qs ++ ss) cs h;
     ahead = f.ready.0;
@@ -156,7 +149,7 @@ module _ (text : List ℕ) (level : ℕ) where
   }
 
   -- A part of what is left is read: what is left is us after the part's qs.
-  pub further : {b c k : Cursor} (ps qs us : List Symbol) → Within ps text b level (qs ++ us) c → Reads qs text c level (At k) → Within ps text b level us k
+  pub further : {b c k : Cursor} (ps qs us : List Symbol) → Within ps text b level (qs ++ us) c → Reads qs text c level (Ok k) → Within ps text b level us k
   further {b} {c} ps qs us i f = record {
     goes = λ ss cs h. i.goes ss cs h ∙ ap (λ (x : List Symbol). standing text c.last x level cs h) (append_assoc qs us ss) ∙ f.goes (us ++ ss) cs h;
     ahead = f.ready.0;

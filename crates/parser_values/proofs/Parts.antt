@@ -6,20 +6,19 @@ use Prim.Native.Nat.{ℕ, ◌≤◌}
 use native.Mathlib.Omega.{arith}
 use borrow.Author.Tests.{leb-true, leb-false}
 use lib.Dec.{leb}
-use lib.ListN.{length}
 use Rattle.definition.specs.Lists.{choose, here, there, all, any}
 use Rattle.definition.specs.Grammar.{part, rule, within, name, at, colon, Value, Argument, Argument*, Arguments?, Default?, Directive, Directive*}
 use Rattle.definition.specs.Grammar.{TypeReference, Description?, ArgumentDefinition, ArgumentDefinition*, ArgumentDefinitions?}
 use Rattle.definition.specs.GrammarSets.{nullable, first}
 use Rattle.definition.specs.Machine.{has, first_set_of}
 use Rattle.parser_laws.proofs.Tests.{clash, subset, within_is, within_bounds}
-use Rattle.parser_lexer.specs.Ahead.{Ahead, Lies}
-use Rattle.parser_lexer.specs.declared.Cursor.{Cursor}
-use Rattle.parser_values.specs.Reads.{Reads}
-use Rattle.parser_values.specs.declared.End.{End}
-use Rattle.parser_values.specs.declared.End.TheVariants.{At, Bad}
+use Rattle.parser_lexer.specs.Ahead.{Ahead, Next}
+use Rattle.parser_lexer.specs.declared.cursor.Cursor.{Cursor}
+use Rattle.parser_values.specs.Reads.{End, Reads, Must, May}
+use Rattle.std.specs.Prelude.{Ok, Err}
+use Rattle.parser_values.specs.declared.error.SyntaxError.TheVariants.{NotInGrammar}
 use Rattle.parser_values.proofs.Joining.{and_then, skips, lacks_token}
-use Rattle.parser_values.proofs.Readers.{Must, May, Mid, Next, Repeated, some_of, by_rest, by_token, there_it_is, not_there, opening}
+use Rattle.parser_values.proofs.Readers.{Mid, Repeated, some_of, by_rest, by_token, there_it_is, not_there, opening}
 
 pub all_arguments : Repeated Argument Argument* 4
 unfolding rule nullable first subset all any has within
@@ -41,13 +40,13 @@ module _ {text : List ℕ} {c : Cursor} where
   -- No description and no name.
   no_definition : (a : Ahead text c) → has ((16, 16) ∷ (17, 54) ∷ []) c.sort ≡ false →
       (has (first ArgumentDefinition) c.sort ≡ false) × Reads (part Description? ∷ name ∷ colon ∷ part TypeReference ∷ part Default? ∷ part Directive* ∷
-      []) text c 0 (Bad c.begins)
+      []) text c 0 (Err (NotInGrammar c.begins))
   unfolding has rule first
   no_definition a w = go (within 16 16 c.sort) refl (within 17 54 c.sort) refl (within 16 54 c.sort) refl w
     where
       go : (s : Bool) → within 16 16 c.sort ≡ s → (t : Bool) → within 17 54 c.sort ≡ t → (u : Bool) → within 16 54 c.sort ≡ u →
           choose s true (choose t true false) ≡ false → (choose u true false ≡ false) ×
-          Reads (part Description? ∷ name ∷ colon ∷ part TypeReference ∷ part Default? ∷ part Directive* ∷ []) text c 0 (Bad c.begins)
+          Reads (part Description? ∷ name ∷ colon ∷ part TypeReference ∷ part Default? ∷ part Directive* ∷ []) text c 0 (Err (NotInGrammar c.begins))
       go true i t j u m k = clash (sym k)
       go false i true j u m k = clash (sym k)
       go false i false j true m k =
@@ -75,34 +74,34 @@ module _ {text : List ℕ} {c : Cursor} where
 
   -- ---- Parts that are there or not.
 
-  pub no_default : (c.sort ≡ 7 → ⊥) → Lies (length text) c → May (part Default? ∷ []) text c 0 (At c)
+  pub no_default : (c.sort ≡ 7 → ⊥) → c.text.now ≡ text → May (part Default? ∷ []) text c 0 (Ok c)
   unfolding rule first
   no_default = not_there Default? 7 (there here) refl
 
-  pub a_default : {k : Cursor} {e : End} → c.sort ≡ 7 → Lies (length text) c → Next text c k → May (part Value ∷ []) text k 0 e →
+  pub a_default : {k : Cursor} {e : End} → c.sort ≡ 7 → c.text.now ≡ text → Next text c.ends c.cards k → May (part Value ∷ []) k.text.now k 0 e →
       May (part Default? ∷ []) text c 0 e
   unfolding rule
   a_default = there_it_is Default? 7 (part Value ∷ []) here (omega arith) (omega arith)
 
-  pub no_arguments : (c.sort ≡ 3 → ⊥) → Lies (length text) c → May (part Arguments? ∷ []) text c 0 (At c)
+  pub no_arguments : (c.sort ≡ 3 → ⊥) → c.text.now ≡ text → May (part Arguments? ∷ []) text c 0 (Ok c)
   unfolding rule first
   no_arguments = not_there Arguments? 3 (there here) refl
 
-  pub some_arguments : {k : Cursor} {e : End} → c.sort ≡ 3 → Lies (length text) c → Next text c k → May (some_of Argument Argument* 4) text k 0 e →
+  pub some_arguments : {k : Cursor} {e : End} → c.sort ≡ 3 → c.text.now ≡ text → Next text c.ends c.cards k → May (some_of Argument Argument* 4) k.text.now k 0 e →
       May (part Arguments? ∷ []) text c 0 e
   unfolding rule
   some_arguments = there_it_is Arguments? 3 (some_of Argument Argument* 4) here (omega arith) (omega arith)
 
-  pub no_definitions : (c.sort ≡ 3 → ⊥) → Lies (length text) c → May (part ArgumentDefinitions? ∷ []) text c 0 (At c)
+  pub no_definitions : (c.sort ≡ 3 → ⊥) → c.text.now ≡ text → May (part ArgumentDefinitions? ∷ []) text c 0 (Ok c)
   unfolding rule first
   no_definitions = not_there ArgumentDefinitions? 3 (there here) refl
 
-  pub some_definitions : {k : Cursor} {e : End} → c.sort ≡ 3 → Lies (length text) c → Next text c k →
-      May (some_of ArgumentDefinition ArgumentDefinition* 4) text k 0 e → May (part ArgumentDefinitions? ∷ []) text c 0 e
+  pub some_definitions : {k : Cursor} {e : End} → c.sort ≡ 3 → c.text.now ≡ text → Next text c.ends c.cards k →
+      May (some_of ArgumentDefinition ArgumentDefinition* 4) k.text.now k 0 e → May (part ArgumentDefinitions? ∷ []) text c 0 e
   unfolding rule
   some_definitions = there_it_is ArgumentDefinitions? 3 (some_of ArgumentDefinition ArgumentDefinition* 4) here (omega arith) (omega arith)
 
-  pub no_directive : (c.sort ≡ 8 → ⊥) → Lies (length text) c → May (part Directive* ∷ []) text c 0 (At c)
+  pub no_directive : (c.sort ≡ 8 → ⊥) → c.text.now ≡ text → May (part Directive* ∷ []) text c 0 (Ok c)
   unfolding rule first
   no_directive = not_there Directive* 8 (there here) refl
 

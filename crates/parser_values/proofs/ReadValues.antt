@@ -6,20 +6,19 @@ use Prim.Native.Nat.{ℕ, ◌+◌, ◌≤◌}
 use native.Mathlib.Omega.{arith}
 use borrow.Author.Tests.{leb-true, leb-false}
 use lib.Dec.{leb}
-use lib.ListN.{length}
 use Rattle.definition.specs.Lists.{Among, here, there, all, any}
 use Rattle.definition.specs.Grammar.{one, part, rule, within, name, colon, Value, Value*, ObjectValue, ObjectField, ObjectField*}
 use Rattle.definition.specs.GrammarSets.{nullable, first}
 use Rattle.definition.specs.Machine.{has, first_set_of}
 use Rattle.parser_laws.proofs.Tests.{subset, within_is, within_bounds}
 use Rattle.parser_laws.proofs.Picking.{other}
-use Rattle.parser_lexer.specs.Ahead.{Ahead, Lies}
-use Rattle.parser_lexer.specs.declared.Cursor.{Cursor}
-use Rattle.parser_values.specs.Reads.{Reads}
-use Rattle.parser_values.specs.declared.End.{End}
-use Rattle.parser_values.specs.declared.End.TheVariants.{Bad, Deep}
+use Rattle.parser_lexer.specs.Ahead.{Ahead, Next}
+use Rattle.parser_lexer.specs.declared.cursor.Cursor.{Cursor}
+use Rattle.parser_values.specs.Reads.{End, Reads, Must, May}
+use Rattle.std.specs.Prelude.{Err}
+use Rattle.parser_values.specs.declared.error.SyntaxError.TheVariants.{NotInGrammar, NestedTooDeep}
 use Rattle.parser_values.proofs.Joining.{opens, refuses, lacks_token, narrower}
-use Rattle.parser_values.proofs.Readers.{Must, May, Next, Repeated, any_of, by_token, chosen, bracketed, bracketed_deep}
+use Rattle.parser_values.proofs.Readers.{lies, Repeated, any_of, by_token, chosen, bracketed, bracketed_deep}
 
 pub values : Repeated Value Value* 10
 unfolding rule nullable first subset all any has within
@@ -67,27 +66,27 @@ module _ {text : List ℕ} {level : ℕ} {c : Cursor} where
   unfolding rule first_set_of has within first nullable
   value_object k f = chosen Value (part ObjectValue ∷ []) 11 (there (there (there (there (there here))))) refl (omega arith) k f
 
-  pub list_value : {k : Cursor} {inner : ℕ} {e : End} → c.sort ≡ 9 → Lies (length text) c → inner ≡ level + 1 → inner ≤ 32 → Next text c k →
-      May (any_of Value* 10) text k inner e → Must (part Value ∷ []) text c level e
+  pub list_value : {k : Cursor} {inner : ℕ} {e : End} → c.sort ≡ 9 → c.text.now ≡ text → inner ≡ level + 1 → inner ≤ 32 → Next text c.ends c.cards k →
+      May (any_of Value* 10) k.text.now k inner e → Must (part Value ∷ []) text c level e
   unfolding rule
   list_value s p i l n f = bracketed Value Value* 9 10 (there (there (there (there here)))) (omega arith) s p i l n f
 
-  pub list_deep : c.sort ≡ 9 → Lies (length text) c → 32 ≤ level → Must (part Value ∷ []) text c level (Deep c.begins)
+  pub list_deep : c.sort ≡ 9 → c.text.now ≡ text → 32 ≤ level → Must (part Value ∷ []) text c level (Err (NestedTooDeep c.begins))
   unfolding rule
   list_deep s p l = bracketed_deep Value Value* 9 10 (there (there (there (there here)))) (omega arith) s p l
 
-  pub object : {k : Cursor} {inner : ℕ} {e : End} → c.sort ≡ 11 → Lies (length text) c → inner ≡ level + 1 → inner ≤ 32 → Next text c k →
-      May (any_of ObjectField* 13) text k inner e → Must (part ObjectValue ∷ []) text c level e
+  pub object : {k : Cursor} {inner : ℕ} {e : End} → c.sort ≡ 11 → c.text.now ≡ text → inner ≡ level + 1 → inner ≤ 32 → Next text c.ends c.cards k →
+      May (any_of ObjectField* 13) k.text.now k inner e → Must (part ObjectValue ∷ []) text c level e
   unfolding rule
   object s p i l n f = bracketed ObjectValue ObjectField* 11 13 here (omega arith) s p i l n f
 
-  pub object_deep : c.sort ≡ 11 → Lies (length text) c → 32 ≤ level → Must (part ObjectValue ∷ []) text c level (Deep c.begins)
+  pub object_deep : c.sort ≡ 11 → c.text.now ≡ text → 32 ≤ level → Must (part ObjectValue ∷ []) text c level (Err (NestedTooDeep c.begins))
   unfolding rule
   object_deep s p l = bracketed_deep ObjectValue ObjectField* 11 13 here (omega arith) s p l
 
-  pub no_object : (c.sort ≡ 11 → ⊥) → Lies (length text) c → Must (part ObjectValue ∷ []) text c level (Bad c.begins)
+  pub no_object : (c.sort ≡ 11 → ⊥) → c.text.now ≡ text → Must (part ObjectValue ∷ []) text c level (Err (NotInGrammar c.begins))
   unfolding first nullable has
-  no_object n p = (λ a. refuses text level c a ObjectValue refl (rw (other 11 c.sort n)), omega arith)
+  no_object n p = let l = lies c p in (λ a. refuses text level c a ObjectValue refl (rw (other 11 c.sort n)), omega (arith, l.1, l.2))
 
   pub object_field : {e : End} → Must (name ∷ colon ∷ part Value ∷ []) text c level e → Must (part ObjectField ∷ []) text c level e
   unfolding rule nullable first subset all any has

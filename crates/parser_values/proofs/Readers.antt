@@ -1,10 +1,9 @@
--- What functions promise of symbols, joined as their code goes: one call after the other, a refusal handed on, a loop. Truth of the cursor is a
--- premise of what is promised of the reading, and none of what is promised of places.
-use mathlib.Core.Path.{◌≡◌, refl, sym, ap, ◌∙◌}
+-- What functions promise of symbols, joined as their code goes: one call after the other, a refusal handed on, a loop.
+use mathlib.Core.Path.{◌≡◌, refl, sym, ap, subst, ◌∙◌}
 use mathlib.Core.List.{List, [], ◌∷◌, ◌++◌}
 use mathlib.Core.Bool.{Bool, true, false}
 use mathlib.Core.Logic.{◌⊎◌, inl, inr}
-use Prim.Native.Nat.{ℕ, ◌+◌, ◌≤◌, ◌<◌}
+use Prim.Native.Nat.{ℕ, ◌+◌, ◌-◌, ◌≤◌, ◌<◌}
 use native.Mathlib.Omega.{arith}
 use lib.ListN.{length}
 use Rattle.definition.specs.Lists.{choose, Among}
@@ -13,71 +12,46 @@ use Rattle.definition.specs.GrammarSets.{nullable, first}
 use Rattle.definition.specs.Machine.{has, first_set_of}
 use Rattle.parser_laws.proofs.Tests.{clash, within_is, within_bounds, subset, subset_has, has_append}
 use Rattle.parser_laws.proofs.Picking.{other}
-use Rattle.parser_lexer.specs.Ahead.{Ahead, Lies}
-use Rattle.parser_lexer.specs.declared.Cursor.{Cursor}
-use Rattle.parser_values.specs.Reads.{Reads, Within, Stays, Moves, Optional}
-use Rattle.parser_values.specs.declared.End.{End}
-use Rattle.parser_values.specs.declared.End.TheVariants.{At, Bad, Deep}
-use Rattle.parser_values.proofs.Joining.{and_then, or_bad, or_deep, reads_token, lacks_token, opens, skips, refuses, a_level_deeper, too_deep_lem}
+use Rattle.parser_lexer.specs.Ahead.{Ahead, Next}
+use Rattle.parser_lexer.specs.Places.{Lies}
+use Rattle.parser_lexer.specs.declared.cursor.Cursor.{Cursor}
+use Rattle.parser_values.specs.Reads.{End, Reads, Within, Stays, Moves, Must, May, Flat, FlatRead, Optional, OptionalRead}
+use Rattle.std.specs.Prelude.{Ok, Err, IsErr, IsErrAnd}
+use Rattle.std.proofs.lemmas.Result.{err_from_is_err_and}
+use Rattle.parser_values.specs.declared.error.SyntaxError.{SyntaxError}
+use Rattle.parser_values.specs.declared.error.SyntaxError.TheVariants.{NotInGrammar, NestedTooDeep}
+use Rattle.parser_values.proofs.Joining.{and_then, or_err, reads_none, reads_token, lacks_token, opens, skips, refuses, a_level_deeper, too_deep_lem}
 use Rattle.parser_values.proofs.Joining.{at_first, finished, further, once_more, opened}
 
--- ---- Refusals.
-
-abbrev pub Refused : End → Type 0
-Refused (At k) = ⊥
-Refused (Bad p) = Unit {0}
-Refused (Deep p) = Unit {0}
-
--- What `let End::At(k) = e else { return e; }` knows of e where it returns.
-pub refused : (e : End) → ((k : Cursor) → e ≡ At k → ⊥) → Refused e
-refused (At k) h = absurd (h k refl)
-refused (Bad p) h = tt
-refused (Deep p) h = tt
-
--- ---- What is promised of the symbols ps from c on: `Must` where a token must be read, `May` where none need be.
-
-abbrev pub Must : List Symbol → List ℕ → Cursor → ℕ → End → Type 0
-Must ps text c level e = (Ahead text c → Reads ps text c level e) × Moves (length text) c e
-
-abbrev pub May : List Symbol → List ℕ → Cursor → ℕ → End → Type 0
-May ps text c level e = (Ahead text c → Reads ps text c level e) × Stays (length text) c e
-
--- The same where no level is opened, of every level.
-abbrev pub Flat : List Symbol → List ℕ → Cursor → End → Type 0
-Flat ps text c e = (Ahead text c → (level : ℕ) → level ≤ 32 → Reads ps text c level e) × Moves (length text) c e
-
--- What is promised of the next token.
-abbrev pub Next : List ℕ → Cursor → Cursor → Type 0
-Next text c k = Ahead text k × Lies (length text) k × (k.last ≡ c.ends) × (k.cards ≡ c.cards)
+-- ---- What is promised: of the next token, and in the middle.
 
 -- In the middle of ps, which begins at b: the symbols us are left, from k on.
 abbrev pub Mid : List Symbol → List ℕ → Cursor → ℕ → List Symbol → Cursor → Type 0
-Mid ps text b level us k = (Ahead text b → Within ps text b level us k) × Lies (length text) k × (b.last ≤ k.last)
+Mid ps text b level us k = (Ahead text b → Within ps text b level us k) × (k.text.now ≡ text) × (b.last ≤ k.last)
 
-pub stays : (size : ℕ) (c : Cursor) (e : End) → Moves size c e → Stays size c e
-stays size c (At k) m = (m.0, omega arith)
-stays size c (Bad p) m = m
-stays size c (Deep p) m = m
+-- What `?` hands on is the refusal that it was given.
+pub handed : (r : End) (e : SyntaxError) → IsErr r × IsErrAnd r (λ x. x ≡ e) → r ≡ Err e
+handed r e h = let p = err_from_is_err_and r h.1 in p.1 ∙ ap Err p.2
 
-pub moves_on : (size : ℕ) (c k : Cursor) (e : End) → c.last < k.last → Stays size k e → Moves size c e
-moves_on size c k (At j) l m = (m.0, omega arith)
-moves_on size c k (Bad p) l m = m
-moves_on size c k (Deep p) l m = m
+-- The places of a cursor of a text lie in it.
+pub lies : {text : List ℕ} (c : Cursor) → c.text.now ≡ text → Lies (length text) c.sort c.begins c.ends c.last c.cards
+lies c e = subst (λ (t : List ℕ). Lies (length t) c.sort c.begins c.ends c.last c.cards) e c.lies
 
-pub stays_on : (size : ℕ) (c k : Cursor) (e : End) → c.last ≤ k.last → Stays size k e → Stays size c e
-stays_on size c k (At j) l m = (m.0, omega arith)
-stays_on size c k (Bad p) l m = m
-stays_on size c k (Deep p) l m = m
+pub stays : (text : List ℕ) (c : Cursor) (e : End) → Moves text c e → Stays text c e
+stays text c (Ok k) m = (m.0, omega arith)
+stays text c (Err x) m = m
 
-moves_after : (size : ℕ) (c k : Cursor) (e : End) → c.last ≤ k.last → Moves size k e → Moves size c e
-moves_after size c k (At j) l m = (m.0, omega arith)
-moves_after size c k (Bad p) l m = m
-moves_after size c k (Deep p) l m = m
+pub moves_on : (text : List ℕ) (c k : Cursor) (e : End) → c.last < k.last → Stays text k e → Moves text c e
+moves_on text c k (Ok j) l m = (m.0, omega arith)
+moves_on text c k (Err x) l m = m
 
-pub stopped : (size : ℕ) (c k : Cursor) (e : End) → Refused e → Stays size k e → Moves size c e
-stopped size c k (At j) u m = absurd u
-stopped size c k (Bad p) u m = m
-stopped size c k (Deep p) u m = m
+pub stays_on : (text : List ℕ) (c k : Cursor) (e : End) → c.last ≤ k.last → Stays text k e → Stays text c e
+stays_on text c k (Ok j) l m = (m.0, omega arith)
+stays_on text c k (Err x) l m = m
+
+moves_after : (text : List ℕ) (c k : Cursor) (e : End) → c.last ≤ k.last → Moves text k e → Moves text c e
+moves_after text c k (Ok j) l m = (m.0, omega arith)
+moves_after text c k (Err x) l m = m
 
 -- ---- Small tests on sorts.
 
@@ -111,53 +85,58 @@ bracket_begins x rest = rw (within_is x x x (omega arith) (omega arith))
 
 module _ {text : List ℕ} {level : ℕ} where
   pub may : {c : Cursor} {ps : List Symbol} {e : End} → Must ps text c level e → May ps text c level e
-  may {c} {ps} {e} f = (f.0, stays (length text) c e f.1)
+  may {c} {ps} {e} f = (f.0, stays text c e f.1)
+
+  -- What is promised of a cursor's own text.
+  pub must_in : {k : Cursor} {ps : List Symbol} {e : End} → k.text.now ≡ text → Must ps k.text.now k level e → Must ps text k level e
+  must_in {k} {ps} {e} i f = subst (λ (t : List ℕ). Must ps t k level e) i f
+
+  pub may_in : {k : Cursor} {ps : List Symbol} {e : End} → k.text.now ≡ text → May ps k.text.now k level e → May ps text k level e
+  may_in {k} {ps} {e} i f = subst (λ (t : List ℕ). May ps t k level e) i f
 
   -- ---- One call after the other.
 
-  and_so : {c k : Cursor} (ps qs : List Symbol) {r : End} → (Ahead text c → Reads ps text c level (At k)) → (Ahead text k → Reads qs text k level r) →
+  and_so : {c k : Cursor} (ps qs : List Symbol) {r : End} → (Ahead text c → Reads ps text c level (Ok k)) → (Ahead text k → Reads qs text k level r) →
       Ahead text c → Reads (ps ++ qs) text c level r
   and_so ps qs f g a = let x = f a in and_then text level ps qs x (g x.ready.0)
 
   -- The second may be empty.
-  pub joined_may : {c k : Cursor} {e r : End} {ps qs : List Symbol} → e ≡ At k → Must ps text c level e → May qs text k level r → Must (ps ++ qs) text c level r
-  joined_may {c} {k} {e} {r} {ps} {qs} i f g =
-      let h : Must ps text c level (At k) = rw i at f in
-      (and_so ps qs h.0 g.0, moves_on (length text) c k r h.1.1 g.1)
+  pub joined_may : {c k : Cursor} {r : End} {ps qs : List Symbol} → Must ps text c level (Ok k) → May qs k.text.now k level r → Must (ps ++ qs) text c level r
+  joined_may {c} {k} {r} {ps} {qs} f h =
+      let g : May qs text k level r = may_in f.1.0 h in
+      (and_so ps qs f.0 g.0, moves_on text c k r f.1.1 g.1)
 
-  pub joined : {c k : Cursor} {e r : End} {ps qs : List Symbol} → e ≡ At k → Must ps text c level e → Must qs text k level r → Must (ps ++ qs) text c level r
-  joined i f g = joined_may i f (may g)
+  pub joined : {c k : Cursor} {r : End} {ps qs : List Symbol} → Must ps text c level (Ok k) → Must qs k.text.now k level r → Must (ps ++ qs) text c level r
+  joined {c} {k} {r} {ps} {qs} f g = joined_may f (g.0, stays k.text.now k r g.1)
 
   -- The first may be empty.
-  pub may_joined : {c k : Cursor} {r : End} {ps qs : List Symbol} → May ps text c level (At k) → Must qs text k level r → Must (ps ++ qs) text c level r
-  may_joined {c} {k} {r} {ps} {qs} f g = (and_so ps qs f.0 g.0, moves_after (length text) c k r f.1.1 g.1)
+  pub may_joined : {c k : Cursor} {r : End} {ps qs : List Symbol} → May ps text c level (Ok k) → Must qs k.text.now k level r → Must (ps ++ qs) text c level r
+  may_joined {c} {k} {r} {ps} {qs} f h =
+      let g : Must qs text k level r = must_in f.1.0 h in
+      (and_so ps qs f.0 g.0, moves_after text c k r f.1.1 g.1)
 
   -- A refusal handed on, before the symbols qs.
-  no_more : {c : Cursor} (ps qs : List Symbol) (e : End) → Refused e → Reads ps text c level e → Reads (ps ++ qs) text c level e
-  no_more ps qs (At k) u f = absurd u
-  no_more ps qs (Bad p) u f = or_bad text level ps qs f
-  no_more ps qs (Deep p) u f = or_deep text level ps qs f
+  pub may_stop : {c : Cursor} {ps : List Symbol} {e : SyntaxError} (qs : List Symbol) → May ps text c level (Err e) → Must (ps ++ qs) text c level (Err e)
+  may_stop {c} {ps} {e} qs f = (λ a. or_err text level ps qs (f.0 a), f.1)
 
-  may_stop : {c : Cursor} {ps : List Symbol} {e : End} (qs : List Symbol) → Refused e → May ps text c level e → Must (ps ++ qs) text c level e
-  may_stop {c} {ps} {e} qs u f = (λ a. no_more ps qs e u (f.0 a), stopped (length text) c c e u f.1)
-
-  pub stops : {c : Cursor} {ps : List Symbol} {e : End} (qs : List Symbol) → Refused e → Must ps text c level e → Must (ps ++ qs) text c level e
-  stops qs u f = may_stop qs u (may f)
+  pub stops : {c : Cursor} {ps : List Symbol} {e : SyntaxError} (qs : List Symbol) → Must ps text c level (Err e) → Must (ps ++ qs) text c level (Err e)
+  stops qs f = may_stop qs (f.0, f.1)
 
   -- ---- A token whose sort the code has seen.
 
-  pub token : {c k : Cursor} (x : ℕ) → c.sort ≡ x → x ≤ 54 → level ≤ 32 → Lies (length text) c → Next text c k → Must (one x x ∷ []) text c level (At k)
-  token {c} {k} x i s l m n = (
-    λ a. reads_token text level c k a n.0 n.2 n.3 x x s (within_is x x c.sort (omega arith) (omega arith)) l,
-    (n.1, omega (arith, m.4 (omega arith), n.2)),
-  )
+  pub token : {c k : Cursor} (x : ℕ) → c.sort ≡ x → x ≤ 54 → level ≤ 32 → c.text.now ≡ text → Next text c.ends c.cards k → Must (one x x ∷ []) text c level (Ok k)
+  token {c} {k} x i s l m n =
+      let p = lies c m in (
+        λ a. reads_token text level c k a n.0 n.2 n.3 x x s (within_is x x c.sort (omega arith) (omega arith)) l,
+        (n.1, omega (arith, p.4 (omega arith), n.2)),
+      )
 
   -- ---- A part.
 
   -- By the alternative r, where no other begins with the token ahead. If r does not begin so either, both are refused.
   pub by_rest : {c : Cursor} {e : End} → Ahead text c → (n : Part) (r : List Symbol) → Among r (rule n) → nullable n ≡ false →
       subset (first_set_of r) ((0, 54) ∷ []) ≡ true → (has (first_set_of r) c.sort ≡ false →
-      (has (first n) c.sort ≡ false) × Reads r text c level (Bad c.begins)) → Reads r text c level e → Reads (part n ∷ []) text c level e
+      (has (first n) c.sort ≡ false) × Reads r text c level (Err (NotInGrammar c.begins))) → Reads r text c level e → Reads (part n ∷ []) text c level e
   by_rest {c} {e} a n r i u g q h = go (has (first_set_of r) c.sort) refl
     where
       go : (t : Bool) → has (first_set_of r) c.sort ≡ t → Reads (part n ∷ []) text c level e
@@ -197,13 +176,13 @@ module _ {text : List ℕ} {level : ℕ} where
 
   -- A part of one alternative, or empty: it stands there, from its first token on, which the code has seen; or not.
   pub there_it_is : {c k : Cursor} {e : End} (n : Part) (x : ℕ) (rest : List Symbol) → Among (one x x ∷ rest) (rule n) → x ≤ 54 → level ≤ 32 → c.sort ≡ x →
-      Lies (length text) c → Next text c k → May rest text k level e → May (part n ∷ []) text c level e
+      c.text.now ≡ text → Next text c.ends c.cards k → May rest k.text.now k level e → May (part n ∷ []) text c level e
   there_it_is {c} {k} {e} n x rest i s l q p z f =
-      let h : Must (one x x ∷ rest) text c level e = joined_may refl (token x q s l p z) f in
-      (λ a. opens text level a n (one x x ∷ rest) (omega arith) i (begins_with x c.sort rest q) (h.0 a), stays (length text) c e h.1)
+      let h : Must (one x x ∷ rest) text c level e = joined_may (token x q s l p z) f in
+      (λ a. opens text level a n (one x x ∷ rest) (omega arith) i (begins_with x c.sort rest q) (h.0 a), stays text c e h.1)
 
-  pub not_there : {c : Cursor} (n : Part) (x : ℕ) → Among [] (rule n) → first n ≡ (x, x) ∷ [] → (c.sort ≡ x → ⊥) → Lies (length text) c →
-      May (part n ∷ []) text c level (At c)
+  pub not_there : {c : Cursor} (n : Part) (x : ℕ) → Among [] (rule n) → first n ≡ (x, x) ∷ [] → (c.sort ≡ x → ⊥) → c.text.now ≡ text →
+      May (part n ∷ []) text c level (Ok c)
   not_there {c} n x i f k l =
       (λ a. skips text level c a n i (ap (λ (l : List (ℕ × ℕ)). has l c.sort) f ∙ not_among x c.sort k), (l, omega arith))
 
@@ -215,21 +194,22 @@ module _ {text : List ℕ} {level : ℕ} where
       let f : Must ps text c (level + 1) e = rw i at h in
       (λ a. a_level_deeper text level ps (f.0 a), f.1)
 
-  pub no_level : {c : Cursor} (x : ℕ) (qs : List Symbol) → c.sort ≡ x → x ≤ 54 → 32 ≤ level → Lies (length text) c →
-      Must (mark deeper ∷ one x x ∷ qs) text c level (Deep c.begins)
+  pub no_level : {c : Cursor} (x : ℕ) (qs : List Symbol) → c.sort ≡ x → x ≤ 54 → 32 ≤ level → c.text.now ≡ text →
+      Must (mark deeper ∷ one x x ∷ qs) text c level (Err (NestedTooDeep c.begins))
   no_level {c} x qs k s l i =
-      (λ a. too_deep_lem text level c a x x s (within_is x x c.sort (omega arith) (omega arith)) l qs, omega arith)
+      let p = lies c i in
+      (λ a. too_deep_lem text level c a x x s (within_is x x c.sort (omega arith) (omega arith)) l qs, omega (arith, p.1, p.2))
 
   -- ---- In the middle, and loops.
 
-  pub at_start : {b : Cursor} (ps : List Symbol) → Lies (length text) b → Mid ps text b level ps b
+  pub at_start : {b : Cursor} (ps : List Symbol) → b.text.now ≡ text → Mid ps text b level ps b
   at_start {b} ps i = (λ a. at_first text level ps b a, i, omega arith)
 
   -- A part of what is left is read.
-  pub on : {b c k : Cursor} {e : End} {ps qs : List Symbol} (us : List Symbol) → e ≡ At k → Mid ps text b level (qs ++ us) c → May qs text c level e →
+  pub on : {b c k : Cursor} {ps qs : List Symbol} (us : List Symbol) → Mid ps text b level (qs ++ us) c → May qs c.text.now c level (Ok k) →
       Mid ps text b level us k
-  on {b} {c} {k} {e} {ps} {qs} us i m f =
-      let h : May qs text c level (At k) = rw i at f in
+  on {b} {c} {k} {ps} {qs} us m f =
+      let h : May qs text c level (Ok k) = may_in m.1 f in
       (λ a. let w = m.0 a in further text level ps qs us w (h.0 w.ahead), h.1.0, omega (arith, m.2, h.1.1))
 
   -- The alternative that the token ahead begins of the part that is next.
@@ -241,12 +221,36 @@ module _ {text : List ℕ} {level : ℕ} where
   -- All that is left is read; or its beginning is refused.
   pub ends : {b c : Cursor} {ps qs : List Symbol} {r : End} → Mid ps text b level qs c → May qs text c level r → May ps text b level r
   ends {b} {c} {ps} {qs} {r} m f =
-      (λ a. let w = m.0 a in finished text level ps qs w (f.0 w.ahead), stays_on (length text) b c r m.2 f.1)
+      (λ a. let w = m.0 a in finished text level ps qs w (f.0 w.ahead), stays_on text b c r m.2 f.1)
 
-  pub fails : {b c : Cursor} {ps qs : List Symbol} {r : End} (us : List Symbol) → Refused r → Mid ps text b level (qs ++ us) c → May qs text c level r →
-      May ps text b level r
-  fails us u m f =
-      ends m (may (may_stop us u f))
+  pub fails : {b c : Cursor} {ps qs : List Symbol} {e : SyntaxError} (us : List Symbol) → Mid ps text b level (qs ++ us) c → May qs c.text.now c level (Err e) →
+      May ps text b level (Err e)
+  fails us m f = ends m (may (may_stop us (may_in m.1 f)))
+
+-- ---- Nothing, and one token of a range.
+
+pub nothing : {level : ℕ} (k : Cursor) → May [] k.text.now k level (Ok k)
+nothing {level} k = (λ a. reads_none k.text.now level k a, (refl, omega arith))
+
+-- A loop that goes on has less of the text left.
+pub step_falls : (text : List ℕ) (k j : Cursor) → k.text.now ≡ text → (j.text.now ≡ k.text.now) × (k.last < j.last) → length text - j.last < length text - k.last
+step_falls text k j i m =
+    let l = lies j (m.0 ∙ i) in
+    let n = lies k i in
+    omega (arith, l, n, m.1)
+
+pub takes : (lo hi : ℕ) (c k : Cursor) → hi ≤ 54 → within lo hi c.sort ≡ true → Next c.text.now c.ends c.cards k → FlatRead (one lo hi ∷ []) c (Ok k)
+takes lo hi c k i w n =
+    let p = lies c refl in
+    let b = within_bounds lo hi c.sort w in (
+      λ a level s. reads_token c.text.now level c k a n.0 n.2 n.3 lo hi i w s,
+      (n.1, omega (arith, p.4 (omega arith), n.2)),
+    )
+
+pub lacks : (lo hi : ℕ) (c : Cursor) → within lo hi c.sort ≡ false → FlatRead (one lo hi ∷ []) c (Err (NotInGrammar c.begins))
+lacks lo hi c w =
+    let p = lies c refl in
+    (λ a level s. lacks_token c.text.now level c a lo hi w [], omega (arith, p.1, p.2))
 
 -- ---- What holds at every level.
 
@@ -257,11 +261,9 @@ module _ {text : List ℕ} where
   pub every_level : {c : Cursor} {e : End} {ps : List Symbol} → ((level : ℕ) → level ≤ 32 → Must ps text c level e) → Flat ps text c e
   every_level f = (λ a level l. (f level l).0 a, (f 0 (omega arith)).1)
 
-  -- A token of one sort or none, as a part.
-  pub optional : {c k : Cursor} {x : ℕ} (level : ℕ) (n : Part) → level ≤ 32 → Optional n x →
-      (Ahead text c → (l : ℕ) → l ≤ 32 → (p : Part) → Optional p x → Reads (part p ∷ []) text c l (At k)) × Lies (length text) k × (c.last ≤ k.last) →
-      May (part n ∷ []) text c level (At k)
-  optional level n l o f = (λ a. f.0 a level l n o, (f.1, f.2))
+-- A token of one sort or none, as a part.
+pub optional : {c k : Cursor} {x : ℕ} (level : ℕ) (n : Part) → level ≤ 32 → Optional n x → OptionalRead x c k → May (part n ∷ []) c.text.now c level (Ok k)
+optional level n l o f = (λ a. f.0 a level l n o, f.1)
 
 -- ---- Repeated parts before a closer of the sort y: any number, and at least one.
 
@@ -286,56 +288,56 @@ module _ {text : List ℕ} {level : ℕ} {n m : Part} {y : ℕ} (t : Repeated n 
   another : {b c : Cursor} {ps : List Symbol} → (c.sort ≡ y → ⊥) → Mid ps text b level (any_of m y) c → Mid ps text b level (some_of n m y) c
   another {b} {c} {ps} k i = (λ a. once_more text level ps [] n m t.more t.none t.never_empty t.begins t.tokens y k (i.0 a), i.1, i.2)
 
-  read : {b c j : Cursor} {e : End} {ps : List Symbol} → e ≡ At j → Mid ps text b level (some_of n m y) c → Must (part n ∷ []) text c level e →
+  read : {b c j : Cursor} {ps : List Symbol} → Mid ps text b level (some_of n m y) c → Must (part n ∷ []) c.text.now c level (Ok j) →
       Mid ps text b level (any_of m y) j
-  read q i f = on (any_of m y) q i (may f)
+  read {c = c} {j} i f = on (any_of m y) i (f.0, stays c.text.now c (Ok j) f.1)
 
-  refuse : {b c : Cursor} {e : End} {ps : List Symbol} → Refused e → Mid ps text b level (some_of n m y) c → Must (part n ∷ []) text c level e →
-      May ps text b level e
-  refuse u i f = fails (any_of m y) u i (may f)
+  refuse : {b c : Cursor} {e : SyntaxError} {ps : List Symbol} → Mid ps text b level (some_of n m y) c → Must (part n ∷ []) c.text.now c level (Err e) →
+      May ps text b level (Err e)
+  refuse i f = fails (any_of m y) i (f.0, f.1)
 
   -- Any number, with the closer or an n next at c.
-  pub any_closes : {b c k : Cursor} {ps : List Symbol} → level ≤ 32 → c.sort ≡ y → Next text c k → Mid ps text b level (any_of m y) c →
-      May ps text b level (At k)
+  pub any_closes : {b c k : Cursor} {ps : List Symbol} → level ≤ 32 → c.sort ≡ y → Next c.text.now c.ends c.cards k → Mid ps text b level (any_of m y) c →
+      May ps text b level (Ok k)
   any_closes {b} {c} {k} {ps} l e x i =
-      let skip : May (part m ∷ []) text c level (At c) = (λ a. skips text level c a m t.none (ap (has (first m)) e ∙ t.closed), (i.1, omega arith)) in
-      let close : Must (one y y ∷ []) text c level (At k) = token y e t.closer l i.1 x in
-      let both : Must (any_of m y) text c level (At k) = may_joined skip close in
-      ends i (may both)
+      let skip : May (part m ∷ []) c.text.now c level (Ok c) = (λ a. skips c.text.now level c a m t.none (ap (has (first m)) e ∙ t.closed), (refl, omega arith)) in
+      let close : Must (one y y ∷ []) c.text.now c level (Ok k) = token y e t.closer l refl x in
+      let both : Must (any_of m y) c.text.now c level (Ok k) = may_joined skip close in
+      ends i (may (must_in i.1 both))
 
-  pub any_refused : {b c : Cursor} {e : End} → (c.sort ≡ y → ⊥) → Refused e → Mid (any_of m y) text b level (any_of m y) c →
-      Must (part n ∷ []) text c level e → May (any_of m y) text b level e
-  any_refused k u i f = refuse u (another k i) f
+  pub any_refused : {b c : Cursor} {e : SyntaxError} → (c.sort ≡ y → ⊥) → Mid (any_of m y) text b level (any_of m y) c →
+      Must (part n ∷ []) c.text.now c level (Err e) → May (any_of m y) text b level (Err e)
+  any_refused k i f = refuse (another k i) f
 
-  pub any_next : {b c j : Cursor} {e : End} → (c.sort ≡ y → ⊥) → e ≡ At j → Mid (any_of m y) text b level (any_of m y) c →
-      Must (part n ∷ []) text c level e → Mid (any_of m y) text b level (any_of m y) j
-  any_next k q i f = read q (another k i) f
+  pub any_next : {b c j : Cursor} → (c.sort ≡ y → ⊥) → Mid (any_of m y) text b level (any_of m y) c →
+      Must (part n ∷ []) c.text.now c level (Ok j) → Mid (any_of m y) text b level (any_of m y) j
+  any_next k i f = read (another k i) f
 
   -- At least one, with an n next at c: it is refused, it is the last, or another comes.
-  pub some_refused : {b c : Cursor} {e : End} → Refused e → Mid (some_of n m y) text b level (some_of n m y) c → Must (part n ∷ []) text c level e →
-      May (some_of n m y) text b level e
-  some_refused u i f = refuse u i f
+  pub some_refused : {b c : Cursor} {e : SyntaxError} → Mid (some_of n m y) text b level (some_of n m y) c → Must (part n ∷ []) c.text.now c level (Err e) →
+      May (some_of n m y) text b level (Err e)
+  some_refused i f = refuse i f
 
-  pub some_closes : {b c j k : Cursor} {e : End} → level ≤ 32 → e ≡ At j → j.sort ≡ y → Next text j k →
-      Mid (some_of n m y) text b level (some_of n m y) c → Must (part n ∷ []) text c level e → May (some_of n m y) text b level (At k)
-  some_closes l q z x i f = any_closes l z x (read q i f)
+  pub some_closes : {b c j k : Cursor} → level ≤ 32 → j.sort ≡ y → Next j.text.now j.ends j.cards k →
+      Mid (some_of n m y) text b level (some_of n m y) c → Must (part n ∷ []) c.text.now c level (Ok j) → May (some_of n m y) text b level (Ok k)
+  some_closes l z x i f = any_closes l z x (read i f)
 
-  pub some_next : {b c j : Cursor} {e : End} → e ≡ At j → (j.sort ≡ y → ⊥) → Mid (some_of n m y) text b level (some_of n m y) c →
-      Must (part n ∷ []) text c level e → Mid (some_of n m y) text b level (some_of n m y) j
-  some_next q z i f = another z (read q i f)
+  pub some_next : {b c j : Cursor} → (j.sort ≡ y → ⊥) → Mid (some_of n m y) text b level (some_of n m y) c →
+      Must (part n ∷ []) c.text.now c level (Ok j) → Mid (some_of n m y) text b level (some_of n m y) j
+  some_next z i f = another z (read i f)
 
 -- ---- A part that is a repeated part in brackets, which are a level: from the opener on, and at a level too deep.
 
 module _ {text : List ℕ} {level : ℕ} {c : Cursor} (n m : Part) (x y : ℕ)
-    (i : Among (mark deeper ∷ one x x ∷ part m ∷ one y y ∷ mark shallower ∷ []) (rule n)) (s : x ≤ 54) (k : c.sort ≡ x) (p : Lies (length text) c) where
-  pub bracketed : {k : Cursor} {inner : ℕ} {e : End} → inner ≡ level + 1 → inner ≤ 32 → Next text c k → May (any_of m y) text k inner e →
+    (i : Among (mark deeper ∷ one x x ∷ part m ∷ one y y ∷ mark shallower ∷ []) (rule n)) (s : x ≤ 54) (k : c.sort ≡ x) (p : c.text.now ≡ text) where
+  pub bracketed : {k : Cursor} {inner : ℕ} {e : End} → inner ≡ level + 1 → inner ≤ 32 → Next text c.ends c.cards k → May (any_of m y) k.text.now k inner e →
       Must (part n ∷ []) text c level e
   bracketed {k = j} {inner} {e} q l z f =
-      let h : Must (one x x ∷ any_of m y) text c inner e = joined_may refl (token x k s l p z) f in
+      let h : Must (one x x ∷ any_of m y) text c inner e = joined_may (token x k s l p z) f in
       chosen n (mark deeper ∷ one x x ∷ part m ∷ one y y ∷ mark shallower ∷ []) x i (bracket_begins x (part m ∷ one y y ∷ mark shallower ∷ [])) s k
       (a_level (one x x ∷ any_of m y) q h)
 
-  pub bracketed_deep : 32 ≤ level → Must (part n ∷ []) text c level (Deep c.begins)
+  pub bracketed_deep : 32 ≤ level → Must (part n ∷ []) text c level (Err (NestedTooDeep c.begins))
   bracketed_deep l =
       chosen n (mark deeper ∷ one x x ∷ part m ∷ one y y ∷ mark shallower ∷ []) x i (bracket_begins x (part m ∷ one y y ∷ mark shallower ∷ [])) s k
       (no_level x (part m ∷ one y y ∷ mark shallower ∷ []) k s l p)

@@ -1,2 +1,3 @@
 -- What the parser's functions promise.
+pub mod Errors
 pub mod Reads

@@ -1,69 +1,47 @@
 // Input values (3.6.1 of the specification): what the definitions of an argument and of an input field have in common; and the definitions of arguments.
-ghost use Rattle.std.specs.Prelude.{[], ◌∷◌, length};
+ghost use Rattle.std.specs.Prelude.{[], ◌∷◌};
 ghost use Rattle.definition.specs.Grammar.{part, colon, TypeReference, Default?, Directive*, ArgumentDefinition, ArgumentDefinitions?};
-ghost use Rattle.parser_lexer.specs.Ahead.{Ahead, Lies};
-ghost use Rattle.parser_values.specs.Reads.{Reads, Moves, Stays};
+ghost use Rattle.parser_values.specs.Reads.{MustRead, MayRead};
 
 use crate::description::description;
 use crate::directives::directives;
 use crate::types::type_reference;
 use crate::values::default_value;
-use crate::{End, take};
+use crate::{SyntaxError, take};
+use parser_lexer::Cursor;
 use parser_lexer::sorts::{COLON, FIRST_NAME, NAME, PAREN_CLOSES, PAREN_OPENS};
-use parser_lexer::{Cursor, next_token};
 
 // What comes after the name: a colon, the type, a default value or none, and directives.
-pub fn input_value_type(text: &[u8], c: Cursor) -> End
-    requires { Lies (length text.now) c }
-    ensures { (Ahead text.now c → Reads (colon ∷ part TypeReference ∷ part Default? ∷ part Directive* ∷ []) text.now c 0 result) ×
-        Moves (length text.now) c result }
+pub fn input_value_type(c: Cursor) -> Result<Cursor, SyntaxError>
+    ensures { MustRead (colon ∷ part TypeReference ∷ part Default? ∷ part Directive* ∷ []) c.entry 0 result }
 {
-    let begun = take(text, c, COLON, COLON);
-    let End::At(k) = begun else {
-        return begun;
-    };
-    let typed = type_reference(text, k, 32);
-    let End::At(j) = typed else {
-        return typed;
-    };
-    let given = default_value(text, j);
-    let End::At(e) = given else {
-        return given;
-    };
-    directives(text, e)
+    let k = take(c, COLON, COLON)?;
+    let j = type_reference(k, 32)?;
+    let e = default_value(j)?;
+    directives(e)
 }
 
 // The definition of an argument.
-fn argument_definition(text: &[u8], c: Cursor) -> End
-    requires { Lies (length text.now) c }
-    ensures { (Ahead text.now c → Reads (part ArgumentDefinition ∷ []) text.now c 0 result) ×
-        Moves (length text.now) c result }
+fn argument_definition(c: Cursor) -> Result<Cursor, SyntaxError>
+    ensures { MustRead (part ArgumentDefinition ∷ []) c.entry 0 result }
 {
-    let k = description(text, c);
-    let named = take(text, k, FIRST_NAME, NAME);
-    let End::At(j) = named else {
-        return named;
-    };
-    input_value_type(text, j)
+    let k = description(c);
+    let j = take(k, FIRST_NAME, NAME)?;
+    input_value_type(j)
 }
 
 // The definitions of arguments in parentheses, at least one; or none.
-pub fn argument_definitions(text: &[u8], c: Cursor) -> End
-    requires { Lies (length text.now) c }
-    ensures { (Ahead text.now c → Reads (part ArgumentDefinitions? ∷ []) text.now c 0 result) ×
-        Stays (length text.now) c result }
+pub fn argument_definitions(c: Cursor) -> Result<Cursor, SyntaxError>
+    ensures { MayRead (part ArgumentDefinitions? ∷ []) c.entry 0 result }
 {
     if c.sort != PAREN_OPENS {
-        return End::At(c);
+        return Ok(c);
     }
-    let mut k = next_token(text, c.ends, c.cards);
+    let mut k = c.next();
     loop {
-        let one = argument_definition(text, k);
-        let End::At(j) = one else {
-            return one;
-        };
+        let j = argument_definition(k)?;
         if j.sort == PAREN_CLOSES {
-            return End::At(next_token(text, j.ends, j.cards));
+            return Ok(j.next());
         }
         k = j;
     }

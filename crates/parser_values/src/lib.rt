@@ -1,69 +1,55 @@
 // The readers of what has no card of its own: values, type references, arguments, and directives that are not a heading's.
 #![tactic(auto)]
 
-ghost use Rattle.std.specs.Prelude.{[], ◌∷◌, ℕ, ◌≤◌, length};
-ghost use Rattle.definition.specs.Grammar.{Part, one, part, name, colon};
-ghost use Rattle.parser_lexer.specs.Ahead.{Ahead, Lies};
-ghost use Rattle.parser_values.specs.Reads.{Reads, Moves, Optional};
+ghost use Rattle.std.specs.Prelude.{◌≡◌, [], ◌∷◌, ◌≤◌};
+ghost use Rattle.definition.specs.Grammar.{one, within, name, colon};
+ghost use Rattle.parser_values.specs.Reads.{FlatRead, OptionalRead};
 
+use parser_lexer::Cursor;
 use parser_lexer::sorts::{COLON, FIRST_NAME, NAME};
-use parser_lexer::{Cursor, next_token};
 
 pub mod arguments;
 pub mod description;
 pub mod directives;
+pub mod error;
 pub mod input_values;
 pub mod types;
 pub mod values;
 
-// Where a part of the grammar ends, with the token ahead there; or what is refused and where: 29 for a token, byte or end that no text of the grammar
-// has there, 30 for the opener of a 33rd level.
-#[derive(Clone, Copy)]
-pub enum End {
-    At(Cursor),
-    Bad(usize),
-    Deep(usize),
+pub use error::SyntaxError;
+
+// Whether a sort lies in a range.
+#[tactic(auto, unfolding(definition::specs::Grammar::within))]
+fn is_within(sort: u32, lo: u32, hi: u32) -> bool
+    ensures { result ≡ within lo hi sort }
+{
+    lo <= sort && sort <= hi
 }
 
 // A token whose sort lies in a range; any other is refused.
-pub fn take(text: &[u8], c: Cursor, lo: u32, hi: u32) -> End
-    requires { Lies (length text.now) c ×
-        (hi ≤ 54) }
-    ensures { (Ahead text.now c → (level : ℕ) → level ≤ 32 → Reads (one lo hi ∷ []) text.now c level result) ×
-        Moves (length text.now) c result }
+pub fn take(c: Cursor, lo: u32, hi: u32) -> Result<Cursor, SyntaxError>
+    requires { hi ≤ 54 }
+    ensures { FlatRead (one lo hi ∷ []) c.entry result }
 {
-    if c.sort < lo {
-        return End::Bad(c.begins);
+    if is_within(c.sort, lo, hi) {
+        Ok(c.next())
+    } else {
+        Err(SyntaxError::NotInGrammar(c.begins))
     }
-    if hi < c.sort {
-        return End::Bad(c.begins);
-    }
-    End::At(next_token(text, c.ends, c.cards))
 }
 
 // A token of one sort, or none: any part of the grammar that is just that.
-pub fn take_optional(text: &[u8], c: Cursor, sort: u32) -> Cursor
-    requires { Lies (length text.now) c ×
-        (sort ≤ 54) }
-    ensures { (Ahead text.now c → (level : ℕ) → level ≤ 32 → (n : Part) → Optional n sort → Reads (part n ∷ []) text.now c level (End.At result)) ×
-        Lies (length text.now) result ×
-        (c.last ≤ result.last) }
+pub fn take_optional(c: Cursor, sort: u32) -> Cursor
+    requires { sort ≤ 54 }
+    ensures { OptionalRead sort c.entry result }
 {
-    if c.sort == sort {
-        return next_token(text, c.ends, c.cards);
-    }
-    c
+    if c.sort == sort { c.next() } else { c }
 }
 
 // A name and a colon: what a field of an object and an argument begin with.
-pub fn name_and_colon(text: &[u8], c: Cursor) -> End
-    requires { Lies (length text.now) c }
-    ensures { (Ahead text.now c → (level : ℕ) → level ≤ 32 → Reads (name ∷ colon ∷ []) text.now c level result) ×
-        Moves (length text.now) c result }
+pub fn name_and_colon(c: Cursor) -> Result<Cursor, SyntaxError>
+    ensures { FlatRead (name ∷ colon ∷ []) c.entry result }
 {
-    let named = take(text, c, FIRST_NAME, NAME);
-    let End::At(k) = named else {
-        return named;
-    };
-    take(text, k, COLON, COLON)
+    let k = take(c, FIRST_NAME, NAME)?;
+    take(k, COLON, COLON)
 }

@@ -1,85 +1,69 @@
 // Values: 2.9 of the specification, constant.
-ghost use Rattle.std.specs.Prelude.{[], ◌∷◌, ◌≤◌, ◌-◌, length};
+ghost use Rattle.std.specs.Prelude.{[], ◌∷◌, ◌≤◌, ◌-◌};
 ghost use Rattle.definition.specs.Grammar.{part, Value, ObjectValue, Default?};
-ghost use Rattle.parser_lexer.specs.Ahead.{Ahead, Lies};
-ghost use Rattle.parser_values.specs.Reads.{Reads, Moves, Stays};
+ghost use Rattle.parser_values.specs.Reads.{MustRead, MayRead};
 
-use crate::{End, name_and_colon, take};
+use crate::{SyntaxError, name_and_colon, take};
+use parser_lexer::Cursor;
 use parser_lexer::sorts::{
     BRACE_CLOSES, BRACE_OPENS, BRACKET_CLOSES, BRACKET_OPENS, EQUALS, INT, NAME,
 };
-use parser_lexer::{Cursor, next_token};
 
 // A value, with depth levels left: one token; a list, which is a level; or an object.
 #[cycle(object_value_value)]
-pub fn value(text: &[u8], c: Cursor, depth: usize) -> End
-    requires { Lies (length text.now) c ×
-        (depth ≤ 32) }
-    ensures { (Ahead text.now c → Reads (part Value ∷ []) text.now c (32 - depth) result) ×
-        Moves (length text.now) c result }
+pub fn value(c: Cursor, depth: usize) -> Result<Cursor, SyntaxError>
+    requires { depth ≤ 32 }
+    ensures { MustRead (part Value ∷ []) c.entry (32 - depth) result }
 {
     if c.sort == BRACE_OPENS {
-        return object_value(text, c, depth);
+        return object_value(c, depth);
     }
     if c.sort != BRACKET_OPENS {
-        return take(text, c, INT, NAME);
+        return take(c, INT, NAME);
     }
     if depth == 0 {
-        return End::Deep(c.begins);
+        return Err(SyntaxError::NestedTooDeep(c.begins));
     }
-    let mut k = next_token(text, c.ends, c.cards);
+    let mut k = c.next();
     loop {
         if k.sort == BRACKET_CLOSES {
-            return End::At(next_token(text, k.ends, k.cards));
+            return Ok(k.next());
         }
-        let item = value(text, k, depth - 1);
-        let End::At(j) = item else {
-            return item;
-        };
+        let j = value(k, depth - 1)?;
         k = j;
     }
 }
 
 // An object value, with depth levels left: fields in braces, which are a level.
 #[cycle(object_value_value)]
-pub fn object_value(text: &[u8], c: Cursor, depth: usize) -> End
-    requires { Lies (length text.now) c ×
-        (depth ≤ 32) }
-    ensures { (Ahead text.now c → Reads (part ObjectValue ∷ []) text.now c (32 - depth) result) ×
-        Moves (length text.now) c result }
+pub fn object_value(c: Cursor, depth: usize) -> Result<Cursor, SyntaxError>
+    requires { depth ≤ 32 }
+    ensures { MustRead (part ObjectValue ∷ []) c.entry (32 - depth) result }
 {
     if c.sort != BRACE_OPENS {
-        return End::Bad(c.begins);
+        return Err(SyntaxError::NotInGrammar(c.begins));
     }
     if depth == 0 {
-        return End::Deep(c.begins);
+        return Err(SyntaxError::NestedTooDeep(c.begins));
     }
-    let mut k = next_token(text, c.ends, c.cards);
+    let mut k = c.next();
     loop {
         if k.sort == BRACE_CLOSES {
-            return End::At(next_token(text, k.ends, k.cards));
+            return Ok(k.next());
         }
-        let named = name_and_colon(text, k);
-        let End::At(j) = named else {
-            return named;
-        };
-        let field = value(text, j, depth - 1);
-        let End::At(e) = field else {
-            return field;
-        };
+        let j = name_and_colon(k)?;
+        let e = value(j, depth - 1)?;
         k = e;
     }
 }
 
 // A default value, or none: 2.10.
-pub fn default_value(text: &[u8], c: Cursor) -> End
-    requires { Lies (length text.now) c }
-    ensures { (Ahead text.now c → Reads (part Default? ∷ []) text.now c 0 result) ×
-        Stays (length text.now) c result }
+pub fn default_value(c: Cursor) -> Result<Cursor, SyntaxError>
+    ensures { MayRead (part Default? ∷ []) c.entry 0 result }
 {
     if c.sort != EQUALS {
-        return End::At(c);
+        return Ok(c);
     }
-    let k = next_token(text, c.ends, c.cards);
-    value(text, k, 32)
+    let k = c.next();
+    value(k, 32)
 }

@@ -1,2 +1,3 @@
+-- Numbers and lines as they are printed, and words as they are read.
 pub mod Text
-pub mod InputLaws
+pub mod Words

@@ -1,31 +1,14 @@
 -- What is made of the bytes of files.
-use Rattle.std.specs.Prelude.{◌≡◌, refl, List, [], ◌∷◌, ℕ, ◌+◌, ◌*◌, ◌≤◌, ◌<◌}
+use Rattle.std.specs.Prelude.{◌≡◌, refl, List, [], ◌∷◌, ℕ, ◌+◌, ◌*◌, ◌/◌, ◌≤◌, vec_len}
 use Rattle.program_io.specs.declared.input.documents.Document.{Document}
-use Rattle.program_io.specs.declared.input.documents.Document.TheVariants.{Read, Missing, Uneven, Told as DocumentTold}
-use Rattle.program_io.specs.declared.input.files.File.{File}
-use Rattle.program_io.specs.declared.input.files.File.TheVariants.{Whole, Told}
 
--- The bytes that a file of a document may have, a folder's path and any path.
+-- The bytes that a file of a document may have.
 abbrev pub file_capacity : ℕ
 file_capacity = 1048576
 
-abbrev pub folder_capacity : ℕ
-folder_capacity = 24
-
-abbrev pub path_capacity : ℕ
-path_capacity = 64
-
--- A file that was read has fewer bytes than its buffer, so that none was cut off.
-abbrev pub Within : File → ℕ → Type 0
-Within (Whole n) size = n < size
-Within Told size = Unit {0}
-
--- The text and the card words of a document that was read lie in their buffers.
-abbrev pub Lies : Document → ℕ → ℕ → Type 0
-Lies (Read text cards) bytes words = (text ≤ bytes) × (cards ≤ words)
-Lies Missing bytes words = Unit {0}
-Lies Uneven bytes words = Unit {0}
-Lies DocumentTold bytes words = Unit {0}
+-- The text and the card words of a document that was read are all of two files that are not too large.
+abbrev pub Lies : Document → Type 0
+Lies d = (vec_len d.text ≤ file_capacity) × (vec_len d.cards ≤ file_capacity / 4)
 
 -- Four bytes as a word, the lowest first, and the words of a file. Bytes past the last whole word are left out.
 abbrev pub little_endian : ℕ → ℕ → ℕ → ℕ → ℕ

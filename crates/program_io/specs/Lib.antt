@@ -1,4 +1,4 @@
--- What is put into buffers.
+-- What is printed.
 pub mod Text
 pub mod Listing
 -- What is read from files. What the system itself reads is tested, not proved.

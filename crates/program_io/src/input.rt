@@ -1,4 +1,3 @@
-// What the programs read: whole files into buffers, and a document's text and card words.
-pub mod buffers;
+// What the programs read: whole files, and a document's text and card words.
 pub mod documents;
 pub mod files;

@@ -1,5 +1,4 @@
 #![tactic(auto)]
 
-pub mod filing;
 pub mod input;
 pub mod output;

@@ -1,2 +1,3 @@
-// What the programs share of text: numbers, names of files and a drawing's listing, put into a buffer.
-pub mod put;
+// What the programs share of text: the names of numbered files, and what a drawing prints.
+pub mod file_name;
+pub mod shown;

@@ -1,156 +1,76 @@
 // Drawing, and what is expected of it: the listing, and that nothing is written past what is drawn.
-ghost use Rattle.std.specs.Prelude.{◌≡◌, ◌≤◌, length};
-ghost use Rattle.definition.specs.Refusals.{rows_capacity, errors_capacity};
-ghost use Rattle.program_io.specs.Input.{folder_capacity};
-ghost use Rattle.replay_calls.specs.LineWords.{calls_capacity};
+ghost use Rattle.std.specs.Prelude.{◌≤◌};
+ghost use Rattle.definition.specs.Refusals.{rows_capacity};
 
-use crate::expected::hold::hold_drawing;
-use definition::Drawing;
+use crate::held::{hold_listing, stays_unwritten, unwritten};
 use definition::layout::{ERROR_WORDS, ERRORS_CAPACITY, ROW_WORDS, ROWS_CAPACITY};
-use replay_calls::calls::parse::read_numbers;
-use replay_calls::steps::buffers;
-use replay_calls::steps::slices::{copy_words, same_words};
-use replay_calls::steps::step::{Lent, Step, Verdict, asked, blamed};
+use definition::refusal::Refusal;
+use definition::{Drawing, Drawn};
+use program_io::output::shown::Listing;
+use replay_calls::failure::Failure;
+use replay_calls::line::Line;
+use replay_calls::table::Table;
 use std::rt::Files;
 
-// `build R E N K`
+// `build R E N K`: how many words of rows and errors are lent, the number of the answer, and of the listing.
 pub fn run_build(
-    rt: &(impl Files + Eprint),
-    folder: &[u8],
-    line: &[u8],
-    lent: Lent,
-    text: &[u8],
-    words: &[u32],
-    rows: &mut [u32],
-) -> Step
-    requires { (length folder.now ≤ folder_capacity)
-        × (length line.now ≤ calls_capacity)
-        × (length rows.old ≡ rows_capacity) }
-{
-    let mut given = [0usize; 4];
-    if !read_numbers(line, 1, &mut given) {
-        return asked(lent, Verdict::Malformed);
+    rt: &(impl Files + AllocGlobal + Eprint),
+    folder: &str,
+    line: &Line,
+    table: &mut Table,
+) -> Result<(), Failure> {
+    let [r, e, number, k] = line.numbers::<4>(1)?;
+    if r > ROWS_CAPACITY || e > ERRORS_CAPACITY {
+        return Err(Failure::Malformed);
     }
-    if ROWS_CAPACITY < given[0] {
-        return asked(lent, Verdict::Malformed);
-    }
-    if ERRORS_CAPACITY < given[1] {
-        return asked(lent, Verdict::Malformed);
-    }
-    let expected = Expected {
-        r: given[0],
-        e: given[1],
-        number: given[2],
-        k: given[3],
-    };
-    hold_build(rt, folder, expected, lent, text, words, rows)
-}
-
-// The numbers of the line: how many words of rows and errors are lent, the number of the answer, and of the listing.
-#[derive(Clone, Copy)]
-struct Expected {
-    r: usize,
-    e: usize,
-    number: usize,
-    k: usize,
-}
-
-fn hold_build(
-    rt: &(impl Files + Eprint),
-    folder: &[u8],
-    expected: Expected,
-    lent: Lent,
-    text: &[u8],
-    words: &[u32],
-    rows: &mut [u32],
-) -> Step
-    requires { (length folder.now ≤ folder_capacity)
-        × (expected.r ≤ rows_capacity)
-        × (expected.e ≤ errors_capacity)
-        × (length rows.old ≡ rows_capacity) }
-{
-    let mut errors = buffers::errors();
-    let mut old_rows = buffers::rows();
-    copy_words(rows, &mut old_rows);
-    let drawing = draw(text, words, rows, expected.r, &mut errors, expected.e);
-    let verdict = hold_drawing(
-        rt,
-        folder,
+    let mut errors = unwritten::<ERRORS_CAPACITY>();
+    let old_rows = table.rows;
+    let drawing = draw(table, r, &mut errors[..e]);
+    let listing = Listing {
         drawing,
-        expected.number,
-        expected.k,
-        rows,
-        &errors,
-    );
-    asked(
-        lend_built(lent, drawing),
-        hold_rest(verdict, drawing, rows, &old_rows, &errors),
-    )
-}
-
-// Draws into the first r words of the rows and e of the errors.
-fn draw(
-    text: &[u8],
-    words: &[u32],
-    rows: &mut [u32],
-    r: usize,
-    errors: &mut [u32],
-    e: usize,
-) -> Drawing
-    requires { (r ≤ length rows.old)
-        × (e ≤ length errors.old) }
-{
-    api::build(text, words, &mut rows[..r], &mut errors[..e])
+        rows: &table.rows,
+        errors: &errors,
+    };
+    hold_listing(rt, folder, number, k, &listing)?;
+    let drawn = rows_drawn(drawing);
+    if !table
+        .rows
+        .iter()
+        .skip(drawn)
+        .eq(old_rows.iter().skip(drawn))
+        || !stays_unwritten(&errors, errors_drawn(drawing))
+    {
+        return Err(Failure::Changed);
+    }
+    Ok(())
 }
 
 // The rows drawn are lent from now on; a refused drawing leaves what was lent, and counts nothing.
-fn lend_built(lent: Lent, drawing: Drawing) -> Lent {
-    let tallies = drawing.tallies;
-    if drawing.number != 0 {
-        return Lent {
-            text: lent.text,
-            words: lent.words,
-            rows: lent.rows,
-            tallies,
-        };
+fn draw(table: &mut Table, r: usize, errors: &mut [u32]) -> Result<Drawn, Refusal>
+    requires { r ≤ rows_capacity }
+{
+    let text = &table.store.text[..table.lent.text];
+    let words = &table.store.words[..table.lent.words];
+    let rows = &mut table.rows[..];
+    let drawing = api::build(text, words, &mut rows[..r], errors);
+    table.tallies = Drawing::from(drawing).tallies;
+    if drawing.is_ok() {
+        table.lent.rows = rows_drawn(drawing).min(ROWS_CAPACITY);
     }
-    Lent {
-        text: lent.text,
-        words: lent.words,
-        rows: rows_built(drawing),
-        tallies,
-    }
+    drawing
 }
 
 // How many words of rows a drawing writes: none where it is refused.
-fn rows_built(drawing: Drawing) -> usize {
-    if drawing.number != 0 {
-        return 0;
+fn rows_drawn(drawing: Result<Drawn, Refusal>) -> usize {
+    match drawing {
+        Ok(drawn) => ROW_WORDS * (drawn.rows as usize),
+        Err(_) => 0,
     }
-    ROW_WORDS * (drawing.rows as usize)
 }
 
-fn errors_built(drawing: Drawing) -> usize {
-    if drawing.number != 0 {
-        return 0;
+fn errors_drawn(drawing: Result<Drawn, Refusal>) -> usize {
+    match drawing {
+        Ok(drawn) => ERROR_WORDS * (drawn.reading_errors as usize + drawn.drawing_errors as usize),
+        Err(_) => 0,
     }
-    ERROR_WORDS * (drawing.reading_errors as usize + drawing.drawing_errors as usize)
-}
-
-// Rows and errors stay past what is drawn.
-fn hold_rest(
-    verdict: Verdict,
-    drawing: Drawing,
-    rows: &[u32],
-    old_rows: &[u32],
-    errors: &[u32],
-) -> Verdict {
-    if !same_words(rows, old_rows, rows_built(drawing)) {
-        return blamed(verdict);
-    }
-    let untouched = buffers::errors();
-    if !same_words(errors, &untouched, errors_built(drawing)) {
-        return blamed(verdict);
-    }
-    verdict
 }

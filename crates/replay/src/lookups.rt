@@ -1,147 +1,96 @@
 // Lookups over the store and the rows that are lent, and what is expected of them.
-ghost use Rattle.std.specs.Prelude.{◌≤◌, length};
-ghost use Rattle.replay_calls.specs.LineWords.{calls_capacity};
-
-use crate::expected::hold::{hold_answer, hold_field, hold_list, hold_name};
+use crate::held::{LIST_CAPACITY, hold_answer, hold_field, hold_list, hold_name, unwritten};
 use api::answers::{subtype_number, subtype_refusal};
 use definition::{Answer, OperationType};
-use replay_calls::calls::parse::{
-    Number, count_words, number_of, read_first_numbers, read_numbers, word,
-};
-use replay_calls::steps::buffers;
-use replay_calls::steps::command::{Filling, Lookup};
-use replay_calls::steps::numbers::{Pair, read_pair};
-use replay_calls::steps::slices::least;
-use replay_calls::steps::step::Verdict;
+use replay_calls::command::{Filling, Lookup};
+use replay_calls::failure::Failure;
+use replay_calls::line::{Line, number_of};
+use replay_calls::table::Table;
 
-pub fn run_lookup(lookup: Lookup, line: &[u8], text: &[u8], words: &[u32], rows: &[u32]) -> Verdict
-    requires { length line.now ≤ calls_capacity }
-{
-    match lookup {
-        Lookup::CheckRows => run_check_rows(line, text, words, rows),
-        Lookup::RootOperation => run_root_operation(line, text, words, rows),
-        Lookup::TypeField => run_type_field(line, text, words, rows),
-        Lookup::IsSubtype => run_is_subtype(line, text, words, rows),
-        Lookup::Fill(filling) => run_filling(filling, line, text, words, rows),
-    }
-}
-
-// `check_rows N C`
-fn run_check_rows(line: &[u8], text: &[u8], words: &[u32], rows: &[u32]) -> Verdict
-    requires { length line.now ≤ calls_capacity }
-{
-    let Pair::Numbers {
-        first: number,
-        second: card,
-    } = read_pair(line, 1)
-    else {
-        return Verdict::Malformed;
-    };
-    hold_answer(api::check_rows(text, words, rows), number, card)
-}
-
-// The operation of a number, or that there is none.
+// What a lookup is lent.
 #[derive(Clone, Copy)]
-enum Operation {
-    Asked(OperationType),
-    Malformed,
+struct Lent<'a> {
+    text: &'a [u8],
+    words: &'a [u32],
+    rows: &'a [u32],
 }
 
-fn operation_of(word: &[u8]) -> Operation {
-    let Number::Value(n) = number_of(word) else {
-        return Operation::Malformed;
+pub fn run_lookup(lookup: Lookup, line: &Line, table: &Table) -> Result<(), Failure> {
+    let lent = Lent {
+        text: &table.store.text[..table.lent.text],
+        words: &table.store.words[..table.lent.words],
+        rows: &table.rows[..table.lent.rows],
     };
-    match n {
-        0 => Operation::Asked(OperationType::Query),
-        1 => Operation::Asked(OperationType::Mutation),
-        2 => Operation::Asked(OperationType::Subscription),
-        _ => Operation::Malformed,
+    match lookup {
+        Lookup::CheckRows => lent.check_rows(line),
+        Lookup::RootOperation => lent.root_operation(line),
+        Lookup::TypeField => lent.type_field(line),
+        Lookup::IsSubtype => lent.is_subtype(line),
+        Lookup::Fill(filling) => lent.fill(filling, line),
     }
 }
 
-// `root_operation O NAME`
-fn run_root_operation(line: &[u8], text: &[u8], words: &[u32], rows: &[u32]) -> Verdict
-    requires { length line.now ≤ calls_capacity }
-{
-    if count_words(line) != 3 {
-        return Verdict::Malformed;
+impl Lent<'_> {
+    // `check_rows N C`
+    fn check_rows(&self, line: &Line) -> Result<(), Failure> {
+        let [number, card] = line.numbers::<2>(1)?;
+        hold_answer(
+            api::check_rows(self.text, self.words, self.rows).into(),
+            number,
+            card,
+        )
     }
-    let Operation::Asked(op) = operation_of(word(line, 1)) else {
-        return Verdict::Malformed;
-    };
-    let name = api::root_operation(text, words, rows, op);
-    hold_name(name, word(line, 2))
+
+    // `root_operation O NAME`
+    fn root_operation(&self, line: &Line) -> Result<(), Failure> {
+        if line.count_words() != 3 {
+            return Err(Failure::Malformed);
+        }
+        let operation = operation_of(line.word(1)).ok_or(Failure::Malformed)?;
+        let name = api::root_operation(self.text, self.words, self.rows, operation);
+        hold_name(name, line.word(2))
+    }
+
+    // `type_field TYPE FIELD N K M C`
+    fn type_field(&self, line: &Line) -> Result<(), Failure> {
+        let [refusal, kind, meta, card] = line.numbers::<4>(3)?;
+        let answer = api::type_field(self.text, self.words, self.rows, line.word(1), line.word(2));
+        hold_field(answer, refusal, kind, meta, card)
+    }
+
+    // `is_subtype GENERAL OTHER N V`
+    fn is_subtype(&self, line: &Line) -> Result<(), Failure> {
+        let [number, yes] = line.numbers::<2>(3)?;
+        let answer = api::is_subtype(self.text, self.words, self.rows, line.word(1), line.word(2));
+        let came = Answer {
+            number: subtype_refusal(answer),
+            card: subtype_number(answer) as usize,
+        };
+        hold_answer(came, number, yes)
+    }
+
+    // `iter_origins`, `extensions` and `implementers_map L N C W1 W2 ..`
+    fn fill(&self, filling: Filling, line: &Line) -> Result<(), Failure> {
+        let [l, number, card] = line.first_numbers::<3>(1)?;
+        let mut list = unwritten::<LIST_CAPACITY>();
+        let lent = list.get_mut(..l).ok_or(Failure::Malformed)?;
+        let answer = match filling {
+            Filling::IterOrigins => api::iter_origins(self.text, self.words, self.rows, lent),
+            Filling::Extensions => api::extensions(self.text, self.words, self.rows, lent),
+            Filling::ImplementersMap => api::implementers_map(
+                self.text, self.words, self.rows, lent,
+            ),
+        };
+        hold_answer(answer.into(), number, card)?;
+        hold_list(line, 4, &list)
+    }
 }
 
-// `type_field TYPE FIELD N K M C`
-fn run_type_field(line: &[u8], text: &[u8], words: &[u32], rows: &[u32]) -> Verdict
-    requires { length line.now ≤ calls_capacity }
-{
-    let mut given = [0usize; 4];
-    if !read_numbers(line, 3, &mut given) {
-        return Verdict::Malformed;
-    }
-    let answer = api::type_field(text, words, rows, word(line, 1), word(line, 2));
-    hold_field(answer, given[0], given[1], given[2], given[3])
-}
-
-// `is_subtype GENERAL OTHER N V`
-fn run_is_subtype(line: &[u8], text: &[u8], words: &[u32], rows: &[u32]) -> Verdict
-    requires { length line.now ≤ calls_capacity }
-{
-    let Pair::Numbers {
-        first: number,
-        second: yes,
-    } = read_pair(line, 3)
-    else {
-        return Verdict::Malformed;
-    };
-    let answer = api::is_subtype(text, words, rows, word(line, 1), word(line, 2));
-    let came = Answer {
-        number: subtype_refusal(answer),
-        card: subtype_number(answer) as usize,
-    };
-    hold_answer(came, number, yes)
-}
-
-// `iter_origins`, `extensions` and `implementers_map L N C W1 W2 ..`
-fn run_filling(filling: Filling, line: &[u8], text: &[u8], words: &[u32], rows: &[u32]) -> Verdict
-    requires { length line.now ≤ calls_capacity }
-{
-    let mut given = [0usize; 3];
-    if !read_first_numbers(line, 1, &mut given) {
-        return Verdict::Malformed;
-    }
-    let mut list = buffers::list();
-    let l = given[0];
-    if list.len() < l {
-        return Verdict::Malformed;
-    }
-    let answer = fill(filling, l, text, words, rows, &mut list);
-    let verdict = hold_answer(answer, given[1], given[2]);
-    if let Verdict::Passed = verdict {
-        return hold_list(line, 4, &list);
-    }
-    verdict
-}
-
-// Lends the first words of the list.
-fn fill(
-    filling: Filling,
-    l: usize,
-    text: &[u8],
-    words: &[u32],
-    rows: &[u32],
-    list: &mut [u32],
-) -> Answer {
-    let n = least(l, list.len());
-    ask(filling, text, words, rows, &mut list[..n])
-}
-
-fn ask(filling: Filling, text: &[u8], words: &[u32], rows: &[u32], list: &mut [u32]) -> Answer {
-    match filling {
-        Filling::IterOrigins => api::iter_origins(text, words, rows, list),
-        Filling::Extensions => api::extensions(text, words, rows, list),
-        Filling::ImplementersMap => api::implementers_map(text, words, rows, list),
+fn operation_of(word: &[u8]) -> Option<OperationType> {
+    match number_of(word)? {
+        0 => Some(OperationType::Query),
+        1 => Some(OperationType::Mutation),
+        2 => Some(OperationType::Subscription),
+        _ => None,
     }
 }

@@ -1,14 +1,8 @@
 -- The words of a line, and the numbers that they write.
-use Rattle.std.specs.Prelude.{◌≡◌, refl, List, [], ◌∷◌, ℕ, zero, suc, ◌+◌, ◌*◌, ◌-◌, ◌<◌, eqb, ltb, length, take, drop, get_or}
+use Rattle.std.specs.Prelude.{◌≡◌, refl, List, [], ◌∷◌, ℕ, zero, suc, ◌+◌, ◌*◌, ◌-◌, ◌<◌, eqb, ltb, length, take, drop, get_or, Option, Some, None}
 use Rattle.definition.specs.Lists.{choose}
 use Rattle.definition.specs.Names.{bytes}
 use Rattle.definition.specs.Answers.{absent}
-use Rattle.replay_calls.specs.declared.calls.parse.Number.{Number}
-use Rattle.replay_calls.specs.declared.calls.parse.Number.TheVariants.{Value, Malformed}
-
--- The bytes that a file of calls may have, and so a line of it.
-abbrev pub calls_capacity : ℕ
-calls_capacity = 262144
 
 -- How many bytes stand before the first of a value, or all where there is none.
 unfoldable pub length_before : ℕ → List ℕ → ℕ
@@ -37,26 +31,26 @@ spaces [] = 0
 spaces (b ∷ bs) = choose (eqb b 32) 1 0 + spaces bs
 
 -- A number goes on with these digits. It has at most 18 of them.
-unfoldable pub digits_from : ℕ → List ℕ → Number
-digits_from n [] = Value n
+unfoldable pub digits_from : ℕ → List ℕ → Option ℕ
+digits_from n [] = Some n
 digits_from n (b ∷ bs) =
     let longer = digits_from (10 * n + (b - 48)) bs in
-    choose (ltb b 48) Malformed (choose (ltb 57 b) Malformed (choose (ltb 100000000000000000 n) Malformed longer))
+    choose (ltb b 48) None (choose (ltb 57 b) None (choose (ltb 100000000000000000 n) None longer))
 
 -- Decimal digits, or `-`.
-unfoldable pub number_of : List ℕ → Number
+unfoldable pub number_of : List ℕ → Option ℕ
 unfolding digits_from
-number_of [] = Malformed
-number_of (b ∷ []) = choose (eqb b 45) (Value absent) (digits_from 0 (b ∷ []))
+number_of [] = None
+number_of (b ∷ []) = choose (eqb b 45) (Some absent) (digits_from 0 (b ∷ []))
 number_of (b ∷ c ∷ bs) = digits_from 0 (b ∷ c ∷ bs)
 
 -- The words of a line from word `from` on are the first `count` of the numbers.
 abbrev pub HasNumbers : List ℕ → ℕ → ℕ → List ℕ → Type 0
-HasNumbers line from count numbers = (i : ℕ) → i < count → number_of (word_of (from + i) line) ≡ Value (get_or numbers i 0)
+HasNumbers line from count numbers = (i : ℕ) → i < count → number_of (word_of (from + i) line) ≡ Some (get_or numbers i 0)
 
 -- The words of a line begin with these numbers.
 abbrev pub BeginsWith : List ℕ → List ℕ → Type 0
-BeginsWith line numbers = (i : ℕ) → i < length numbers → number_of (word_of i line) ≡ Value (get_or numbers i 0)
+BeginsWith line numbers = (i : ℕ) → i < length numbers → number_of (word_of i line) ≡ Some (get_or numbers i 0)
 
 -- Examples: an empty word between two spaces, numbers, and what is none.
 second_word : word_of 2 (bytes "type_field  n 0 2 - -") ≡ bytes "n"
@@ -67,14 +61,14 @@ empty_word : word_of 1 (bytes "type_field  n 0 2 - -") ≡ []
 unfolding word_of bytes
 empty_word = refl
 
-last_number : number_of (word_of 6 (bytes "type_field  n 0 2 - -")) ≡ Value absent
+last_number : number_of (word_of 6 (bytes "type_field  n 0 2 - -")) ≡ Some absent
 unfolding word_of number_of bytes
 last_number = refl
 
-a_number : number_of (bytes "65536") ≡ Value 65536
+a_number : number_of (bytes "65536") ≡ Some 65536
 unfolding number_of bytes
 a_number = refl
 
-no_number : number_of (bytes "6x") ≡ Malformed
+no_number : number_of (bytes "6x") ≡ None
 unfolding number_of bytes
 no_number = refl

@@ -1,4 +1,6 @@
 #![tactic(auto)]
 
-pub mod calls;
-pub mod steps;
+pub mod command;
+pub mod failure;
+pub mod line;
+pub mod table;

@@ -2,9 +2,9 @@
 use mathlib.Core.Path.{◌≡◌, refl, sym, ◌∙◌, ap}
 use mathlib.Core.List.{List}
 use mathlib.Core.Bool.{true}
-use mathlib.Core.Option.{none, some}
-use Prim.Native.Nat.{ℕ, suc, ◌+◌, ◌*◌, ◌/◌, ◌<◌}
-use lib.ListN.{length, drop, get_or}
+use mathlib.Core.Option.{Option, none, some}
+use Prim.Native.Nat.{ℕ, suc, ◌+◌, ◌*◌}
+use lib.ListN.{drop, get_or}
 use Rattle.definition.specs.declared.FieldFound.TheVariants.{Explicit}
 use Rattle.definition.specs.declared.FieldLookup.TheVariants.{Found, NoSuchType, NoSuchField}
 use Rattle.definition.specs.Lists.{found, find}
@@ -16,26 +16,19 @@ use Rattle.definition.specs.Lookups.{Block, blocks, type_named, is_part_named, m
 use Rattle.store_reader.specs.Stored.{stored_parts}
 use Rattle.store_reader.proofs.Laws.{held_stored}
 use Rattle.schema_rows.specs.Rows.{row_at}
-use Rattle.schema_rows.specs.declared.search.Found.{Found as FoundRow}
-use Rattle.schema_rows.specs.declared.search.Found.TheVariants.{Row as RowAt, Nothing}
-use Rattle.schema_rows.proofs.Rows.{Hit, hit_inside, hit_row}
+use Rattle.std.specs.Prelude.{Some, None, ok_or}
+use Rattle.definition.specs.declared.FieldFound.{FieldFound}
+use Rattle.definition.specs.declared.FieldLookupError.TheVariants as X
+use Rattle.definition.specs.Numbers.{field_lookup}
+use Rattle.schema_rows.proofs.Rows.{Hit, hit_row}
 use Rattle.schema_rows.specs.declared.search.Located.{Located}
 use Rattle.schema_rows.specs.Search.{located_from}
-use Rattle.schema.specs.Answers.{is_inside, explicit_field, first_found}
 use Rattle.schema_rows.proofs.SearchLaws.{block_after, TypeAt, located_none, located_type, located_no_part, located_part}
 
--- ---- An explicit field.
-
-module _ (rows : List ℕ) (p : FoundRow) (card : ℕ) where
-  pub explicit_none : p ≡ Nothing → NoSuchField card ≡ explicit_field rows p card
-  explicit_none e = sym (ap (λ (p : FoundRow). explicit_field rows p card) e)
-
-  module _ (i : ℕ) (e : p ≡ RowAt i) where
-    pub explicit_inside : is_inside rows p → i < length rows / 3
-    explicit_inside h = rw e at h
-
-    pub explicit_some : Found (Explicit (get_or rows (3 * i + 1) 0)) ≡ explicit_field rows p card
-    explicit_some = sym (ap (λ (p : FoundRow). explicit_field rows p card) e)
+-- What becomes of a meta field, or of none.
+pub meta_told : (m : Option FieldFound) (card : ℕ) → field_lookup (ok_or (found m (λ f. Some f) None) (X.NoSuchField card)) ≡ found m (λ f. Found f) (NoSuchField card)
+meta_told none card = refl
+meta_told (some f) card = refl
 
 -- ---- type_field.
 
@@ -59,17 +52,14 @@ module _ (text words rows : List ℕ) (type field : List ℕ) (ok : sound text w
   of_held : field_named (stored_parts text words) (lent_rows rows) type field ≡ field_named (held (account_in text words).documents) (lent_rows rows) type field
   of_held = ap (λ (cs : List NamedCard). field_named cs (lent_rows rows) type field) (sym (held_stored text words ok))
 
-  pub field_no_type : l.owner ≡ Nothing → NoSuchType ≡ field_named (held (account_in text words).documents) (lent_rows rows) type field
+  pub field_no_type : l.owner ≡ None → NoSuchType ≡ field_named (held (account_in text words).documents) (lent_rows rows) type field
   field_no_type o = no_type (stored_parts text words) (lent_rows rows) type field (located_none (stored_parts text words) rows type _ l e o) ∙ of_held
 
-  module _ (t : ℕ) (o : l.owner ≡ RowAt t) where
+  module _ (t : ℕ) (o : l.owner ≡ Some t) where
     type_at : TypeAt (stored_parts text words) rows type t
     type_at = located_type (stored_parts text words) rows type (is_part_named (stored_parts text words) 22 field) l e t o
 
-    pub field_type_inside : t < length rows / 3
-    field_type_inside = type_at.inside
-
-    field_other : l.part ≡ Nothing →
+    pub field_other : l.part ≡ None →
         found (meta_field (stored_parts text words) (lent_rows rows) (get_or rows (3 * t) 0) type field) (λ m. Found m) (NoSuchField (get_or rows (3 * t + 1) 0)) ≡
         field_named (held (account_in text words).documents) (lent_rows rows) type field
     field_other p =
@@ -77,36 +67,12 @@ module _ (text words rows : List ℕ) (type field : List ℕ) (ok : sound text w
         (located_no_part (stored_parts text words) rows type (is_part_named (stored_parts text words) 22 field) l e t o p)
         ∙ of_held
 
-    module _ (i : ℕ) (p : l.part ≡ RowAt i) where
+    module _ (i : ℕ) (p : l.part ≡ Some i) where
       field_at : Hit 0 (lent_rows rows) (find (is_part_named (stored_parts text words) 22 field) (blocks (drop (suc t) (lent_rows rows))).0) i
       field_at = located_part (stored_parts text words) rows type (is_part_named (stored_parts text words) 22 field) l e t o i p
 
-      field_inside : i < length rows / 3
-      field_inside = hit_inside rows _ i field_at
-
-      field_explicit : Found (Explicit (get_or rows (3 * i + 1) 0)) ≡ field_named (held (account_in text words).documents) (lent_rows rows) type field
+      pub field_explicit : Found (Explicit (get_or rows (3 * i + 1) 0)) ≡ field_named (held (account_in text words).documents) (lent_rows rows) type field
       field_explicit =
           explicit_field_lem (stored_parts text words) (lent_rows rows) type field (block_after (row_at rows t) (lent_rows rows) t) type_at.block (row_at rows i)
           (hit_row rows _ i field_at)
           ∙ of_held
-
-    pub part_inside : is_inside rows l.part
-    part_inside = go l.part refl
-      where
-        go : (p : FoundRow) → l.part ≡ p → is_inside rows p
-        go (RowAt i) q = field_inside i q
-        go Nothing q = tt
-
-    pub field_answer :
-        first_found (explicit_field rows l.part (get_or rows (3 * t + 1) 0))
-        (found (meta_field (stored_parts text words) (lent_rows rows) (get_or rows (3 * t) 0) type field) (λ m. Found m) (NoSuchField (get_or rows (3 * t + 1) 0))) ≡
-        field_named (held (account_in text words).documents) (lent_rows rows) type field
-    field_answer = go l.part refl
-      where
-        go : (p : FoundRow) → l.part ≡ p →
-            first_found (explicit_field rows p (get_or rows (3 * t + 1) 0))
-            (found (meta_field (stored_parts text words) (lent_rows rows) (get_or rows (3 * t) 0) type field) (λ m. Found m) (NoSuchField (get_or rows (3 * t + 1) 0)))
-            ≡
-            field_named (held (account_in text words).documents) (lent_rows rows) type field
-        go (RowAt i) q = field_explicit i q
-        go Nothing q = field_other q

@@ -16,7 +16,8 @@ use Rattle.definition.specs.Lookups.{is_row_of, is_part_named, origin_of, same_i
 use Rattle.store_reader.specs.Stored.{stored_parts, card_name}
 use Rattle.store_reader.proofs.Words.{name_stored}
 use Rattle.schema_rows.specs.Rows.{row_at, found_from}
-use Rattle.schema_rows.specs.declared.search.Found.TheVariants.{Row as RowAt, Nothing}
+use Rattle.std.specs.Prelude.{Option as Place, Some, None}
+use Rattle.std.specs.Option.{option_eq}
 use Rattle.schema_rows.proofs.Rows.{row_next, row_end, never_row, contradiction}
 use Rattle.schema_rows.proofs.Listing.{Listing, listing_length, listing_same, drop_more}
 use Rattle.schema.specs.Owners.{named}
@@ -29,50 +30,50 @@ use Rattle.schema.proofs.SearchStops.{rows_split, taken_length}
 
 module _ (p : Row → Bool) where
   found_first : (k : ℕ) (pre : List Row) (r : Row) (post : List Row) → any p pre ≡ false → p r ≡ true →
-      found_from p k (pre ++ (r ∷ post)) ≡ RowAt (k + length pre)
+      found_from p k (pre ++ (r ∷ post)) ≡ Some (k + length pre)
   unfolding found_from any
-  found_first k [] r post e f = rw f (let z : k ≡ k + 0 = omega arith in ap RowAt z)
+  found_first k [] r post e f = rw f (let z : k ≡ k + 0 = omega arith in ap Some z)
   found_first k (x ∷ pre) r post e f = go (p x) e (found_first (k + 1) pre r post)
     where
       go : (b : Bool) → choose b true (any p pre) ≡ false →
-          (any p pre ≡ false → p r ≡ true → found_from p (k + 1) (pre ++ (r ∷ post)) ≡ RowAt (k + 1 + length pre)) →
-          choose b (RowAt k) (found_from p (k + 1) (pre ++ (r ∷ post))) ≡ RowAt (k + suc (length pre))
+          (any p pre ≡ false → p r ≡ true → found_from p (k + 1) (pre ++ (r ∷ post)) ≡ Some (k + 1 + length pre)) →
+          choose b (Some k) (found_from p (k + 1) (pre ++ (r ∷ post))) ≡ Some (k + suc (length pre))
       go true e ih = contradiction false refl (sym e)
-      go false e ih = ih e f ∙ (let z : k + 1 + length pre ≡ k + suc (length pre) = omega arith in ap RowAt z)
+      go false e ih = ih e f ∙ (let z : k + 1 + length pre ≡ k + suc (length pre) = omega arith in ap Some z)
 
-  found_before : (k : ℕ) (pre post : List Row) (t : ℕ) → any p pre ≡ true → found_from p k (pre ++ post) ≡ RowAt t → t < k + length pre
+  found_before : (k : ℕ) (pre post : List Row) (t : ℕ) → any p pre ≡ true → found_from p k (pre ++ post) ≡ Some t → t < k + length pre
   unfolding found_from any
   found_before k [] post t e f = contradiction false refl e
   found_before k (x ∷ pre) post t e f = go (p x) e f (found_before (k + 1) pre post t)
     where
-      go : (b : Bool) → choose b true (any p pre) ≡ true → choose b (RowAt k) (found_from p (k + 1) (pre ++ post)) ≡ RowAt t →
-          (any p pre ≡ true → found_from p (k + 1) (pre ++ post) ≡ RowAt t → t < k + 1 + length pre) → t < k + suc (length pre)
+      go : (b : Bool) → choose b true (any p pre) ≡ true → choose b (Some k) (found_from p (k + 1) (pre ++ post)) ≡ Some t →
+          (any p pre ≡ true → found_from p (k + 1) (pre ++ post) ≡ Some t → t < k + 1 + length pre) → t < k + suc (length pre)
       go true e f ih = let q : k ≡ t = cc in omega arith
       go false e f ih = let l = ih e f in omega arith
 
   -- Which of the two, by the number that was found.
   module _ (pre : List Row) (r : Row) (post : List Row) (f : p r ≡ true) where
-    pub first_none : found_from p 0 (pre ++ (r ∷ post)) ≡ Nothing → any p pre ≡ true
+    pub first_none : found_from p 0 (pre ++ (r ∷ post)) ≡ None → any p pre ≡ true
     first_none e = go (any p pre) refl
       where
         go : (b : Bool) → any p pre ≡ b → any p pre ≡ true
         go true s = s
         go false s = never_row (sym (found_first 0 pre r post s f) ∙ e)
 
-    pub first_here : (t : ℕ) → found_from p 0 (pre ++ (r ∷ post)) ≡ RowAt t → t ≡ length pre → any p pre ≡ false
+    pub first_here : (t : ℕ) → found_from p 0 (pre ++ (r ∷ post)) ≡ Some t → t ≡ length pre → any p pre ≡ false
     first_here t e q = go (any p pre) refl
       where
         go : (b : Bool) → any p pre ≡ b → any p pre ≡ false
         go true s = absurd (let l = found_before 0 pre (r ∷ post) t s e in omega arith)
         go false s = s
 
-    pub first_other : (t : ℕ) → found_from p 0 (pre ++ (r ∷ post)) ≡ RowAt t → (t ≡ length pre → ⊥) → any p pre ≡ true
+    pub first_other : (t : ℕ) → found_from p 0 (pre ++ (r ∷ post)) ≡ Some t → (t ≡ length pre → ⊥) → any p pre ≡ true
     first_other t e n = go (any p pre) refl
       where
         go : (b : Bool) → any p pre ≡ b → any p pre ≡ true
         go true s = s
         go false s =
-            absurd (n (let q : RowAt t ≡ RowAt (0 + length pre) = sym e ∙ found_first 0 pre r post s f in let z : t ≡ 0 + length pre = cc in omega arith))
+            absurd (n (let q : Some t ≡ Some (0 + length pre) = sym e ∙ found_first 0 pre r post s f in let z : t ≡ 0 + length pre = cc in omega arith))
 
 -- ---- A list that is written from a place on.
 
@@ -193,12 +194,12 @@ module _ (text words pairs : List ℕ) (i : ℕ) (name : List ℕ) (n : name ≡
         (take i (lent_rows pairs) ++ (row_at pairs i ∷ drop (i + 1) (lent_rows pairs)))
     search = λ j. found_from (is_row_named (stored_parts text words) (is_named_lem j)) 0 (rows_split pairs i h j)
 
-    pub pair_none : found_from (is_row_named (stored_parts text words) name) 0 (lent_rows pairs) ≡ Nothing →
+    pair_none : found_from (is_row_named (stored_parts text words) name) 0 (lent_rows pairs) ≡ None →
         false ≡ not (any (same_interface (stored_parts text words) (row_at pairs i)) (take i (lent_rows pairs)))
     unfolding same_interface
     pair_none f = sym (ap not (first_none _ _ _ _ passes (sym search ∙ f)))
 
-    pub pair_some : (t : ℕ) → found_from (is_row_named (stored_parts text words) name) 0 (lent_rows pairs) ≡ RowAt t →
+    pair_some : (t : ℕ) → found_from (is_row_named (stored_parts text words) name) 0 (lent_rows pairs) ≡ Some t →
         eqb t i ≡ not (any (same_interface (stored_parts text words) (row_at pairs i)) (take i (lent_rows pairs)))
     unfolding same_interface
     pair_some t f = go (eqb t i) refl
@@ -207,6 +208,11 @@ module _ (text words pairs : List ℕ) (i : ℕ) (name : List ℕ) (n : name ≡
             b ≡ not (any (is_row_named (stored_parts text words) (named (stored_parts text words) (row_at pairs i))) (take i (lent_rows pairs)))
         go true s = sym (ap not (first_here _ _ _ _ passes t (sym search ∙ f) (eqb-true t i s ∙ sym (taken_length pairs i h))))
         go false s = sym (ap not (first_other _ _ _ _ passes t (sym search ∙ f) (λ z. eqb-false t i s (z ∙ taken_length pairs i h))))
+
+    pub pair_told : (p : Place ℕ) → p ≡ found_from (is_row_named (stored_parts text words) name) 0 (lent_rows pairs) →
+        option_eq eqb p (Some i) ≡ not (any (same_interface (stored_parts text words) (row_at pairs i)) (take i (lent_rows pairs)))
+    pair_told None e = pair_none (sym e)
+    pair_told (Some t) e = pair_some t (sym e)
 
 -- The group as it is written: three words, then the types.
 module _ (list₀ : List ℕ) (start : ℕ) (a b c : ℕ) (l : List ℕ) (group : List ℕ) (g : group ≡ a ∷ (b ∷ (c ∷ l))) (h : start + length group ≤ length list₀) where

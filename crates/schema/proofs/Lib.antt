@@ -1,7 +1,6 @@
--- root_operation: which row is a root, which card has its name, and where that stands. MetaFields: what every type has, and the query root.
+-- root_operation: which row is a root, which card has its name, and where that stands.
 pub mod RootsLaws
 pub mod RootPlaces
-pub mod MetaFields
 -- type_field and is_subtype.
 pub mod Fields
 pub mod Subtypes

@@ -8,7 +8,7 @@ use native.Mathlib.Omega.{arith}
 use borrow.Author.Tests.{eq-eqb, eqb-true, eqb-false, leb-true}
 use lib.Dec.{eqb, leb, ltb}
 use lib.ListN.{length, length-map}
-use Rattle.definition.specs.Lists.{choose, filter, All}
+use Rattle.definition.specs.Lists.{any, choose, filter, All}
 use Rattle.definition.specs.Answers.{absent}
 use Rattle.definition.specs.Cards.{is_root, place_in}
 use Rattle.definition.specs.Headings.{NamedCard}
@@ -23,7 +23,6 @@ use Rattle.definition.proofs.Sums.{sum_filter, sum_one, length_kept}
 use Rattle.definition.proofs.Tests.{and_true}
 use Rattle.store_reader.proofs.Lists.{chosen_true}
 use Rattle.schema_rows.specs.Passing.{row_passes}
-use Rattle.schema_rows.proofs.OrderLaws.{schema_26, schema_27, schema_28}
 use Rattle.schema_rows.proofs.Passing.{row_passed, default_root_lem}
 use Rattle.schema_rows.proofs.Rows.{contradiction}
 use Rattle.schema_rows.proofs.RowsWithCards.{cards_of, cards_without, cards_with, accepted, cards_capacity}
@@ -34,6 +33,19 @@ use Rattle.schema.proofs.RootsLaws.{root_range}
 
 unfoldable is_root_row : Row → Bool
 is_root_row r = is_root r.what
+
+module _ (w : ℕ) where
+  schema_26 : w ≡ 26 → 1 ≡ place_in (row_order 4) w
+  unfolding place_in row_order any
+  schema_26 e = rw e
+
+  schema_27 : w ≡ 27 → 2 ≡ place_in (row_order 4) w
+  unfolding place_in row_order any
+  schema_27 e = rw e
+
+  schema_28 : w ≡ 28 → 3 ≡ place_in (row_order 4) w
+  unfolding place_in row_order any
+  schema_28 e = rw e
 
 root_place : (w : ℕ) → is_root w ≡ true → (1 ≤ place_in (row_order 4) w) × (place_in (row_order 4) w ≤ 3)
 root_place w e = go (eqb w 26) (eqb w 27) refl refl

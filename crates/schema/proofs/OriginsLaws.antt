@@ -1,46 +1,28 @@
 -- The origins of the schema definition's parts: the next part of the rows before the first type row, and the turns of the walks over the parts.
 use mathlib.Core.Path.{◌≡◌, refl, sym, ◌∙◌, ap}
 use mathlib.Core.List.{List, [], ◌∷◌, ◌++◌, map}
-use mathlib.Core.Bool.{Bool, true, false, ◌&&◌, not}
-use mathlib.Core.Option.{some}
-use Prim.Native.Nat.{ℕ, suc, ◌+◌, ◌*◌, ◌/◌, ◌≤◌, ◌<◌}
-use native.Mathlib.Numerals.{add-one}
+use mathlib.Core.Bool.{Bool, true, false, ◌&&◌, ◌||◌, not}
+use Prim.Native.Nat.{ℕ, ◌+◌, ◌*◌, ◌/◌, ◌≤◌, ◌<◌}
 use native.Mathlib.Omega.{arith}
-use borrow.Author.Tests.{eq-eqb, ne_eqb}
+use borrow.Author.Tests.{eq-eqb, ne_eqb, eqb-true, eqb-false}
 use lib.Dec.{eqb}
-use lib.ListN.{length, take, drop, get_or, get_elem?, set, drop_of_length-le}
-use lib.Seq.{drop-cons, drop-drop}
+use lib.ListN.{length, take, drop, get_or, set}
 use Rattle.definition.specs.Lists.{choose, filter, any, firsts}
 use Rattle.definition.specs.Answers.{absent}
-use Rattle.definition.specs.Cards.{is_root}
-use Rattle.definition.specs.Catalogue.{Row, row}
+use Rattle.definition.specs.Cards.{is_type}
+use Rattle.definition.specs.Catalogue.{Row}
 use Rattle.definition.specs.LentRows.{lent_rows, is_type_row}
-use Rattle.definition.specs.Lookups.{blocks, is_row_of, is_schema_part, origin_of, origin_list, is_card, extension_list}
-use Rattle.store_reader.proofs.Lists.{get_drop, get_inside}
-use Rattle.schema_rows.specs.declared.search.Found.TheVariants.{Row as RowAt, Nothing}
+use Rattle.definition.specs.Lookups.{blocks, is_schema_part, origin_of, origin_list, is_card, extension_list}
+use Rattle.std.specs.List.{list_any}
 use Rattle.schema_rows.specs.Rows.{row_at}
-use Rattle.schema_rows.specs.Search.{part_from}
-use Rattle.schema_rows.proofs.Rows.{length_rows, row_get, never, never_row}
+use Rattle.std.specs.List.{list_any}
+use Rattle.schema_rows.specs.Rows.{row_at}
+use Rattle.schema_rows.proofs.Rows.{row_next, row_end}
 use Rattle.schema.specs.Extensions.{is_new}
 use Rattle.schema_rows.proofs.SearchLaws.{blocks_type, blocks_under, blocks_nil}
 use Rattle.schema_rows.proofs.Listing.{Listing, listing_start, listing_push, listing_length, pushed_words}
 
--- ---- A part of the schema definition.
-
-module _ (what card origin : ℕ) where
-  pub schema_use : what ≡ 20 → true ≡ is_schema_part (row what card origin)
-  unfolding is_schema_part is_row_of
-  schema_use e = rw (eq-eqb what 20 e)
-
-  pub schema_root : (what ≡ 20 → ⊥) → is_root what ≡ is_schema_part (row what card origin)
-  unfolding is_schema_part is_row_of
-  schema_root e = rw (ne_eqb what 20 e)
-
-  pub schema_any : is_schema_part (row what 0 0) ≡ is_schema_part (row what card origin)
-  unfolding is_schema_part is_row_of
-  schema_any = refl
-
--- ---- The next part.
+-- ---- The parts of the schema definition, row by row.
 
 module _ (x : Row) (xs : List Row) where
   kept_stop : is_type_row x ≡ true → filter is_schema_part (blocks (x ∷ xs)).0 ≡ []
@@ -59,85 +41,41 @@ kept_end : filter is_schema_part (blocks []).0 ≡ []
 unfolding filter
 kept_end = rw blocks_nil
 
-kept_none : (i : ℕ) (xs : List Row) → part_from is_schema_part i xs ≡ Nothing → filter is_schema_part (blocks xs).0 ≡ []
-unfolding part_from
-kept_none i [] e = kept_end
-kept_none i (x ∷ xs) e = go (is_type_row x) (is_schema_part x) refl refl e (kept_none (i + 1) xs)
-  where
-    go : (a b : Bool) → is_type_row x ≡ a → is_schema_part x ≡ b → choose a Nothing (choose b (RowAt i) (part_from is_schema_part (i + 1) xs)) ≡ Nothing →
-        (part_from is_schema_part (i + 1) xs ≡ Nothing → filter is_schema_part (blocks xs).0 ≡ []) → filter is_schema_part (blocks (x ∷ xs)).0 ≡ []
-    go true b s t e ih = kept_stop x xs s
-    go false true s t e ih = never_row e
-    go false false s t e ih = kept_other x xs s t ∙ ih e
-
--- The part that was found, and what is left after it.
-record Next (i : ℕ) (xs : List Row) (k : ℕ) : Type 0 where
-  pub at : ℕ
-  pub row : Row
-  pub place : k ≡ i + at
-  pub held : get_elem? xs at ≡ some row
-  pub rest : filter is_schema_part (blocks xs).0 ≡ row ∷ filter is_schema_part (blocks (drop (suc at) xs)).0
-
-kept_next : (i : ℕ) (xs : List Row) (k : ℕ) → part_from is_schema_part i xs ≡ RowAt k → Next i xs k
-unfolding part_from
-kept_next i [] k e = never e
-kept_next i (x ∷ xs) k e = go (is_type_row x) (is_schema_part x) refl refl e (kept_next (i + 1) xs k)
-  where
-    go : (a b : Bool) → is_type_row x ≡ a → is_schema_part x ≡ b → choose a Nothing (choose b (RowAt i) (part_from is_schema_part (i + 1) xs)) ≡ RowAt k →
-        (part_from is_schema_part (i + 1) xs ≡ RowAt k → Next (i + 1) xs k) → Next i (x ∷ xs) k
-    go true b s t e ih = never e
-    go false true s t e ih = let q : i ≡ k = cc in record { at = 0; row = x; place = omega arith; held = refl; rest = kept_part x xs s t }
-    go false false s t e ih =
-        let n = ih e in
-        record { at = suc n.at; row = n.row; place = (let p = n.place in omega arith); held = n.held; rest = kept_other x xs s t ∙ n.rest }
-
 -- Of lent rows.
 module _ (rows : List ℕ) (i : ℕ) where
-  pub origins_none : part_from is_schema_part i (drop i (lent_rows rows)) ≡ Nothing → origin_list (drop i (lent_rows rows)) ≡ []
+  pub origins_end : length rows / 3 ≤ i → origin_list (drop i (lent_rows rows)) ≡ []
   unfolding origin_list
-  origins_none e = ap (map origin_of) (kept_none i (drop i (lent_rows rows)) e)
+  origins_end h = ap (λ (l : List Row). map origin_of (filter is_schema_part (blocks l).0)) (row_end rows i h) ∙ ap (map origin_of) kept_end
 
-  module _ (k : ℕ) (e : part_from is_schema_part i (drop i (lent_rows rows)) ≡ RowAt k) where
-    next_part : Next i (drop i (lent_rows rows)) k
-    next_part = kept_next i (drop i (lent_rows rows)) k e
+  module _ (h : i < length rows / 3) where
+    at_hand : origin_list (drop i (lent_rows rows)) ≡ map origin_of (filter is_schema_part (blocks (row_at rows i ∷ drop (i + 1) (lent_rows rows))).0)
+    unfolding origin_list
+    at_hand = ap (λ (l : List Row). map origin_of (filter is_schema_part (blocks l).0)) (row_next rows i h)
 
-    next_held : get_elem? (lent_rows rows) k ≡ some next_part.row
-    next_held = ap (get_elem? (lent_rows rows)) next_part.place ∙ sym (get_drop (lent_rows rows) i next_part.at) ∙ next_part.held
+    pub origins_stop : is_type (get_or rows (3 * i) 0) ≡ true → origin_list (drop i (lent_rows rows)) ≡ []
+    unfolding is_type_row
+    origins_stop s = at_hand ∙ ap (map origin_of) (kept_stop (row_at rows i) (drop (i + 1) (lent_rows rows)) s)
 
-    pub next_after : i ≤ k
-    next_after = let p = next_part.place in omega arith
+    module _ (s : is_type (get_or rows (3 * i) 0) ≡ false) where
+      pub origins_here : is_schema_part (row_at rows i) ≡ true →
+          origin_list (drop i (lent_rows rows)) ≡ get_or rows (3 * i + 2) 0 ∷ origin_list (drop (i + 1) (lent_rows rows))
+      unfolding is_type_row origin_list origin_of
+      origins_here t = at_hand ∙ ap (map origin_of) (kept_part (row_at rows i) (drop (i + 1) (lent_rows rows)) s t)
 
-    pub next_inside : k < length rows / 3
-    next_inside = let g = get_inside (lent_rows rows) k next_part.row next_held in let l = length_rows rows in omega arith
+      pub origins_over : is_schema_part (row_at rows i) ≡ false → origin_list (drop i (lent_rows rows)) ≡ origin_list (drop (i + 1) (lent_rows rows))
+      unfolding is_type_row origin_list
+      origins_over t = at_hand ∙ ap (map origin_of) (kept_other (row_at rows i) (drop (i + 1) (lent_rows rows)) s t)
 
-    pub origins_next : origin_list (drop i (lent_rows rows)) ≡ get_or rows (3 * k + 2) 0 ∷ origin_list (drop (k + 1) (lent_rows rows))
-    unfolding origin_list origin_of
-    origins_next =
-        let f : some next_part.row ≡ some (row_at rows k) = sym next_held ∙ row_get rows k next_inside in
-        let r : next_part.row ≡ row_at rows k = cc in
-        let p : i + suc next_part.at ≡ k + 1 = (let p = next_part.place in omega arith) in
-        let d : drop (suc next_part.at) (drop i (lent_rows rows)) ≡ drop (k + 1) (lent_rows rows) =
-        drop-drop (suc next_part.at) i (lent_rows rows) ∙ ap (λ (m : ℕ). drop m (lent_rows rows)) p in
-        ap (map origin_of) next_part.rest
-        ∙ (λ j. origin_of (r j) ∷ map origin_of (filter is_schema_part (blocks (d j)).0))
+-- ---- A word among words, as std's `contains` tells it.
 
--- ---- A word among words.
-
-module _ (x : ℕ) (s : List ℕ) (i : ℕ) where
-  next : i < length s → drop i s ≡ get_or s i 0 ∷ drop (i + 1) s
-  next h = rw (add-one, drop-cons s i 0)
-
-  pub among_hit : i < length s → get_or s i 0 ≡ x → any (eqb x) (drop i s) ≡ true
-  unfolding any
-  among_hit h e = rw (next h, eq-eqb x (get_or s i 0) (sym e))
-
-  pub among_miss : i < length s → (get_or s i 0 ≡ x → ⊥) → any (eqb x) (drop i s) ≡ any (eqb x) (drop (i + 1) s)
-  unfolding any
-  among_miss h e = rw (next h, ne_eqb x (get_or s i 0) (λ q. e (sym q)))
-
-  pub among_end : length s ≤ i → any (eqb x) (drop i s) ≡ false
-  unfolding any
-  among_end h = rw (drop_of_length-le s h)
+pub among : (x : ℕ) (xs : List ℕ) → list_any (λ y. eqb y x) xs ≡ any (eqb x) xs
+unfolding any
+among x [] = refl
+among x (y ∷ ys) = go (eqb y x) refl (among x ys)
+  where
+    go : (b : Bool) → eqb y x ≡ b → list_any (λ y. eqb y x) ys ≡ any (eqb x) ys → (b || list_any (λ y. eqb y x) ys) ≡ choose (eqb x y) true (any (eqb x) ys)
+    go true t ih = rw (eq-eqb x y (sym (eqb-true y x t)))
+    go false t ih = rw (ne_eqb x y (λ q. eqb-false y x t (sym q))) ih
 
 -- ---- A turn of the walk that keeps each extension once.
 

@@ -17,8 +17,8 @@ use Rattle.definition.specs.LentRows.{lent_rows, is_type_row, is_type_row_named}
 use Rattle.definition.specs.Lookups.{is_row_of, is_part_named, Implementing, implementing, all_implementing}
 use Rattle.definition.specs.Outcomes.{words_of_row}
 use Rattle.schema_rows.specs.Rows.{row_at}
-use Rattle.schema_rows.specs.declared.search.Found.{Found}
-use Rattle.schema_rows.specs.declared.search.Found.TheVariants.{Row as RowAt, Nothing}
+use Rattle.std.specs.Prelude.{Option as Place}
+use Rattle.std.specs.Prelude.{Some, None}
 use Rattle.schema_rows.proofs.Rows.{length_rows, row_next, row_end, taken_next, contradiction}
 use Rattle.schema.specs.Owners.{named, first_type, owner_of, LastType, is_listed}
 use Rattle.definition.proofs.Lists.{any_nil}
@@ -35,16 +35,16 @@ last_start rows = record { before = omega arith; outside = λ e. refl; between =
 
 pub pairs_start : (cs : List NamedCard) (rows : List ℕ) → pair_words (all_implementing cs (lent_rows rows)) ≡ pairs_left cs rows (owner_of cs rows 0 0) 0
 unfolding pairs_left
-pairs_start cs rows = ap pair_words (sym (gather_all cs (lent_rows rows))) ∙ ap (λ (owner : Found). pairs_left cs rows owner 0) (sym owner_start)
+pairs_start cs rows = ap pair_words (sym (gather_all cs (lent_rows rows))) ∙ ap (λ (owner : Place ℕ). pairs_left cs rows owner 0) (sym owner_start)
   where
-    owner_start : owner_of cs rows 0 0 ≡ Nothing
+    owner_start : owner_of cs rows 0 0 ≡ None
     owner_start = unfold owner_of in go (is_type (get_or rows (3 * 0) 0))
       where
-        go : (b : Bool) → choose (b && false) (first_type cs (lent_rows rows) (row_at rows 0) 0) Nothing ≡ Nothing
+        go : (b : Bool) → choose (b && false) (first_type cs (lent_rows rows) (row_at rows 0) 0) None ≡ None
         go true = refl
         go false = refl
 
-pub pairs_end : (cs : List NamedCard) (rows : List ℕ) (owner : Found) (i : ℕ) → length rows / 3 ≤ i → pairs_left cs rows owner i ≡ []
+pub pairs_end : (cs : List NamedCard) (rows : List ℕ) (owner : Place ℕ) (i : ℕ) → length rows / 3 ≤ i → pairs_left cs rows owner i ≡ []
 unfolding pairs_left pair_words flat_map
 pairs_end cs rows owner i h =
     let rs = lent_rows rows in
@@ -116,7 +116,7 @@ module _ (cs : List NamedCard) (rows : List ℕ) (i : ℕ) (h : i < length rows 
     unfolding owner_of
     owner_first = rw (e, lt-ltb i (i + 1) (omega arith))
 
-    pub type_left : (owner : Found) → pairs_left cs rows owner i ≡ pairs_left cs rows (owner_of cs rows i (i + 1)) (i + 1)
+    pub type_left : (owner : Place ℕ) → pairs_left cs rows owner i ≡ pairs_left cs rows (owner_of cs rows i (i + 1)) (i + 1)
     unfolding pairs_left first_type
     type_left owner =
         let rs = lent_rows rows in
@@ -128,7 +128,7 @@ module _ (cs : List NamedCard) (rows : List ℕ) (i : ℕ) (h : i < length rows 
         ∙ there [] (choose (any (is_type_row_named cs (named cs r)) (take i rs)) none (some r))
         ∙ go (any (is_type_row_named cs (named cs r)) (take i rs)) (owner_of cs rows i (i + 1)) owner_first
       where
-        go : (b : Bool) (next : Found) → next ≡ choose b Nothing (RowAt i) →
+        go : (b : Bool) (next : Place ℕ) → next ≡ choose b None (Some i) →
             pair_words (gather cs (take (i + 1) (lent_rows rows)) [] (choose b none (some (row_at rows i))) (drop (i + 1) (lent_rows rows))) ≡
             pair_words (gather cs (take (i + 1) (lent_rows rows)) (under_owner (lent_rows rows) next (i + 1)) (owner_row rows next) (drop (i + 1) (lent_rows rows)))
         go true next f = rw f
@@ -138,7 +138,7 @@ module _ (cs : List NamedCard) (rows : List ℕ) (i : ℕ) (h : i < length rows 
 
   -- A row under a type row, or before the first one.
   module _ (e : is_type (get_or rows (3 * i) 0) ≡ false) where
-    outside_at : pairs_left cs rows Nothing i ≡ pairs_left cs rows Nothing (i + 1)
+    outside_at : pairs_left cs rows None i ≡ pairs_left cs rows None (i + 1)
     unfolding pairs_left
     outside_at =
         here [] none
@@ -148,20 +148,20 @@ module _ (cs : List NamedCard) (rows : List ℕ) (i : ℕ) (h : i < length rows 
     module _ (t : ℕ) (l : t < i) where
       onwards : pair_words (gather cs (take i (lent_rows rows) ++ (row_at rows i ∷ [])) (drop (t + 1) (take i (lent_rows rows)) ++ (row_at rows i ∷ []))
           (some (row_at rows t)) (drop (i + 1) (lent_rows rows))) ≡
-          pairs_left cs rows (RowAt t) (i + 1)
+          pairs_left cs rows (Some t) (i + 1)
       unfolding pairs_left
       onwards =
           there (drop (t + 1) (take i (lent_rows rows)) ++ (row_at rows i ∷ [])) (some (row_at rows t))
           ∙ ap (λ (m : List Row). pair_words (gather cs (take (i + 1) (lent_rows rows)) m (some (row_at rows t)) (drop (i + 1) (lent_rows rows))))
           (sym (under_next rows i h t l))
 
-      arrived : pairs_left cs rows (RowAt t) i ≡
+      arrived : pairs_left cs rows (Some t) i ≡
           pair_words (gather cs (take i (lent_rows rows)) (drop (t + 1) (take i (lent_rows rows))) (some (row_at rows t))
           (row_at rows i ∷ drop (i + 1) (lent_rows rows)))
       unfolding pairs_left
       arrived = here (drop (t + 1) (take i (lent_rows rows))) (some (row_at rows t))
 
-      other_at : is_row_of 21 (row_at rows i) ≡ false → pairs_left cs rows (RowAt t) i ≡ pairs_left cs rows (RowAt t) (i + 1)
+      other_at : is_row_of 21 (row_at rows i) ≡ false → pairs_left cs rows (Some t) i ≡ pairs_left cs rows (Some t) (i + 1)
       other_at f =
           arrived
           ∙ ap pair_words (gather_other cs (take i (lent_rows rows)) (drop (t + 1) (take i (lent_rows rows))) (row_at rows i) (drop (i + 1) (lent_rows rows))
@@ -169,7 +169,7 @@ module _ (cs : List NamedCard) (rows : List ℕ) (i : ℕ) (h : i < length rows 
           ∙ onwards
 
       again_at : is_row_of 21 (row_at rows i) ≡ true → any (is_part_named cs 21 (named cs (row_at rows i))) (drop (t + 1) (take i (lent_rows rows))) ≡ true →
-          pairs_left cs rows (RowAt t) i ≡ pairs_left cs rows (RowAt t) (i + 1)
+          pairs_left cs rows (Some t) i ≡ pairs_left cs rows (Some t) (i + 1)
       again_at f g =
           arrived
           ∙ ap pair_words (gather_again cs (take i (lent_rows rows)) (drop (t + 1) (take i (lent_rows rows))) (row_at rows i) (drop (i + 1) (lent_rows rows))
@@ -182,7 +182,7 @@ module _ (cs : List NamedCard) (rows : List ℕ) (i : ℕ) (h : i < length rows 
       words_of is = refl
 
       new_at : is_row_of 21 (row_at rows i) ≡ true → any (is_part_named cs 21 (named cs (row_at rows i))) (drop (t + 1) (take i (lent_rows rows))) ≡ false →
-          pairs_left cs rows (RowAt t) i ≡ get_or rows (3 * t) 0 ∷ (get_or rows (3 * i + 1) 0 ∷ (get_or rows (3 * t + 1) 0 ∷ pairs_left cs rows (RowAt t) (i + 1)))
+          pairs_left cs rows (Some t) i ≡ get_or rows (3 * t) 0 ∷ (get_or rows (3 * i + 1) 0 ∷ (get_or rows (3 * t + 1) 0 ∷ pairs_left cs rows (Some t) (i + 1)))
       new_at f g =
           arrived
           ∙ ap pair_words (gather_new cs (take i (lent_rows rows)) (drop (t + 1) (take i (lent_rows rows))) (row_at rows i) (drop (i + 1) (lent_rows rows))
@@ -204,17 +204,17 @@ module _ (cs : List NamedCard) (rows : List ℕ) (i : ℕ) (h : i < length rows 
       owner_stays = go (ltb t i) refl
         where
           go : (b : Bool) → ltb t i ≡ b →
-              choose (is_type (get_or rows (3 * t) 0) && ltb t i) (first_type cs (lent_rows rows) (row_at rows t) t) Nothing ≡
-              choose (is_type (get_or rows (3 * t) 0) && ltb t (i + 1)) (first_type cs (lent_rows rows) (row_at rows t) t) Nothing
+              choose (is_type (get_or rows (3 * t) 0) && ltb t i) (first_type cs (lent_rows rows) (row_at rows t) t) None ≡
+              choose (is_type (get_or rows (3 * t) 0) && ltb t (i + 1)) (first_type cs (lent_rows rows) (row_at rows t) t) None
           go true u = rw (u, lt-ltb t (i + 1) (let a = ltb-true t i u in omega arith))
           go false u = let q : is_type (get_or rows (3 * t) 0) ≡ false = ap (λ (k : ℕ). is_type (get_or rows (3 * k) 0)) (same_row rows i h e t o u) ∙ e in rw q
 
-      owner_either : (P : Found → Type 0) → P Nothing → (t < i → P (RowAt t)) → P (owner_of cs rows t i)
+      owner_either : (P : Place ℕ → Type 0) → P None → (t < i → P (Some t)) → P (owner_of cs rows t i)
       unfolding owner_of first_type
       owner_either P outside under =
           go (is_type (get_or rows (3 * t) 0)) (ltb t i) (any (is_type_row_named cs (named cs (row_at rows t))) (take t (lent_rows rows))) refl
         where
-          go : (a b c : Bool) → ltb t i ≡ b → P (choose (a && b) (choose c Nothing (RowAt t)) Nothing)
+          go : (a b c : Bool) → ltb t i ≡ b → P (choose (a && b) (choose c None (Some t)) None)
           go true true true u = outside
           go true true false u = under (ltb-true t i u)
           go true false c u = outside
@@ -223,7 +223,7 @@ module _ (cs : List NamedCard) (rows : List ℕ) (i : ℕ) (h : i < length rows 
       pub left_other : (get_or rows (3 * i) 0 ≡ 21 → ⊥) → pairs_left cs rows (owner_of cs rows t i) i ≡ pairs_left cs rows (owner_of cs rows t (i + 1)) (i + 1)
       left_other f =
           owner_either (λ owner. pairs_left cs rows owner i ≡ pairs_left cs rows owner (i + 1)) outside_at (λ l. other_at t l (not_21 f))
-          ∙ ap (λ (owner : Found). pairs_left cs rows owner (i + 1)) owner_stays
+          ∙ ap (λ (owner : Place ℕ). pairs_left cs rows owner (i + 1)) owner_stays
 
       module _ (f : get_or rows (3 * i) 0 ≡ 21) where
         pub left_again : false ≡ is_listed cs rows (owner_of cs rows t i) i →
@@ -231,7 +231,7 @@ module _ (cs : List NamedCard) (rows : List ℕ) (i : ℕ) (h : i < length rows 
         left_again g =
             owner_either (λ owner. false ≡ is_listed cs rows owner i → pairs_left cs rows owner i ≡ pairs_left cs rows owner (i + 1)) (λ g. outside_at)
             (λ l g. again_at t l (is_21 f) (not-false _ (sym g))) g
-            ∙ ap (λ (owner : Found). pairs_left cs rows owner (i + 1)) owner_stays
+            ∙ ap (λ (owner : Place ℕ). pairs_left cs rows owner (i + 1)) owner_stays
 
         pub left_new : true ≡ is_listed cs rows (owner_of cs rows t i) i →
             pairs_left cs rows (owner_of cs rows t i) i ≡
@@ -242,4 +242,4 @@ module _ (cs : List NamedCard) (rows : List ℕ) (i : ℕ) (h : i < length rows 
             pairs_left cs rows owner i ≡ get_or rows (3 * t) 0 ∷ (get_or rows (3 * i + 1) 0 ∷ (get_or rows (3 * t + 1) 0 ∷ pairs_left cs rows owner (i + 1))))
             (λ g. contradiction false refl (sym g))
             (λ l g. new_at t l (is_21 f) (not-true _ (sym g))) g
-            ∙ ap (λ (owner : Found). get_or rows (3 * t) 0 ∷ (get_or rows (3 * i + 1) 0 ∷ (get_or rows (3 * t + 1) 0 ∷ pairs_left cs rows owner (i + 1)))) owner_stays
+            ∙ ap (λ (owner : Place ℕ). get_or rows (3 * t) 0 ∷ (get_or rows (3 * i + 1) 0 ∷ (get_or rows (3 * t + 1) 0 ∷ pairs_left cs rows owner (i + 1)))) owner_stays

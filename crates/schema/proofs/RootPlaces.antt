@@ -32,7 +32,7 @@ use Rattle.store_reader.proofs.Laws.{cards_fit_lem, text_fits_lem, held_stored, 
 use Rattle.store_reader.proofs.Words.{word_past, name_stored}
 use Rattle.schema_rows.specs.Rows.{row_at}
 use Rattle.schema_rows.specs.Passing.{card_fits, row_passes}
-use Rattle.schema_rows.proofs.Passing.{wanted_other, card_is, row_passed}
+use Rattle.schema_rows.proofs.Passing.{card_is, row_passed}
 use Rattle.schema_rows.proofs.Rows.{row_get}
 use Rattle.schema_rows.proofs.RowsWithCards.{accepted}
 use Rattle.schema.specs.InStore.{root_card_at, root_span_in, IsSpan, RowsPass}
@@ -51,6 +51,11 @@ root_no_type k e = go (is_type k) refl
         let a = and_true (leb 5 k) (leb k 10) t in
         let l : k ≤ 10 = leb-true k 10 a.1 in
         omega arith)
+
+-- A row that is no type has a card of its own kind.
+wanted_own : (r : Row) → is_type r.what ≡ false → wanted_kind r ≡ r.what
+unfolding wanted_kind is_type_row
+wanted_own r e = rw e
 
 root_named_lem : (k : ℕ) → is_root k ≡ true → may_lack_name k ≡ false
 unfolding may_lack_name
@@ -99,7 +104,7 @@ module _ (text words rows : List ℕ) (ok : sound text words ≡ true) (big : to
       (row_get rows i inside)) in
       let f : card_fits words (row_at rows i) ≡ true = card_is what card origin words text ∙ p in
       let k : eqb (card_kind words card) (wanted_kind (row_at rows i)) ≡ true = rw (ne_eqb card absent e, lt-ltb card (cards_used_of words) l) at f in
-      eqb-true _ _ k ∙ sym (wanted_other what card origin (root_no_type what root))
+      eqb-true _ _ k ∙ wanted_own (row_at rows i) (root_no_type what root)
 
   own_stands : (get_or rows (3 * i + 1) 0 ≡ absent → ⊥) → get_or rows (3 * i + 1) 0 < cards_used_of words → Stands (get_or rows (3 * i + 1) 0)
   own_stands e l = span_stored text words ok (get_or rows (3 * i + 1) 0) l big (ap may_lack_name (own_kind e l) ∙ root_named_lem (get_or rows (3 * i) 0) root)
@@ -124,17 +129,17 @@ module _ (text words rows : List ℕ) (ok : sound text words ≡ true) (big : to
       object : get_or rows (3 * i + 1) 0 ≡ absent → (o : Option Row) →
           first_type_row (stored_parts text words) (lent_rows rows) (default_name (get_or rows (3 * i) 0)) ≡ o → Stands n
       object e none f =
-          let q : n ≡ absent = card_default (stored_parts text words) rows i e ∙ ap (λ (o : Option Row). found o (λ t. t.card) absent) f in
+          let q : n ≡ absent = card_default (stored_parts text words) rows (row_at rows i) e ∙ ap (λ (o : Option Row). found o (λ t. t.card) absent) f in
           absurd (let c = cards_fit_lem text words ok in omega arith)
       object e (some t) f =
-          let q : n ≡ t.card = card_default (stored_parts text words) rows i e ∙ ap (λ (o : Option Row). found o (λ t. t.card) absent) f in
+          let q : n ≡ t.card = card_default (stored_parts text words) rows (row_at rows i) e ∙ ap (λ (o : Option Row). found o (λ t. t.card) absent) f in
           subst Stands (sym q) (object_stands t f (omega arith))
 
       go : (b : Bool) → eqb (get_or rows (3 * i + 1) 0) absent ≡ b → Stands n
       go true s = object (eqb-true _ absent s) _ refl
       go false s =
           let e = eqb-false _ absent s in
-          let q : get_or rows (3 * i + 1) 0 ≡ n = card_own (stored_parts text words) rows i e in
+          let q : get_or rows (3 * i + 1) 0 ≡ n = card_own (stored_parts text words) rows (row_at rows i) e in
           subst Stands q (own_stands e (omega arith))
 
   -- A card that is not stored has no name, and stands at the text's beginning.

@@ -26,7 +26,7 @@ use Rattle.store_reader.proofs.Lists.{bytes_none}
 use Rattle.store_reader.proofs.Laws.{held_stored, span_bytes}
 use Rattle.store_reader.proofs.Words.{name_stored}
 use Rattle.schema_rows.specs.Rows.{row_at, found_from}
-use Rattle.schema_rows.specs.declared.search.Found.TheVariants.{Row as RowAt, Nothing}
+use Rattle.std.specs.Prelude.{Some, None}
 use Rattle.schema_rows.proofs.Rows.{found_none, found_some, hit_inside, hit_row}
 
 -- ---- Roots.
@@ -42,11 +42,11 @@ root_is_root Mutation k e = rw e
 root_is_root Subscription k e = rw e
 
 module _ (rows : List ℕ) (op : OperationType) (kind : ℕ) (k : kind ≡ root_kind op) where
-  pub root_none : found_from (is_row_of kind) 0 (lent_rows rows) ≡ Nothing → root_row (lent_rows rows) op ≡ none
+  pub root_none : found_from (is_row_of kind) 0 (lent_rows rows) ≡ None → root_row (lent_rows rows) op ≡ none
   unfolding root_row
   root_none e = ap (λ (k : ℕ). find (is_row_of k) (lent_rows rows)) (sym k) ∙ found_none (is_row_of kind) 0 (lent_rows rows) e
 
-  module _ (i : ℕ) (e : found_from (is_row_of kind) 0 (lent_rows rows) ≡ RowAt i) where
+  module _ (i : ℕ) (e : found_from (is_row_of kind) 0 (lent_rows rows) ≡ Some i) where
     pub root_inside : i < length rows / 3
     root_inside = hit_inside rows _ i (found_some (is_row_of kind) 0 (lent_rows rows) i e)
 
@@ -61,27 +61,24 @@ module _ (rows : List ℕ) (op : OperationType) (kind : ℕ) (k : kind ≡ root_
     unfolding is_row_of
     root_what = root_is_root op _ (eqb-true _ _ (split (is_row_of kind) (lent_rows rows) (row_at rows i) first_root).passes ∙ k)
 
-module _ (cs : List NamedCard) (rows : List ℕ) (i : ℕ) where
-  pub card_own : (get_or rows (3 * i + 1) 0 ≡ absent → ⊥) → get_or rows (3 * i + 1) 0 ≡ root_card cs (lent_rows rows) (row_at rows i)
+module _ (cs : List NamedCard) (rows : List ℕ) (r : Row) where
+  pub card_own : (r.card ≡ absent → ⊥) → r.card ≡ root_card cs (lent_rows rows) r
   unfolding root_card
   card_own e = rw (ne_eqb _ _ e)
 
-  module _ (e : get_or rows (3 * i + 1) 0 ≡ absent) where
-    pub card_default : root_card cs (lent_rows rows) (row_at rows i)
-        ≡ found (first_type_row cs (lent_rows rows) (default_name (get_or rows (3 * i) 0))) (λ t. t.card) absent
+  module _ (e : r.card ≡ absent) where
+    pub card_default : root_card cs (lent_rows rows) r
+        ≡ found (first_type_row cs (lent_rows rows) (default_name (r.what))) (λ t. t.card) absent
     unfolding root_card
     card_default = rw (eq-eqb _ _ e)
 
-    pub card_none : found_from (is_type_row_named cs (default_name (get_or rows (3 * i) 0))) 0 (lent_rows rows) ≡ Nothing →
-        absent ≡ root_card cs (lent_rows rows) (row_at rows i)
+    pub card_none : found_from (is_type_row_named cs (default_name (r.what))) 0 (lent_rows rows) ≡ None →
+        absent ≡ root_card cs (lent_rows rows) r
     unfolding first_type_row
     card_none f = sym (card_default ∙ ap (λ (o : Option Row). found o (λ t. t.card) absent) (found_none _ 0 (lent_rows rows) f))
 
-    module _ (t : ℕ) (f : found_from (is_type_row_named cs (default_name (get_or rows (3 * i) 0))) 0 (lent_rows rows) ≡ RowAt t) where
-      pub default_inside : t < length rows / 3
-      default_inside = hit_inside rows _ t (found_some _ 0 (lent_rows rows) t f)
-
-      pub card_object : get_or rows (3 * t + 1) 0 ≡ root_card cs (lent_rows rows) (row_at rows i)
+    module _ (t : ℕ) (f : found_from (is_type_row_named cs (default_name (r.what))) 0 (lent_rows rows) ≡ Some t) where
+      pub card_object : get_or rows (3 * t + 1) 0 ≡ root_card cs (lent_rows rows) r
       unfolding first_type_row
       card_object = sym (card_default ∙ ap (λ (o : Option Row). found o (λ t. t.card) absent) (hit_row rows _ t (found_some _ 0 (lent_rows rows) t f)))
 

@@ -11,8 +11,8 @@ use Rattle.definition.specs.Outcomes.{words_of_row}
 use Rattle.store_reader.specs.Stored.{stored_parts}
 use Rattle.schema_rows.specs.Rows.{row_at}
 use Rattle.schema.specs.Owners.{named}
-use Rattle.schema_rows.specs.declared.search.Found.{Found}
-use Rattle.schema_rows.specs.declared.search.Found.TheVariants.{Row as RowAt, Nothing}
+use Rattle.std.specs.Prelude.{Option as Place}
+use Rattle.std.specs.Prelude.{Some, None}
 
 -- The elements that are like none before them, where the elements of `pre` stand before the list: unlike in `firsts`, all of them do, kept or not.
 unfoldable pub news : {A : Type 0} → (A → A → Bool) → List A → List A → List A
@@ -34,13 +34,13 @@ gather cs pre mid o (r ∷ rs) =
     choose (is_type_row r) type (found o (λ t. choose new (implementing t r ∷ under) under) outside)
 
 -- The type row that rows stand under, and the rows between it and the row i.
-abbrev pub owner_row : List ℕ → Found → Option Row
-owner_row rows (RowAt t) = some (row_at rows t)
-owner_row rows Nothing = none
+abbrev pub owner_row : List ℕ → Place ℕ → Option Row
+owner_row rows (Some t) = some (row_at rows t)
+owner_row rows None = none
 
-abbrev pub under_owner : List Row → Found → ℕ → List Row
-under_owner rs (RowAt t) i = drop (t + 1) (take i rs)
-under_owner rs Nothing i = []
+abbrev pub under_owner : List Row → Place ℕ → ℕ → List Row
+under_owner rs (Some t) i = drop (t + 1) (take i rs)
+under_owner rs None i = []
 
 -- An interface with the type that lists it as three words: the type's kind, the interface's card, the type's card.
 unfoldable pub as_row : Implementing → Row
@@ -58,6 +58,6 @@ abbrev pub pairs_in : List ℕ → List ℕ → List ℕ → List ℕ
 pairs_in text words rows = pair_words (all_implementing (stored_parts text words) (lent_rows rows))
 
 -- What is left to be written at the row i.
-unfoldable pub pairs_left : List NamedCard → List ℕ → Found → ℕ → List ℕ
+unfoldable pub pairs_left : List NamedCard → List ℕ → Place ℕ → ℕ → List ℕ
 pairs_left cs rows owner i =
     pair_words (gather cs (take i (lent_rows rows)) (under_owner (lent_rows rows) owner i) (owner_row rows owner) (drop i (lent_rows rows)))

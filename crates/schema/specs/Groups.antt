@@ -7,7 +7,7 @@ use Rattle.definition.specs.LentRows.{lent_rows, is_row_named}
 use Rattle.definition.specs.Lookups.{is_row_of, origin_of, same_interface}
 use Rattle.store_reader.specs.Stored.{stored_parts}
 use Rattle.schema_rows.specs.Rows.{row_at, found_from}
-use Rattle.schema_rows.specs.declared.search.Found.{Found}
+use Rattle.std.specs.Prelude.{Option}
 use Rattle.schema.specs.Gather.{news}
 use Rattle.schema.specs.Owners.{named}
 
@@ -27,7 +27,7 @@ pair_groups cs ps = flat_map (pair_group cs ps) (news (same_interface cs) [] ps)
 -- ---- The same by the words of a store and of pairs.
 
 -- The first pair whose interface has the name.
-abbrev pub pair_found : List ℕ → List ℕ → List ℕ → List ℕ → Found
+abbrev pub pair_found : List ℕ → List ℕ → List ℕ → List ℕ → Option ℕ
 pair_found text words pairs name = found_from (is_row_named (stored_parts text words) name) 0 (lent_rows pairs)
 
 -- How many types of a kind list the interface of a name.

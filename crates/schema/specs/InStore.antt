@@ -1,16 +1,15 @@
 -- What the lookups find, by the text and words of a store and the words of lent rows: the definition's lookups over what these hold.
-use Rattle.std.specs.Prelude.{List, Bool, ◌≡◌, ℕ, ◌+◌, length}
+use Rattle.std.specs.Prelude.{List, Bool, ◌≡◌, ℕ, ◌+◌, length, Option, Some, None}
 use Rattle.std.specs.Borrow.{Bor}
 use Rattle.definition.specs.declared.OperationType.{OperationType}
 use Rattle.definition.specs.declared.FieldLookup.{FieldLookup}
-use Rattle.definition.specs.declared.FieldLookup.TheVariants.{Found, NoSuchField}
-use Rattle.definition.specs.declared.SubtypeLookup.{SubtypeLookup}
-use Rattle.definition.specs.declared.SubtypeLookup.TheVariants.{Subtype, NotSubtype}
-use Rattle.definition.specs.Lists.{choose, found, written}
+use Rattle.definition.specs.declared.FieldFound.{FieldFound}
+use Rattle.definition.specs.Lists.{found, written}
 use Rattle.definition.specs.Headings.{NamedCard}
+use Rattle.definition.specs.Catalogue.{Row}
 use Rattle.definition.specs.Store.{account_in}
 use Rattle.definition.specs.LentRows.{lent_rows, held, rows_refusal}
-use Rattle.definition.specs.Lookups.{Span, root_card, root_span, is_query_root, meta_field, field_named, is_subtype_of, Group, groups}
+use Rattle.definition.specs.Lookups.{Span, root_card, root_span, meta_field, field_named, is_subtype_of, Group, groups}
 use Rattle.definition.specs.Outcomes.{part_of}
 use Rattle.store_reader.specs.Stored.{stored_parts}
 use Rattle.schema_rows.specs.Rows.{row_at}
@@ -40,23 +39,15 @@ pub record IsSpan (text part : Bor (List ℕ)) (s : Span) : Type 0 where
 abbrev pub RowsPass : List ℕ → List ℕ → List ℕ → Type 0
 RowsPass text words rows = rows_refusal (account_in text words).documents rows ≡ 0
 
--- Whether the query root has the name.
-abbrev pub is_query_root_in : List ℕ → List ℕ → List ℕ → List ℕ → Bool
-is_query_root_in text words rows name = is_query_root (stored_parts text words) (lent_rows rows) name
-
--- A meta field of a type of the kind and the name, or that the type of the card has no such field.
-abbrev pub meta_field_in : List ℕ → List ℕ → List ℕ → ℕ → ℕ → List ℕ → List ℕ → FieldLookup
-meta_field_in text words rows kind card type field =
-    found (meta_field (stored_parts text words) (lent_rows rows) kind type field) (λ m. Found m) (NoSuchField card)
+-- A meta field of a type of the kind and the name, by the cards that are stored.
+abbrev pub meta_field_in : List NamedCard → List Row → ℕ → List ℕ → List ℕ → Option FieldFound
+meta_field_in cs rs kind type field = found (meta_field cs rs kind type field) (λ m. Some m) None
 
 abbrev pub field_in : List ℕ → List ℕ → List ℕ → List ℕ → List ℕ → FieldLookup
 field_in text words rows type field = field_named (cards_in text words) (lent_rows rows) type field
 
-abbrev pub subtype_if : Bool → SubtypeLookup
-subtype_if b = choose b Subtype NotSubtype
-
-abbrev pub subtype_in : List ℕ → List ℕ → List ℕ → List ℕ → List ℕ → SubtypeLookup
-subtype_in text words rows general other = subtype_if (is_subtype_of (cards_in text words) (lent_rows rows) general other)
+abbrev pub is_subtype_in : List ℕ → List ℕ → List ℕ → List ℕ → List ℕ → Bool
+is_subtype_in text words rows general other = is_subtype_of (cards_in text words) (lent_rows rows) general other
 
 -- The groups of implementers_map.
 abbrev pub groups_in : List ℕ → List ℕ → List ℕ → List Group

@@ -1,17 +1,16 @@
 // schema/mod.rs: the root operations of lent rows, and meta fields, of which the query root has two.
-ghost use Rattle.std.specs.Prelude.{◌≡◌, true, false, ◌<◌, ◌/◌, length};
-ghost use Rattle.definition.specs.Names.{same_name};
+ghost use Rattle.std.specs.Prelude.{◌≡◌, true, false};
 ghost use Rattle.definition.specs.Answers.{root_kind};
 ghost use Rattle.definition.specs.Cards.{is_root};
+ghost use Rattle.definition.specs.Lookups.{root_card, is_query_root};
 ghost use Rattle.definition.specs.Store.{sound, too_short};
-ghost use Rattle.schema_rows.specs.Rows.{row_at};
-ghost use Rattle.schema.specs.InStore.{root_card_at, root_span_in, root_name, IsSpan, RowsPass, is_query_root_in, meta_field_in};
+ghost use Rattle.schema_rows.specs.Rows.{row_of, cards_of, rows_of};
+ghost use Rattle.schema.specs.InStore.{root_span_in, root_name, IsSpan, RowsPass, meta_field_in};
 ghost use Rattle.schema.specs.MetaFields.{is_typename};
 
 use ast::kinds;
-use definition::layout::ROW_WORDS;
-use definition::{ABSENT, FieldFound, FieldLookup, NameOrder, OperationType};
-use schema_rows::search::Found;
+use definition::{ABSENT, FieldFound, OperationType};
+use schema_rows::{Row, Schema};
 
 fn root_kind(op: OperationType) -> u32
     ensures { result ≡ root_kind op }
@@ -24,105 +23,72 @@ fn root_kind(op: OperationType) -> u32
 }
 
 // The card that has a root's name: the root's own, or for a default root its object row's.
-fn root_card(text: &[u8], words: &[u32], rows: &[u32], i: usize) -> u32
-    requires { (i < length rows.now / 3)
-        × (is_root (row_at rows.now i).what ≡ true) }
-    ensures { result ≡ root_card_at text.now words.now rows.now i }
+fn root_card(schema: Schema, root: Row) -> u32
+    requires { is_root root.what ≡ true }
+    ensures { result ≡ root_card (cards_of schema.entry) (rows_of schema.entry) (row_of root) }
 {
-    let card = rows[ROW_WORDS * i + 1];
-    if card != ABSENT {
-        return card;
+    if root.card != ABSENT {
+        return root.card;
     }
-    let Found::Row(t) = schema_rows::search::find_default_root(
-        text,
-        words,
-        rows,
-        rows[ROW_WORDS * i],
-    ) else {
+    let Some(t) = schema.find_default_root(root.what) else {
         return ABSENT;
     };
-    rows[ROW_WORDS * t + 1]
+    schema.row(t).card
 }
 
 // The name is handed back as a part of the store's text: the bytes where the name stands, and no others that equal them.
-pub fn root_operation<'a>(
-    text: &'a [u8],
-    words: &[u32],
-    rows: &[u32],
-    op: OperationType,
-) -> &'a [u8]
-    requires { (sound text.now words.now ≡ true)
-        × (too_short text.now words.now ≡ false) }
-    ensures { (result.now ≡ root_name text.now words.now rows.now op)
-        × (RowsPass text.now words.now rows.now
-        → IsSpan text.entry result (root_span_in text.now words.now rows.now op)) }
+pub fn root_operation<'text>(schema: Schema<'text, '_>, op: OperationType) -> &'text [u8]
+    requires { (sound schema.text.now schema.words.now ≡ true)
+        × (too_short schema.text.now schema.words.now ≡ false) }
+    ensures { (result.now ≡ root_name schema.entry.text.now schema.entry.words.now schema.entry.rows.now op)
+        × (RowsPass schema.entry.text.now schema.entry.words.now schema.entry.rows.now
+        → IsSpan schema.entry.text result
+        (root_span_in schema.entry.text.now schema.entry.words.now schema.entry.rows.now op)) }
 {
-    let Found::Row(i) = schema_rows::search::find_row(rows, root_kind(op)) else {
-        return &text[0..0];
+    let Some(i) = schema.find_row(root_kind(op)) else {
+        return &schema.text[0..0];
     };
-    let card = root_card(text, words, rows, i);
-    store_reader::reader::read_name(text, words, card as usize)
+    let card = root_card(schema, schema.row(i));
+    store_reader::reader::read_name(schema.text, schema.words, card as usize)
 }
 
-fn is_query_root(text: &[u8], words: &[u32], rows: &[u32], name: &[u8]) -> bool
-    ensures { result ≡ is_query_root_in text.now words.now rows.now name.now }
+fn is_query_root(schema: Schema, name: &[u8]) -> bool
+    ensures { result ≡ is_query_root (cards_of schema.entry) (rows_of schema.entry) name.now }
 {
-    let Found::Row(i) = schema_rows::search::find_row(rows, kinds::QUERY) else {
+    let Some(i) = schema.find_row(kinds::QUERY) else {
         return false;
     };
-    schema_rows::search::is_named(text, words, root_card(text, words, rows, i), name)
-}
-
-// Whether two names have the same bytes.
-fn is_same(a: &[u8], b: &[u8]) -> bool
-    ensures { result ≡ same_name a.now b.now }
-{
-    let order = name::compare(a, b);
-    match order {
-        NameOrder::Equal => true,
-        NameOrder::Before => false,
-        NameOrder::After => false,
-    }
+    schema.is_named(root_card(schema, schema.row(i)), name)
 }
 
 // Objects, interfaces and unions have `__typename`.
+#[tactic(auto, unfolding(crate::specs::MetaFields::is_typename, definition::specs::Names::bytes))]
 fn is_typename(what: u32, field: &[u8]) -> bool
     ensures { result ≡ is_typename what field.now }
 {
-    if what < kinds::OBJECT_TYPE_DEFINITION {
-        return false;
-    }
-    if kinds::UNION_TYPE_DEFINITION < what {
-        return false;
-    }
-    is_same(field, b"__typename")
+    kinds::OBJECT_TYPE_DEFINITION <= what
+        && what <= kinds::UNION_TYPE_DEFINITION
+        && name::same(field, b"__typename")
 }
 
-// A meta field of a type of the kind and the name, or that the type of the card has no such field.
-pub fn meta_field(
-    text: &[u8],
-    words: &[u32],
-    rows: &[u32],
-    what: u32,
-    card: u32,
-    type_name: &[u8],
-    field: &[u8],
-) -> FieldLookup
+// A meta field of a type of the kind and the name.
+#[tactic(auto, unfolding(definition::specs::Lookups::meta_field, crate::specs::MetaFields::is_typename, definition::specs::Names::bytes))]
+pub fn meta_field(schema: Schema, what: u32, type_name: &[u8], field: &[u8]) -> Option<FieldFound>
     ensures { result
-        ≡ meta_field_in text.now words.now rows.now what card type_name.now
+        ≡ meta_field_in (cards_of schema.entry) (rows_of schema.entry) what type_name.now
         field.now }
 {
     if is_typename(what, field) {
-        return FieldLookup::Found(FieldFound::Typename);
+        return Some(FieldFound::Typename);
     }
-    if !is_query_root(text, words, rows, type_name) {
-        return FieldLookup::NoSuchField(card);
+    if !is_query_root(schema, type_name) {
+        return None;
     }
-    if is_same(field, b"__schema") {
-        return FieldLookup::Found(FieldFound::Schema);
+    if name::same(field, b"__schema") {
+        return Some(FieldFound::Schema);
     }
-    if is_same(field, b"__type") {
-        return FieldLookup::Found(FieldFound::Type);
+    if name::same(field, b"__type") {
+        return Some(FieldFound::Type);
     }
-    FieldLookup::NoSuchField(card)
+    None
 }

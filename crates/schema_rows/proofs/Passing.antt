@@ -1,42 +1,30 @@
--- What 26 asks of a row by itself, and the marks.
+-- What 26 asks of a row by itself.
 use mathlib.Core.Path.{◌≡◌, refl, sym, ◌∙◌, ap}
 use mathlib.Core.List.{List}
 use mathlib.Core.Bool.{Bool, true, false, ◌&&◌, ◌||◌}
-use Prim.Native.Nat.{ℕ, ◌+◌, ◌*◌, ◌/◌, ◌≤◌, ◌<◌}
+use Prim.Native.Nat.{ℕ, ◌*◌, ◌/◌, ◌≤◌, ◌<◌}
 use native.Mathlib.Omega.{arith}
-use borrow.Author.Tests.{eq-eqb, ne_eqb, lt-ltb, le-ltb, ltb-true, ltb-false, leb-true}
+use borrow.Author.Tests.{ne_eqb, ltb-true, ltb-false, leb-true}
 use lib.Dec.{eqb, leb, ltb}
-use lib.ListN.{length, get_or, set}
+use lib.ListN.{length, get_or}
 use Rattle.definition.specs.Lists.{choose, find}
 use Rattle.definition.specs.Answers.{absent}
 use Rattle.definition.specs.Cards.{is_root, is_type, is_extension}
 use Rattle.definition.specs.Headings.{NamedCard}
 use Rattle.definition.specs.Catalogue.{Row, row, default_name}
 use Rattle.definition.specs.Store.{cards_used_of}
-use Rattle.definition.specs.LentRows.{lent_rows, is_type_row, is_type_row_named, first_type_row, is_default_root, wanted_kind, card_passes, origin_passes, default_root_passes}
+use Rattle.definition.specs.LentRows.{lent_rows, is_type_row_named, first_type_row, is_default_root, wanted_kind, card_passes, origin_passes, default_root_passes}
 use Rattle.store_reader.specs.Stored.{stored_parts, card_kind}
 use Rattle.definition.proofs.Tests.{and_true}
 use Rattle.store_reader.proofs.Words.{found_stored, kind_past}
 use Rattle.schema_rows.specs.Rows.{found_from}
-use Rattle.schema_rows.specs.Passing.{card_fits, origin_fits, row_passes, is_free, marked}
-use Rattle.schema_rows.specs.declared.search.Found.TheVariants.{Row as RowAt, Nothing}
+use Rattle.schema_rows.specs.Passing.{card_fits, origin_fits, row_passes}
+use Rattle.std.specs.Prelude.{Some, None}
 use Rattle.schema_rows.proofs.Rows.{found_none, found_some, hit_inside, hit_row}
 
 -- ---- A default root, and the kind that a row's card has.
 
 module _ (what card origin : ℕ) where
-  pub default_other : is_root what ≡ false → false ≡ is_default_root (row what card origin)
-  unfolding is_default_root
-  default_other e = rw e
-
-  pub default_named : is_root what ≡ true → (card ≡ absent → ⊥) → false ≡ is_default_root (row what card origin)
-  unfolding is_default_root
-  default_named e f = rw (e, ne_eqb card absent f)
-
-  pub default_asked : is_root what ≡ true → card ≡ absent → eqb origin absent ≡ is_default_root (row what card origin)
-  unfolding is_default_root
-  default_asked e f = rw (e, eq-eqb card absent f)
-
   pub default_root_lem : is_default_root (row what card origin) ≡ true → is_root what ≡ true
   unfolding is_default_root
   default_root_lem e = go (is_root what) (eqb card absent) (eqb origin absent) e
@@ -45,42 +33,9 @@ module _ (what card origin : ℕ) where
       go true b c e = refl
       go false b c e = e
 
-  pub wanted_other : is_type what ≡ false → what ≡ wanted_kind (row what card origin)
-  unfolding wanted_kind is_type_row
-  wanted_other e = rw e
-
-  pub wanted_defined : is_type what ≡ true → origin ≡ absent → what ≡ wanted_kind (row what card origin)
-  unfolding wanted_kind is_type_row
-  wanted_defined e f = rw (e, eq-eqb origin absent f)
-
-  pub wanted_adopted : is_type what ≡ true → (origin ≡ absent → ⊥) → what + 7 ≡ wanted_kind (row what card origin)
-  unfolding wanted_kind is_type_row
-  wanted_adopted e f = rw (e, ne_eqb origin absent f)
-
-  pub wanted_any : wanted_kind (row what 0 origin) ≡ wanted_kind (row what card origin)
-  unfolding wanted_kind is_type_row
-  wanted_any = refl
-
   -- ---- Its card.
 
   module _ (words : List ℕ) where
-    pub card_schema : card ≡ absent → what ≡ 4 → true ≡ card_fits words (row what card origin)
-    unfolding card_fits
-    card_schema e f = rw (eq-eqb card absent e, eq-eqb what 4 f)
-
-    pub card_default : card ≡ absent → (what ≡ 4 → ⊥) → is_default_root (row what card origin) ≡ card_fits words (row what card origin)
-    unfolding card_fits
-    card_default e f = rw (eq-eqb card absent e, ne_eqb what 4 f)
-
-    pub card_past : (card ≡ absent → ⊥) → cards_used_of words ≤ card → false ≡ card_fits words (row what card origin)
-    unfolding card_fits
-    card_past e h = rw (ne_eqb card absent e, le-ltb card (cards_used_of words) h)
-
-    pub card_asked : (card ≡ absent → ⊥) → card < cards_used_of words → (kind wanted : ℕ) → kind ≡ card_kind words card → wanted ≡ wanted_kind (row what 0 origin) →
-        eqb kind wanted ≡ card_fits words (row what card origin)
-    unfolding card_fits
-    card_asked e h kind wanted k w = rw (ne_eqb card absent e, lt-ltb card (cards_used_of words) h, k, w ∙ wanted_any)
-
     -- A card that passes is stored, or it is `-`.
     pub card_stored : card_fits words (row what card origin) ≡ true → (card ≡ absent → ⊥) → card < cards_used_of words
     unfolding card_fits
@@ -113,17 +68,6 @@ module _ (what card origin : ℕ) where
               none : is_extension 0 ≡ false
               none = unfold is_extension in refl
 
--- ---- Its origin.
-
-module _ (words : List ℕ) (origin : ℕ) where
-  pub origin_none : origin ≡ absent → true ≡ origin_fits words origin
-  unfolding origin_fits
-  origin_none e = rw (eq-eqb origin absent e)
-
-  pub origin_asked : (origin ≡ absent → ⊥) → (kind : ℕ) → kind ≡ card_kind words origin → is_extension kind ≡ origin_fits words origin
-  unfolding origin_fits
-  origin_asked e kind k = rw (ne_eqb origin absent e, k)
-
 -- ---- A default root's object.
 
 module _ (cs : List NamedCard) (rows : List ℕ) (r : Row) where
@@ -132,11 +76,11 @@ module _ (cs : List NamedCard) (rows : List ℕ) (r : Row) where
   root_plain e = rw e
 
   module _ (e : is_default_root r ≡ true) where
-    pub root_missing : found_from (is_type_row_named cs (default_name r.what)) 0 (lent_rows rows) ≡ Nothing → false ≡ default_root_passes cs (lent_rows rows) r
+    pub root_missing : found_from (is_type_row_named cs (default_name r.what)) 0 (lent_rows rows) ≡ None → false ≡ default_root_passes cs (lent_rows rows) r
     unfolding default_root_passes first_type_row
     root_missing f = rw (e, found_none (is_type_row_named cs (default_name r.what)) 0 (lent_rows rows) f)
 
-    module _ (t : ℕ) (f : found_from (is_type_row_named cs (default_name r.what)) 0 (lent_rows rows) ≡ RowAt t) where
+    module _ (t : ℕ) (f : found_from (is_type_row_named cs (default_name r.what)) 0 (lent_rows rows) ≡ Some t) where
       pub root_inside : t < length rows / 3
       root_inside = hit_inside rows _ t (found_some _ 0 (lent_rows rows) t f)
 
@@ -147,18 +91,6 @@ module _ (cs : List NamedCard) (rows : List ℕ) (r : Row) where
 -- ---- All three.
 
 module _ (cs : List NamedCard) (rs : List Row) (r : Row) where
-  pub row_card : card_passes cs r ≡ false → false ≡ row_passes cs rs r
-  unfolding row_passes
-  row_card e = rw e
-
-  pub row_origin : card_passes cs r ≡ true → origin_passes cs r ≡ false → false ≡ row_passes cs rs r
-  unfolding row_passes
-  row_origin e f = rw (e, f)
-
-  pub row_root : card_passes cs r ≡ true → origin_passes cs r ≡ true → default_root_passes cs rs r ≡ row_passes cs rs r
-  unfolding row_passes
-  row_root e f = rw (e, f)
-
   pub row_passed : row_passes cs rs r ≡ true → card_passes cs r ≡ true
   unfolding row_passes
   row_passed e = go (card_passes cs r) (choose (origin_passes cs r) (default_root_passes cs rs r) false) e
@@ -166,21 +98,6 @@ module _ (cs : List NamedCard) (rs : List Row) (r : Row) where
       go : (a b : Bool) → choose a b false ≡ true → a ≡ true
       go true b e = refl
       go false b e = e
-
--- ---- Marks.
-
-module _ (marks : List ℕ) (card : ℕ) where
-  pub free_absent : card ≡ absent → (true ≡ is_free marks card) × (marks ≡ marked marks card)
-  unfolding is_free marked
-  free_absent e = (rw (eq-eqb card absent e), rw (eq-eqb card absent e))
-
-  pub free_not : (card ≡ absent → ⊥) → (get_or marks card 0 ≡ 0 → ⊥) → false ≡ is_free marks card
-  unfolding is_free
-  free_not e f = rw (ne_eqb card absent e, ne_eqb (get_or marks card 0) 0 f)
-
-  pub free_now : (card ≡ absent → ⊥) → get_or marks card 0 ≡ 0 → (true ≡ is_free marks card) × (set marks card 1 ≡ marked marks card)
-  unfolding is_free marked
-  free_now e f = (rw (ne_eqb card absent e, eq-eqb (get_or marks card 0) 0 f), rw (ne_eqb card absent e))
 
 pub type_most : (what : ℕ) → is_type what ≡ true → (5 ≤ what) × (what ≤ 10)
 unfolding is_type

@@ -11,15 +11,15 @@ use Rattle.definition.specs.Lists.{choose, find}
 use lib.Dec.{leb}
 use borrow.Author.Tests.{eq-eqb, ne_eqb, leb-true}
 use Rattle.definition.specs.Names.{same_name, bytes}
-use Rattle.definition.specs.Cards.{is_type, is_root}
+use Rattle.definition.specs.Cards.{is_root}
 use Rattle.definition.specs.Catalogue.{Row, row, default_name}
-use Rattle.definition.specs.LentRows.{lent_row, lent_rows, is_type_row, is_row_named, is_type_row_named}
+use Rattle.definition.specs.LentRows.{lent_row, lent_rows, is_row_named}
 use Rattle.store_reader.specs.Stored.{stored_parts, card_name}
 use Rattle.definition.proofs.Tests.{and_true}
 use Rattle.store_reader.proofs.Lists.{length_chunks, chunk_at, drop_get, get_inside}
 use Rattle.store_reader.proofs.Words.{name_stored}
 use Rattle.schema_rows.specs.Rows.{row_at, found_from}
-use Rattle.schema_rows.specs.declared.search.Found.TheVariants.{Row as RowAt, Nothing}
+use Rattle.std.specs.Prelude.{Option as Place, Some, None, MatchOption, IfSome}
 use native.Mathlib.Numerals.{add-one}
 
 -- ---- A row by its number.
@@ -60,7 +60,7 @@ taken_next rows i h = take_get (lent_rows rows) i (row_at rows i) (row_get rows 
 -- ---- A search.
 
 module _ (p : Row → Bool) (rows : List ℕ) (i : ℕ) where
-  pub found_hit : i < length rows / 3 → p (row_at rows i) ≡ true → found_from p i (drop i (lent_rows rows)) ≡ RowAt i
+  pub found_hit : i < length rows / 3 → p (row_at rows i) ≡ true → found_from p i (drop i (lent_rows rows)) ≡ Some i
   unfolding found_from
   found_hit h e = rw (row_next rows i h, e)
 
@@ -68,9 +68,28 @@ module _ (p : Row → Bool) (rows : List ℕ) (i : ℕ) where
   unfolding found_from
   found_miss h e = rw (row_next rows i h, e)
 
-  pub found_end : length rows / 3 ≤ i → found_from p i (drop i (lent_rows rows)) ≡ Nothing
+  pub found_end : length rows / 3 ≤ i → found_from p i (drop i (lent_rows rows)) ≡ None
   unfolding found_from
   found_end h = rw (row_end rows i h)
+
+-- What a search over the numbers of rows found.
+module _ (p : Row → Bool) (rows : List ℕ) where
+  missed : (n : ℕ) → n ≤ length rows / 3 → ((k : ℕ) → k < n → p (row_at rows k) ≡ false) →
+      found_from p 0 (lent_rows rows) ≡ found_from p n (drop n (lent_rows rows))
+  missed zero h f = refl
+  missed (suc n) h f =
+      let next : n + 1 ≡ suc n = omega arith in
+      missed n (omega arith) (λ k l. f k (omega arith))
+      ∙ found_miss p rows n (omega arith) (f n (omega arith))
+      ∙ ap (λ (m : ℕ). found_from p m (drop m (lent_rows rows))) next
+
+  pub first_found : (r : Place ℕ) (n : ℕ) → n ≡ length rows / 3 → MatchOption r ((k : ℕ) → 0 ≤ k → k < n → p (row_at rows k) ≡ false)
+      (λ i. (0 ≤ i) × (i < n) × (p (row_at rows i) ≡ true) × ((k : ℕ) → 0 ≤ k → k < i → p (row_at rows k) ≡ false)) →
+      r ≡ found_from p 0 (lent_rows rows)
+  first_found None n e f = sym (missed n (omega arith) (λ k l. f k (omega arith) l) ∙ found_end p rows n (omega arith))
+  first_found (Some i) n e f =
+      let h : i < length rows / 3 = (let g = f.1 in omega arith) in
+      sym (missed i (omega arith) (λ k l. f.3 k (omega arith) l) ∙ found_hit p rows i h f.2)
 
 -- ---- What was found is the first row that passes.
 
@@ -82,38 +101,38 @@ pub record Hit (i : ℕ) (xs : List Row) (sought : Option Row) (t : ℕ) : Type 
   pub held : get_elem? xs at ≡ some row
   pub first : sought ≡ some row
 
-pub hit_here : (i : ℕ) (x : Row) (xs : List Row) (sought : Option Row) (t : ℕ) → RowAt i ≡ RowAt t → sought ≡ some x → Hit i (x ∷ xs) sought t
+pub hit_here : (i : ℕ) (x : Row) (xs : List Row) (sought : Option Row) (t : ℕ) → Some i ≡ Some t → sought ≡ some x → Hit i (x ∷ xs) sought t
 hit_here i x xs sought t e f = record { at = 0; row = x; place = (let q : i ≡ t = cc in omega arith); held = refl; first = f }
 
 pub hit_later : (i : ℕ) (x : Row) (xs : List Row) (sought : Option Row) (t : ℕ) → Hit (i + 1) xs sought t → Hit i (x ∷ xs) sought t
 hit_later i x xs sought t h = record { at = suc h.at; row = h.row; place = omega arith; held = h.held; first = h.first }
 
-pub never : {A : Type 0} {t : ℕ} → Nothing ≡ RowAt t → A
+pub never : {A : Type 0} {t : ℕ} → None ≡ Some t → A
 never e = absurd (let z : ◌≡◌ {A = ℕ} 0 1 = cc in omega arith)
 
-pub never_row : {A : Type 0} {t : ℕ} → RowAt t ≡ Nothing → A
+pub never_row : {A : Type 0} {t : ℕ} → Some t ≡ None → A
 never_row e = absurd (let z : ◌≡◌ {A = ℕ} 0 1 = cc in omega arith)
 
 pub contradiction : {A : Type 0} (b : Bool) → false ≡ b → b ≡ true → A
 contradiction b e f = let z : false ≡ true = e ∙ f in absurd (let y : ◌≡◌ {A = ℕ} 0 1 = cc in omega arith)
 
 module _ (p : Row → Bool) where
-  pub found_none : (i : ℕ) (xs : List Row) → found_from p i xs ≡ Nothing → find p xs ≡ none
+  pub found_none : (i : ℕ) (xs : List Row) → found_from p i xs ≡ None → find p xs ≡ none
   unfolding found_from find
   found_none i [] e = refl
   found_none i (x ∷ xs) e = go (p x) e (found_none (i + 1) xs)
     where
-      go : (b : Bool) → choose b (RowAt i) (found_from p (i + 1) xs) ≡ Nothing → (found_from p (i + 1) xs ≡ Nothing → find p xs ≡ none) →
+      go : (b : Bool) → choose b (Some i) (found_from p (i + 1) xs) ≡ None → (found_from p (i + 1) xs ≡ None → find p xs ≡ none) →
           choose b (some x) (find p xs) ≡ none
       go true e ih = never_row e
       go false e ih = ih e
 
-  pub found_some : (i : ℕ) (xs : List Row) (t : ℕ) → found_from p i xs ≡ RowAt t → Hit i xs (find p xs) t
+  pub found_some : (i : ℕ) (xs : List Row) (t : ℕ) → found_from p i xs ≡ Some t → Hit i xs (find p xs) t
   unfolding found_from find
   found_some i [] t e = never e
   found_some i (x ∷ xs) t e = go (p x) e (found_some (i + 1) xs t)
     where
-      go : (b : Bool) → choose b (RowAt i) (found_from p (i + 1) xs) ≡ RowAt t → (found_from p (i + 1) xs ≡ RowAt t → Hit (i + 1) xs (find p xs) t) →
+      go : (b : Bool) → choose b (Some i) (found_from p (i + 1) xs) ≡ Some t → (found_from p (i + 1) xs ≡ Some t → Hit (i + 1) xs (find p xs) t) →
           Hit i (x ∷ xs) (choose b (some x) (find p xs)) t
       go true e ih = hit_here i x xs (some x) t e refl
       go false e ih = hit_later i x xs (find p xs) t (ih e)
@@ -133,24 +152,16 @@ module _ (rows : List ℕ) (sought : Option Row) (t : ℕ) (h : Hit 0 (lent_rows
   pub hit_row : sought ≡ some (row_at rows t)
   hit_row = h.first ∙ sym h.held ∙ ap (get_elem? (lent_rows rows)) placed ∙ row_get rows t hit_inside
 
+pub found_inside : (p : Row → Bool) (rows : List ℕ) (r : Place ℕ) → r ≡ found_from p 0 (lent_rows rows) → IfSome r (λ i. i < length rows / 3)
+found_inside p rows None e = tt
+found_inside p rows (Some i) e = hit_inside rows _ i (found_some p 0 (lent_rows rows) i (sym e))
+
 -- ---- A row of a name, by its words: the origin is not asked.
 
 module _ (text words : List ℕ) (name : List ℕ) (what card origin : ℕ) where
   pub row_named : is_row_named (stored_parts text words) name (row what card origin) ≡ same_name name (card_name text words card)
   unfolding is_row_named
   row_named = ap (same_name name) (name_stored text words card)
-
-  pub type_named_lem : is_type what ≡ true → is_type_row_named (stored_parts text words) name (row what card origin) ≡ same_name name (card_name text words card)
-  unfolding is_type_row_named is_type_row
-  type_named_lem e = rw (e, row_named)
-
-  pub type_other : is_type what ≡ false → is_type_row_named (stored_parts text words) name (row what card origin) ≡ false
-  unfolding is_type_row_named is_type_row
-  type_other e = rw e
-
-  pub type_any : is_type_row_named (stored_parts text words) name (row what card 0) ≡ is_type_row_named (stored_parts text words) name (row what card origin)
-  unfolding is_type_row_named is_type_row is_row_named
-  type_any = refl
 
 -- ---- The names of default roots.
 

@@ -22,7 +22,7 @@ use Rattle.schema_rows.specs.Passing.{row_passes}
 use Rattle.schema_rows.specs.Walk.{ordered_from, once_from, rest_passes, has_card}
 use Rattle.schema_rows.proofs.Passing.{card_is, card_stored, row_passed}
 use Rattle.schema_rows.proofs.Rows.{contradiction}
-use Rattle.schema_rows.proofs.Walk.{once_next, once_bad, any_snoc, present_same, whole, not_whole}
+use Rattle.schema_rows.proofs.Walk.{once_next, once_bad, any_snoc, present_same, whole, not_whole, walk_passed}
 
 -- ---- Numbers below a bound, each at most once.
 
@@ -186,13 +186,10 @@ pub accepted : (text words rows : List ℕ) → sound text words ≡ true → ro
 unfolding rest_passes ordered_from
 accepted text words rows ok e = go (eqb (length rows % 3) 0) refl
   where
-    told : eqb (rows_refusal (account_in text words).documents rows) 0 ≡ true
-    told = eq-eqb _ 0 e
-
     go : (b : Bool) → eqb (length rows % 3) 0 ≡ b → Accepted text words rows
-    go false t = contradiction _ (not_whole text words rows ok (eqb-false (length rows % 3) 0 t)) told
+    go false t = absurd (let z : 26 ≡ 0 = not_whole text words rows ok (eqb-false (length rows % 3) 0 t) ∙ e in omega arith)
     go true t =
-        let w = sym (whole text words rows ok (eqb-true (length rows % 3) 0 t)) ∙ told in
+        let w = walk_passed _ (sym (whole text words rows ok (eqb-true (length rows % 3) 0 t)) ∙ e) in
         let a = chosen_true (order_passes [] (lent_rows rows))
         (choose (once_from [] (lent_rows rows)) (all (row_passes (stored_parts text words) (lent_rows rows)) (lent_rows rows)) false) w in
         let b = chosen_true (once_from [] (lent_rows rows)) (all (row_passes (stored_parts text words) (lent_rows rows)) (lent_rows rows)) a.1 in

@@ -5,61 +5,31 @@ use mathlib.Core.Bool.{Bool, true, false}
 use mathlib.Core.Option.{Option, none, some}
 use Prim.Native.Nat.{ℕ, suc, ◌+◌, ◌*◌, ◌/◌, ◌≤◌, ◌<◌}
 use native.Mathlib.Omega.{arith}
-use borrow.Author.Tests.{eq-eqb, ne_eqb}
 use lib.ListN.{length, drop, get_or, get_elem?}
 use Rattle.definition.specs.Lists.{choose, found, any, find}
-use Rattle.definition.specs.Names.{same_name}
 use Rattle.definition.specs.Cards.{is_type}
-use Rattle.definition.specs.Catalogue.{Row, row}
+use Rattle.definition.specs.Catalogue.{Row}
 use Rattle.definition.specs.LentRows.{lent_rows, is_type_row, is_row_named, is_type_row_named}
 use Rattle.definition.specs.Headings.{NamedCard}
-use Rattle.definition.specs.Lookups.{Block, blocks, is_block_named, type_named, is_row_of, is_part_named, lists}
-use Rattle.store_reader.specs.Stored.{stored_parts, card_name}
+use Rattle.definition.specs.Lookups.{Block, blocks, is_block_named, type_named, is_part_named, lists}
 use Rattle.schema_rows.specs.Rows.{row_at}
-use Rattle.schema_rows.specs.declared.search.Found.{Found}
-use Rattle.schema_rows.specs.declared.search.Found.TheVariants.{Row as RowAt, Nothing}
+use Rattle.std.specs.Prelude.{Option as Place, Some, None, is_some}
 use Rattle.store_reader.proofs.Lists.{and_true, and_left_false, get_inside, get_drop}
-use Rattle.schema_rows.proofs.Rows.{length_rows, row_get, row_next, row_end, row_named, Hit, hit_here, hit_later, never, never_row}
-use Rattle.schema_rows.specs.Search.{part_from, located_from, is_row_found}
+use Rattle.schema_rows.proofs.Rows.{length_rows, row_get, row_next, row_end, Hit, hit_here, hit_later, never, never_row}
+use Rattle.schema_rows.specs.Search.{part_from, located_from}
 use Rattle.schema_rows.specs.declared.search.Located.{Located}
-
--- ---- A part of a kind and a name, by a row's words.
-
-module _ (text words : List ℕ) (kind : ℕ) (name : List ℕ) (what card origin : ℕ) where
-  pub part_named : what ≡ kind → is_part_named (stored_parts text words) kind name (row what card origin) ≡ same_name name (card_name text words card)
-  unfolding is_part_named is_row_of
-  part_named e = rw (eq-eqb what kind e, row_named text words name what card origin)
-
-  pub part_other : (what ≡ kind → ⊥) → is_part_named (stored_parts text words) kind name (row what card origin) ≡ false
-  unfolding is_part_named is_row_of
-  part_other e = rw (ne_eqb what kind e)
-
-  pub part_any : is_part_named (stored_parts text words) kind name (row what card 0) ≡ is_part_named (stored_parts text words) kind name (row what card origin)
-  unfolding is_part_named is_row_of is_row_named
-  part_any = refl
-
--- ---- A row of a kind.
-
-module _ (kind what card origin : ℕ) where
-  pub kind_hit : what ≡ kind → is_row_of kind (row what card origin) ≡ true
-  unfolding is_row_of
-  kind_hit e = eq-eqb what kind e
-
-  pub kind_miss : (what ≡ kind → ⊥) → is_row_of kind (row what card origin) ≡ false
-  unfolding is_row_of
-  kind_miss e = ne_eqb what kind e
 
 -- ---- The turns.
 
-abbrev pub located : Found → Found → Located
+abbrev pub located : Place ℕ → Place ℕ → Located
 located owner part = record { owner = owner; part = part }
 
 module _ (hit : Row → Bool) (rows : List ℕ) (i : ℕ) where
-  pub part_stop : i < length rows / 3 → is_type (get_or rows (3 * i) 0) ≡ true → part_from hit i (drop i (lent_rows rows)) ≡ Nothing
+  pub part_stop : i < length rows / 3 → is_type (get_or rows (3 * i) 0) ≡ true → part_from hit i (drop i (lent_rows rows)) ≡ None
   unfolding part_from is_type_row
   part_stop h e = rw (row_next rows i h, e)
 
-  pub part_hit : i < length rows / 3 → is_type (get_or rows (3 * i) 0) ≡ false → hit (row_at rows i) ≡ true → part_from hit i (drop i (lent_rows rows)) ≡ RowAt i
+  pub part_hit : i < length rows / 3 → is_type (get_or rows (3 * i) 0) ≡ false → hit (row_at rows i) ≡ true → part_from hit i (drop i (lent_rows rows)) ≡ Some i
   unfolding part_from is_type_row
   part_hit h e f = rw (row_next rows i h, e, f)
 
@@ -68,13 +38,14 @@ module _ (hit : Row → Bool) (rows : List ℕ) (i : ℕ) where
   unfolding part_from is_type_row
   part_miss h e f = rw (row_next rows i h, e, f)
 
-  pub part_end : length rows / 3 ≤ i → part_from hit i (drop i (lent_rows rows)) ≡ Nothing
+  pub part_end : length rows / 3 ≤ i → part_from hit i (drop i (lent_rows rows)) ≡ None
   unfolding part_from
   part_end h = rw (row_end rows i h)
 
+-- The type that is meant, and the part under it.
 module _ (meant hit : Row → Bool) (rows : List ℕ) (i : ℕ) where
   pub owner_hit : i < length rows / 3 → meant (row_at rows i) ≡ true →
-      located_from meant hit i (drop i (lent_rows rows)) ≡ located (RowAt i) (part_from hit (i + 1) (drop (i + 1) (lent_rows rows)))
+      located_from meant hit i (drop i (lent_rows rows)) ≡ located (Some i) (part_from hit (i + 1) (drop (i + 1) (lent_rows rows)))
   unfolding located_from
   owner_hit h e = rw (row_next rows i h, e)
 
@@ -83,7 +54,7 @@ module _ (meant hit : Row → Bool) (rows : List ℕ) (i : ℕ) where
   unfolding located_from
   owner_miss h e = rw (row_next rows i h, e)
 
-  pub owner_end : length rows / 3 ≤ i → located_from meant hit i (drop i (lent_rows rows)) ≡ located Nothing Nothing
+  pub owner_end : length rows / 3 ≤ i → located_from meant hit i (drop i (lent_rows rows)) ≡ located None None
   unfolding located_from
   owner_end h = rw (row_end rows i h)
 
@@ -116,24 +87,24 @@ module _ (hit : Row → Bool) where
   unfolding find
   first_under x xs e = rw (blocks_under x xs e)
 
-  pub part_none : (i : ℕ) (xs : List Row) → part_from hit i xs ≡ Nothing → find hit (blocks xs).0 ≡ none
+  pub part_none : (i : ℕ) (xs : List Row) → part_from hit i xs ≡ None → find hit (blocks xs).0 ≡ none
   unfolding part_from
   part_none i [] e = first_none
   part_none i (x ∷ xs) e = go (is_type_row x) (hit x) refl refl e (part_none (i + 1) xs)
     where
-      go : (a b : Bool) → is_type_row x ≡ a → hit x ≡ b → choose a Nothing (choose b (RowAt i) (part_from hit (i + 1) xs)) ≡ Nothing →
-          (part_from hit (i + 1) xs ≡ Nothing → find hit (blocks xs).0 ≡ none) → find hit (blocks (x ∷ xs)).0 ≡ none
+      go : (a b : Bool) → is_type_row x ≡ a → hit x ≡ b → choose a None (choose b (Some i) (part_from hit (i + 1) xs)) ≡ None →
+          (part_from hit (i + 1) xs ≡ None → find hit (blocks xs).0 ≡ none) → find hit (blocks (x ∷ xs)).0 ≡ none
       go true b s t e ih = first_stop x xs s
       go false true s t e ih = never_row e
       go false false s t e ih = first_under x xs s ∙ rw t (ih e)
 
-  pub part_some : (i : ℕ) (xs : List Row) (t : ℕ) → part_from hit i xs ≡ RowAt t → Hit i xs (find hit (blocks xs).0) t
+  pub part_some : (i : ℕ) (xs : List Row) (t : ℕ) → part_from hit i xs ≡ Some t → Hit i xs (find hit (blocks xs).0) t
   unfolding part_from
   part_some i [] t e = never e
   part_some i (x ∷ xs) t e = go (is_type_row x) (hit x) refl refl e (part_some (i + 1) xs t)
     where
-      go : (a b : Bool) → is_type_row x ≡ a → hit x ≡ b → choose a Nothing (choose b (RowAt i) (part_from hit (i + 1) xs)) ≡ RowAt t →
-          (part_from hit (i + 1) xs ≡ RowAt t → Hit (i + 1) xs (find hit (blocks xs).0) t) → Hit i (x ∷ xs) (find hit (blocks (x ∷ xs)).0) t
+      go : (a b : Bool) → is_type_row x ≡ a → hit x ≡ b → choose a None (choose b (Some i) (part_from hit (i + 1) xs)) ≡ Some t →
+          (part_from hit (i + 1) xs ≡ Some t → Hit (i + 1) xs (find hit (blocks xs).0) t) → Hit i (x ∷ xs) (find hit (blocks (x ∷ xs)).0) t
       go true b s u e ih = never e
       go false true s u e ih = hit_here i x xs (find hit (blocks (x ∷ xs)).0) t e (first_under x xs s ∙ rw u)
       go false false s u e ih =
@@ -144,7 +115,7 @@ module _ (hit : Row → Bool) where
 abbrev pub block_after : Row → List Row → ℕ → Block
 block_after r xs k = record { head = r; parts = (blocks (drop (suc k) xs)).0 }
 
-pub record Owner (i : ℕ) (xs : List Row) (sought : Option Block) (hit : Row → Bool) (part : Found) (t : ℕ) : Type 0 where
+pub record Owner (i : ℕ) (xs : List Row) (sought : Option Block) (hit : Row → Bool) (part : Place ℕ) (t : ℕ) : Type 0 where
   pub at : ℕ
   pub row : Row
   pub place : t ≡ i + at
@@ -171,35 +142,35 @@ module _ (cs : List NamedCard) (n : List ℕ) where
       go false t = rw (blocks_under x xs t)
 
 module _ (cs : List NamedCard) (n : List ℕ) (hit : Row → Bool) where
-  pub owner_none : (i : ℕ) (xs : List Row) → (located_from (is_type_row_named cs n) hit i xs).owner ≡ Nothing → find (is_block_named cs n) (blocks xs).1 ≡ none
+  pub owner_none : (i : ℕ) (xs : List Row) → (located_from (is_type_row_named cs n) hit i xs).owner ≡ None → find (is_block_named cs n) (blocks xs).1 ≡ none
   unfolding located_from
   owner_none i [] e = block_none cs n
   owner_none i (x ∷ xs) e = go (is_type_row_named cs n x) refl e (owner_none (i + 1) xs)
     where
       go : (b : Bool) → is_type_row_named cs n x ≡ b →
-          (choose b (located (RowAt i) (part_from hit (i + 1) xs)) (located_from (is_type_row_named cs n) hit (i + 1) xs)).owner ≡ Nothing →
-          ((located_from (is_type_row_named cs n) hit (i + 1) xs).owner ≡ Nothing → find (is_block_named cs n) (blocks xs).1 ≡ none) →
+          (choose b (located (Some i) (part_from hit (i + 1) xs)) (located_from (is_type_row_named cs n) hit (i + 1) xs)).owner ≡ None →
+          ((located_from (is_type_row_named cs n) hit (i + 1) xs).owner ≡ None → find (is_block_named cs n) (blocks xs).1 ≡ none) →
           find (is_block_named cs n) (blocks (x ∷ xs)).1 ≡ none
       go true s e ih = never_row e
       go false s e ih = block_other cs n x xs s ∙ ih e
 
-  owner_later : (i : ℕ) (x : Row) (xs : List Row) (sought : Option Block) (part : Found) (t : ℕ) → Owner (i + 1) xs sought hit part t →
+  owner_later : (i : ℕ) (x : Row) (xs : List Row) (sought : Option Block) (part : Place ℕ) (t : ℕ) → Owner (i + 1) xs sought hit part t →
       Owner i (x ∷ xs) sought hit part t
   owner_later i x xs sought part t h =
       record { at = suc h.at; row = h.row; place = omega arith; held = h.held; block = h.block; under = h.under }
 
-  pub owner_some : (i : ℕ) (xs : List Row) (t : ℕ) → (located_from (is_type_row_named cs n) hit i xs).owner ≡ RowAt t →
+  pub owner_some : (i : ℕ) (xs : List Row) (t : ℕ) → (located_from (is_type_row_named cs n) hit i xs).owner ≡ Some t →
       Owner i xs (find (is_block_named cs n) (blocks xs).1) hit (located_from (is_type_row_named cs n) hit i xs).part t
   unfolding located_from
   owner_some i [] t e = never e
   owner_some i (x ∷ xs) t e = go (is_type_row_named cs n x) refl e (owner_some (i + 1) xs t)
     where
       go : (b : Bool) → is_type_row_named cs n x ≡ b →
-          (choose b (located (RowAt i) (part_from hit (i + 1) xs)) (located_from (is_type_row_named cs n) hit (i + 1) xs)).owner ≡ RowAt t →
-          ((located_from (is_type_row_named cs n) hit (i + 1) xs).owner ≡ RowAt t →
+          (choose b (located (Some i) (part_from hit (i + 1) xs)) (located_from (is_type_row_named cs n) hit (i + 1) xs)).owner ≡ Some t →
+          ((located_from (is_type_row_named cs n) hit (i + 1) xs).owner ≡ Some t →
           Owner (i + 1) xs (find (is_block_named cs n) (blocks xs).1) hit (located_from (is_type_row_named cs n) hit (i + 1) xs).part t) →
           Owner i (x ∷ xs) (find (is_block_named cs n) (blocks (x ∷ xs)).1) hit
-          (choose b (located (RowAt i) (part_from hit (i + 1) xs)) (located_from (is_type_row_named cs n) hit (i + 1) xs)).part t
+          (choose b (located (Some i) (part_from hit (i + 1) xs)) (located_from (is_type_row_named cs n) hit (i + 1) xs)).part t
       go true s e ih =
           let q : i ≡ t = cc in
           record { at = 0; row = x; place = omega arith; held = refl; block = block_meant cs n x xs s; under = ap (λ (m : ℕ). part_from hit (m + 1) xs) q }
@@ -215,11 +186,11 @@ module _ (cs : List NamedCard) (rows : List ℕ) (n : List ℕ) where
     pub block : type_named cs (lent_rows rows) n ≡ some (block_after (row_at rows t) (lent_rows rows) t)
 
   module _ (hit : Row → Bool) (l : Located) (e : l ≡ located_from (is_type_row_named cs n) hit 0 (lent_rows rows)) where
-    pub located_none : l.owner ≡ Nothing → type_named cs (lent_rows rows) n ≡ none
+    pub located_none : l.owner ≡ None → type_named cs (lent_rows rows) n ≡ none
     unfolding type_named
     located_none o = owner_none cs n hit 0 (lent_rows rows) (sym (ap (λ (l : Located). l.owner) e) ∙ o)
 
-    module _ (t : ℕ) (o : l.owner ≡ RowAt t) where
+    module _ (t : ℕ) (o : l.owner ≡ Some t) where
       owner_at_lem : Owner 0 (lent_rows rows) (find (is_block_named cs n) (blocks (lent_rows rows)).1) hit
           (located_from (is_type_row_named cs n) hit 0 (lent_rows rows)).part t
       owner_at_lem = owner_some cs n hit 0 (lent_rows rows) t (sym (ap (λ (l : Located). l.owner) e) ∙ o)
@@ -249,10 +220,10 @@ module _ (cs : List NamedCard) (rows : List ℕ) (n : List ℕ) where
       part_is : l.part ≡ part_from hit (t + 1) (drop (suc t) (lent_rows rows))
       part_is = ap (λ (l : Located). l.part) e ∙ owner_at_lem.under ∙ ap (λ (k : ℕ). part_from hit (t + 1) (drop (suc k) (lent_rows rows))) owner_place
 
-      pub located_no_part : l.part ≡ Nothing → find hit (blocks (drop (suc t) (lent_rows rows))).0 ≡ none
+      pub located_no_part : l.part ≡ None → find hit (blocks (drop (suc t) (lent_rows rows))).0 ≡ none
       located_no_part p = part_none hit (t + 1) (drop (suc t) (lent_rows rows)) (sym part_is ∙ p)
 
-      pub located_part : (i : ℕ) → l.part ≡ RowAt i → Hit 0 (lent_rows rows) (find hit (blocks (drop (suc t) (lent_rows rows))).0) i
+      pub located_part : (i : ℕ) → l.part ≡ Some i → Hit 0 (lent_rows rows) (find hit (blocks (drop (suc t) (lent_rows rows))).0) i
       located_part i p =
           let h = part_some hit (t + 1) (drop (suc t) (lent_rows rows)) i (sym part_is ∙ p) in
           record { at = suc t + h.at; row = h.row; place = omega arith; held = sym (get_drop (lent_rows rows) (suc t) h.at) ∙ h.held; first = h.first }
@@ -272,13 +243,13 @@ module _ (hit : Row → Bool) where
   unfolding any
   any_under x xs e = rw (blocks_under x xs e)
 
-  part_found : (i : ℕ) (xs : List Row) → is_row_found (part_from hit i xs) ≡ any hit (blocks xs).0
+  part_found : (i : ℕ) (xs : List Row) → is_some (part_from hit i xs) ≡ any hit (blocks xs).0
   unfolding part_from
   part_found i [] = sym any_none
   part_found i (x ∷ xs) = go (is_type_row x) (hit x) refl refl (part_found (i + 1) xs)
     where
-      go : (a b : Bool) → is_type_row x ≡ a → hit x ≡ b → is_row_found (part_from hit (i + 1) xs) ≡ any hit (blocks xs).0 →
-          is_row_found (choose a Nothing (choose b (RowAt i) (part_from hit (i + 1) xs))) ≡ any hit (blocks (x ∷ xs)).0
+      go : (a b : Bool) → is_type_row x ≡ a → hit x ≡ b → is_some (part_from hit (i + 1) xs) ≡ any hit (blocks xs).0 →
+          is_some (choose a None (choose b (Some i) (part_from hit (i + 1) xs))) ≡ any hit (blocks (x ∷ xs)).0
       go true b s t ih = sym (any_stop x xs s)
       go false true s t ih = sym (any_under x xs s ∙ rw t)
       go false false s t ih = ih ∙ sym (any_under x xs s ∙ rw t)
@@ -288,16 +259,16 @@ module _ (cs : List NamedCard) (n : List ℕ) (k : ℕ) (m : List ℕ) where
   unfolding lists
   lists_is b = refl
 
-  listed_from : (i : ℕ) (xs : List Row) → is_row_found (located_from (is_type_row_named cs n) (is_part_named cs k m) i xs).part ≡
+  listed_from : (i : ℕ) (xs : List Row) → is_some (located_from (is_type_row_named cs n) (is_part_named cs k m) i xs).part ≡
       found (find (is_block_named cs n) (blocks xs).1) (lists cs k m) false
   unfolding located_from
   listed_from i [] = sym (ap (λ (o : Option Block). found o (lists cs k m) false) (block_none cs n))
   listed_from i (x ∷ xs) = go (is_type_row_named cs n x) refl (listed_from (i + 1) xs)
     where
       go : (b : Bool) → is_type_row_named cs n x ≡ b →
-          is_row_found (located_from (is_type_row_named cs n) (is_part_named cs k m) (i + 1) xs).part
+          is_some (located_from (is_type_row_named cs n) (is_part_named cs k m) (i + 1) xs).part
           ≡ found (find (is_block_named cs n) (blocks xs).1) (lists cs k m) false →
-          is_row_found (choose b (located (RowAt i) (part_from (is_part_named cs k m) (i + 1) xs))
+          is_some (choose b (located (Some i) (part_from (is_part_named cs k m) (i + 1) xs))
           (located_from (is_type_row_named cs n) (is_part_named cs k m) (i + 1) xs)).part ≡
           found (find (is_block_named cs n) (blocks (x ∷ xs)).1) (lists cs k m) false
       go true s ih =
@@ -306,6 +277,6 @@ module _ (cs : List NamedCard) (n : List ℕ) (k : ℕ) (m : List ℕ) where
       go false s ih = ih ∙ sym (ap (λ (o : Option Block). found o (lists cs k m) false) (block_other cs n x xs s))
 
   pub listed : (rows : List ℕ) (l : Located) → l ≡ located_from (is_type_row_named cs n) (is_part_named cs k m) 0 (lent_rows rows) →
-      is_row_found l.part ≡ found (type_named cs (lent_rows rows) n) (lists cs k m) false
+      is_some l.part ≡ found (type_named cs (lent_rows rows) n) (lists cs k m) false
   unfolding type_named
-  listed rows l e = ap (λ (l : Located). is_row_found l.part) e ∙ listed_from 0 (lent_rows rows)
+  listed rows l e = ap (λ (l : Located). is_some l.part) e ∙ listed_from 0 (lent_rows rows)

@@ -284,21 +284,25 @@ module _ (cs : List NamedCard) (rs : List Row) where
   unfolding all passes row_clauses rest_passes ordered_from once_from cards_once cards_pass origins_pass default_roots_pass
   all_clauses = rw (order_any rs, all_rows rs)
 
+-- The refusal's number, by what the walk says.
+abbrev pub walk_number : Bool → ℕ
+walk_number b = choose b 0 26
+
+pub walk_passed : (b : Bool) → walk_number b ≡ 0 → b ≡ true
+walk_passed true e = refl
+walk_passed false e = absurd (omega arith)
+
 module _ (text words rows : List ℕ) (ok : sound text words ≡ true) where
   pub whole : length rows % 3 ≡ 0 →
-      eqb (rows_refusal (account_in text words).documents rows) 0 ≡ rest_passes (stored_parts text words) (lent_rows rows) 0 0 [] (drop 0 (lent_rows rows))
+      rows_refusal (account_in text words).documents rows
+      ≡ walk_number (rest_passes (stored_parts text words) (lent_rows rows) 0 0 [] (drop 0 (lent_rows rows)))
   unfolding rows_refusal
   whole e =
       rw (eq-eqb (length rows % 3) 0 e) (
-      ap (λ (cs : List NamedCard). eqb (choose (all (passes cs (lent_rows rows)) row_clauses) 0 26) 0) (held_stored text words ok)
-      ∙ told (all (passes (stored_parts text words) (lent_rows rows)) row_clauses)
-      ∙ all_clauses (stored_parts text words) (lent_rows rows))
-    where
-      told : (b : Bool) → eqb (choose b 0 26) 0 ≡ b
-      told true = refl
-      told false = refl
+      ap (λ (cs : List NamedCard). walk_number (all (passes cs (lent_rows rows)) row_clauses)) (held_stored text words ok)
+      ∙ ap walk_number (all_clauses (stored_parts text words) (lent_rows rows)))
 
-  pub not_whole : (length rows % 3 ≡ 0 → ⊥) → false ≡ eqb (rows_refusal (account_in text words).documents rows) 0
+  pub not_whole : (length rows % 3 ≡ 0 → ⊥) → 26 ≡ rows_refusal (account_in text words).documents rows
   unfolding rows_refusal
   not_whole e = rw (ne_eqb (length rows % 3) 0 e)
 
@@ -325,9 +329,6 @@ module _ (text words rows : List ℕ) (k p i : ℕ) (h : i < length rows / 3) wh
 
   module _ (marks : List ℕ) (m : Marked marks (take i (lent_rows rows))) (ok : sound text words ≡ true)
       (e : row_passes (stored_parts text words) (lent_rows rows) (row_at rows i) ≡ true) where
-    pub mark_capacity : (get_or rows (3 * i + 1) 0 ≡ absent → ⊥) → get_or rows (3 * i + 1) 0 < length marks
-    mark_capacity n = let l = card_inside ok e n in let s = m.size in omega arith
-
     pub walk_card : is_free marks (get_or rows (3 * i + 1) 0) ≡ false →
         rest_passes (stored_parts text words) (lent_rows rows) k p (take i (lent_rows rows)) (drop i (lent_rows rows)) ≡ false
     walk_card f =

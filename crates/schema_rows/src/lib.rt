@@ -1,80 +1,105 @@
-// Refusal 26: what it asks of a row by itself, and one walk over the rows that are lent to a lookup.
+// A store with the rows that are lent to its lookups, and refusal 26: what it asks of a row by itself, and one walk over the rows.
 #![tactic(auto)]
 
-ghost use Rattle.std.specs.Prelude.{◌≡◌, true, eqb};
-ghost use Rattle.definition.specs.Catalogue.{row};
+ghost use Rattle.std.specs.Prelude.{◌≡◌, true, ◌/◌, ◌<◌, length};
 ghost use Rattle.definition.specs.Store.{account_in, sound};
-ghost use Rattle.definition.specs.LentRows.{lent_rows, rows_refusal};
-ghost use Rattle.store_reader.specs.Stored.{stored_parts};
+ghost use Rattle.definition.specs.LentRows.{rows_refusal};
 ghost use Rattle.schema_rows.specs.Passing.{card_fits, row_passes};
+ghost use Rattle.schema_rows.specs.Rows.{row_of, row_at, cards_of, rows_of};
+ghost use Rattle.schema_rows.specs.Walk.{told_number};
 
 use ast::kinds;
+use cards::Marks;
 use definition::ABSENT;
-use definition::layout::{CARD_CAPACITY, ROW_WORDS};
+use definition::layout::ROW_WORDS;
+use definition::refusal::Refusal;
+use order::RowPlace;
 
 pub mod cards;
 pub mod order;
 pub mod search;
 
-fn card_passes(words: &[u32], what: u32, card: u32, origin: u32) -> bool
-    ensures { result ≡ card_fits words.now (row what card origin) }
-{
-    if card == ABSENT {
-        if what == kinds::SCHEMA_DEFINITION {
-            return true;
-        }
-        return crate::cards::is_default_root(what, card, origin);
-    }
-    if store_reader::cards_used(words) <= card as usize {
-        return false;
-    }
-    store_reader::card_kind(words, card as usize) == crate::cards::wanted_kind(what, origin)
+// One row: its kind, its card and its origin.
+#[derive(Clone, Copy)]
+pub struct Row {
+    pub what: u32,
+    pub card: u32,
+    pub origin: u32,
 }
 
-// What 26 asks of a row by itself.
-fn row_passes(text: &[u8], words: &[u32], rows: &[u32], what: u32, card: u32, origin: u32) -> bool
-    ensures { result
-        ≡ row_passes (stored_parts text.now words.now) (lent_rows rows.now)
-        (row what card origin) }
-{
-    if !card_passes(words, what, card, origin) {
-        return false;
-    }
-    if !crate::cards::origin_passes(words, origin) {
-        return false;
-    }
-    crate::cards::default_root_passes(text, words, rows, what, card, origin)
+// A store's text and words, and the rows that are lent with them.
+#[derive(Clone, Copy)]
+pub struct Schema<'text, 'lent> {
+    pub text: &'text [u8],
+    pub words: &'lent [u32],
+    pub rows: &'lent [u32],
 }
 
-// Refusal 26: one walk over the rows, and one mark for each stored card.
-pub fn check_lent_rows(text: &[u8], words: &[u32], rows: &[u32]) -> bool
-    requires { sound text.now words.now ≡ true }
-    ensures { result ≡ eqb (rows_refusal (account_in text.now words.now).documents rows.now) 0 }
-{
-    if rows.len() % ROW_WORDS != 0 {
-        return false;
+impl Schema<'_, '_> {
+    pub fn row_count(self) -> usize
+        ensures { result ≡ length self.entry.rows.now / 3 }
+    {
+        self.rows.len() / ROW_WORDS
     }
-    let count = rows.len() / ROW_WORDS;
-    let mut marks = [0u8; CARD_CAPACITY];
-    let mut kind: u32 = 0;
-    let mut place: u32 = 0;
-    let mut i = 0;
-    while i < count {
-        let what = rows[ROW_WORDS * i];
-        let card = rows[ROW_WORDS * i + 1];
-        if !crate::order::row_fits(kind, place, what) {
-            return false;
+
+    pub fn row(self, i: usize) -> Row
+        requires { i < length self.rows.now / 3 }
+        ensures { row_of result ≡ row_at self.entry.rows.now i }
+    {
+        Row {
+            what: self.rows[ROW_WORDS * i],
+            card: self.rows[ROW_WORDS * i + 1],
+            origin: self.rows[ROW_WORDS * i + 2],
         }
-        if !row_passes(text, words, rows, what, card, rows[ROW_WORDS * i + 2]) {
-            return false;
-        }
-        if !crate::cards::mark(&mut marks, card) {
-            return false;
-        }
-        let next = crate::order::place_after(kind, what);
-        kind = next.kind;
-        place = next.place;
-        i += 1;
     }
-    kind != 0
+
+    #[tactic(auto, unfolding(crate::specs::Passing::card_fits))]
+    fn card_passes(self, row: Row) -> bool
+        ensures { result ≡ card_fits self.entry.words.now (row_of row) }
+    {
+        if row.card == ABSENT {
+            return row.what == kinds::SCHEMA_DEFINITION || row.is_default_root();
+        }
+        (row.card as usize) < store_reader::cards_used(self.words)
+            && store_reader::card_kind(self.words, row.card as usize) == row.wanted_kind()
+    }
+
+    // What 26 asks of a row by itself.
+    #[tactic(auto, using(crate::proofs::Passing::card_is, crate::proofs::Passing::origin_is), unfolding(crate::specs::Passing::row_passes))]
+    fn row_passes(self, row: Row) -> bool
+        ensures { result ≡ row_passes (cards_of self.entry) (rows_of self.entry) (row_of row) }
+    {
+        self.card_passes(row) && self.origin_passes(row) && self.default_root_passes(row)
+    }
+
+    // Refusal 26: one walk over the rows, and one mark for each stored card.
+    pub fn check_rows(self) -> Result<(), Refusal>
+        requires { sound self.text.now self.words.now ≡ true }
+        ensures { told_number result
+            ≡ rows_refusal (account_in self.entry.text.now self.entry.words.now).documents
+            self.entry.rows.now }
+    {
+        if self.rows.len() % ROW_WORDS != 0 {
+            return Err(Refusal::RowsUnsound);
+        }
+        let mut marks = Marks::new();
+        let mut place = RowPlace::start();
+        for i in 0..self.row_count() {
+            let row = self.row(i);
+            let Some(next) = place.after(row.what) else {
+                return Err(Refusal::RowsUnsound);
+            };
+            if !self.row_passes(row) {
+                return Err(Refusal::RowsUnsound);
+            }
+            if !marks.take(row.card) {
+                return Err(Refusal::RowsUnsound);
+            }
+            place = next;
+        }
+        if place.kind == 0 {
+            return Err(Refusal::RowsUnsound);
+        }
+        Ok(())
+    }
 }

@@ -1,169 +1,111 @@
-// Searches over lent rows: how a row is read, the first type of a name, and under it the first part of a name.
-ghost use Rattle.std.specs.Prelude.{◌≡◌, true};
+// Searches over lent rows: the first type of a name, and under it the first part of a name.
+ghost use Rattle.std.specs.Prelude.{◌≡◌, true, ◌/◌, ◌<◌, length, IfSome};
 ghost use Rattle.definition.specs.Names.{same_name};
 ghost use Rattle.definition.specs.Cards.{is_root};
-ghost use Rattle.definition.specs.Catalogue.{row, default_name};
-ghost use Rattle.definition.specs.LentRows.{lent_rows, is_type_row_named};
+ghost use Rattle.definition.specs.Catalogue.{default_name};
+ghost use Rattle.definition.specs.LentRows.{is_type_row_named};
 ghost use Rattle.definition.specs.Lookups.{is_row_of, is_part_named};
-ghost use Rattle.store_reader.specs.Stored.{stored_parts, card_name};
-ghost use Rattle.schema_rows.specs.Rows.{found_from, type_found};
+ghost use Rattle.store_reader.specs.Stored.{card_name};
+ghost use Rattle.schema_rows.specs.Rows.{row_of, cards_of, rows_of, found_from, type_found};
 ghost use Rattle.schema_rows.specs.Search.{part_located};
 
+use crate::{Row, Schema};
 use ast::kinds;
-use definition::NameOrder;
-use definition::layout::ROW_WORDS;
-
-// What a search over rows finds: the number of a row.
-#[derive(Clone, Copy)]
-pub enum Found {
-    Row(usize),
-    Nothing,
-}
 
 // The first type row of a name and under it the first part of a name.
 #[derive(Clone, Copy)]
 pub struct Located {
-    pub owner: Found,
-    pub part: Found,
+    pub owner: Option<usize>,
+    pub part: Option<usize>,
 }
 
-// Whether a stored card has the name; a card that is not stored has the empty name.
-pub fn is_named(text: &[u8], words: &[u32], card: u32, name: &[u8]) -> bool
-    ensures { result ≡ same_name name.now (card_name text.now words.now card) }
-{
-    let order = name::compare(name, store_reader::card_name(text, words, card as usize));
-    match order {
-        NameOrder::Equal => true,
-        NameOrder::Before => false,
-        NameOrder::After => false,
+impl<'text> Schema<'text, '_> {
+    // The name of a card, as a part of the store's text; a card that is not stored has the empty name.
+    pub fn card_name(self, card: u32) -> &'text [u8]
+        ensures { result.now ≡ card_name self.entry.text.now self.entry.words.now card }
+    {
+        store_reader::card_name(self.text, self.words, card as usize)
     }
 }
 
-// Whether a row of a kind and a card is a type row of the name.
-pub fn is_type_named(text: &[u8], words: &[u32], what: u32, card: u32, name: &[u8]) -> bool
-    ensures { result ≡ is_type_row_named (stored_parts text.now words.now) name.now (row what card 0) }
-{
-    if !kinds::is_type(what) {
-        return false;
+impl Schema<'_, '_> {
+    // Whether a stored card has the name; a card that is not stored has the empty name.
+    pub fn is_named(self, card: u32, name: &[u8]) -> bool
+        ensures { result ≡ same_name name.now (card_name self.entry.text.now self.entry.words.now card) }
+    {
+        name::same(name, self.card_name(card))
     }
-    is_named(text, words, card, name)
-}
 
-// The first type row of a name, which is the one that counts.
-pub fn find_type(text: &[u8], words: &[u32], rows: &[u32], name: &[u8]) -> Found
-    ensures { result ≡ type_found text.now words.now rows.now name.now }
-{
-    let count = rows.len() / ROW_WORDS;
-    let mut i = 0;
-    while i < count {
-        if is_type_named(
-            text,
-            words,
-            rows[ROW_WORDS * i],
-            rows[ROW_WORDS * i + 1],
-            name,
-        ) {
-            return Found::Row(i);
+    // Whether a row is a type row of the name.
+    #[tactic(auto, using(crate::proofs::Rows::row_named), unfolding(definition::specs::LentRows::is_type_row_named, definition::specs::LentRows::is_type_row))]
+    pub fn is_type_named(self, row: Row, name: &[u8]) -> bool
+        ensures { result ≡ is_type_row_named (cards_of self.entry) name.now (row_of row) }
+    {
+        kinds::is_type(row.what) && self.is_named(row.card, name)
+    }
+
+    // Whether a row is a part of the wanted kind and name.
+    #[tactic(auto, using(crate::proofs::Rows::row_named), unfolding(definition::specs::Lookups::is_part_named, definition::specs::Lookups::is_row_of))]
+    pub fn is_part_named(self, row: Row, kind: u32, name: &[u8]) -> bool
+        ensures { result ≡ is_part_named (cards_of self.entry) kind name.now (row_of row) }
+    {
+        row.what == kind && self.is_named(row.card, name)
+    }
+
+    // The first row of a kind.
+    pub fn find_row(self, kind: u32) -> Option<usize>
+        ensures found { result ≡ found_from (is_row_of kind) 0 (rows_of self.entry) }
+        ensures inside { IfSome result (λ i. i < length self.entry.rows.now / 3) }
+    {
+        (0..self.row_count()).find(|&i| self.row(i).what == kind)
+    }
+
+    // The first type row of a name, which is the one that counts.
+    pub fn find_type(self, name: &[u8]) -> Option<usize>
+        ensures found { result ≡ type_found self.entry name.now }
+        ensures inside { IfSome result (λ i. i < length self.entry.rows.now / 3) }
+    {
+        (0..self.row_count()).find(|&i| self.is_type_named(self.row(i), name))
+    }
+
+    // The first type row of the name that a default root of the kind has (specification, 3.3.1).
+    pub fn find_default_root(self, what: u32) -> Option<usize>
+        requires { is_root what ≡ true }
+        ensures found { result ≡ type_found self.entry (default_name what) }
+        ensures inside { IfSome result (λ i. i < length self.entry.rows.now / 3) }
+    {
+        match what {
+            kinds::QUERY => self.find_type(b"Query"),
+            kinds::MUTATION => self.find_type(b"Mutation"),
+            _ => self.find_type(b"Subscription"),
         }
-        i += 1;
     }
-    Found::Nothing
-}
 
-// The first type row of the name that a default root of the kind has (specification, 3.3.1).
-pub fn find_default_root(text: &[u8], words: &[u32], rows: &[u32], what: u32) -> Found
-    requires { is_root what ≡ true }
-    ensures { result ≡ type_found text.now words.now rows.now (default_name what) }
-{
-    if what == kinds::QUERY {
-        return find_type(text, words, rows, b"Query");
-    }
-    if what == kinds::MUTATION {
-        return find_type(text, words, rows, b"Mutation");
-    }
-    find_type(text, words, rows, b"Subscription")
-}
-
-// Whether a row of a kind and a card is a part of the wanted kind and name.
-pub fn is_part_named(
-    text: &[u8],
-    words: &[u32],
-    what: u32,
-    card: u32,
-    kind: u32,
-    name: &[u8],
-) -> bool
-    ensures { result
-        ≡ is_part_named (stored_parts text.now words.now) kind name.now (row what card 0) }
-{
-    if what != kind {
-        return false;
-    }
-    is_named(text, words, card, name)
-}
-
-// One search answers for the type and for its part, so that no type is searched twice.
-pub fn find_part(
-    text: &[u8],
-    words: &[u32],
-    rows: &[u32],
-    owner_name: &[u8],
-    kind: u32,
-    part_name: &[u8],
-) -> Located
-    ensures { result
-        ≡ part_located text.now words.now rows.now owner_name.now kind
-        part_name.now }
-{
-    let count = rows.len() / ROW_WORDS;
-    let mut owner = Found::Nothing;
-    let mut part = Found::Nothing;
-    let mut i = 0;
-    'search: while i < count {
-        if is_type_named(
-            text,
-            words,
-            rows[ROW_WORDS * i],
-            rows[ROW_WORDS * i + 1],
-            owner_name,
-        ) {
-            owner = Found::Row(i);
-            let mut j = i + 1;
-            while j < count {
-                if kinds::is_type(rows[ROW_WORDS * j]) {
-                    break 'search;
+    // One search answers for the type and for its part, so that no type is searched twice.
+    pub fn find_part(self, owner_name: &[u8], kind: u32, part_name: &[u8]) -> Located
+        ensures found { result ≡ part_located self.entry owner_name.now kind part_name.now }
+        ensures owner_inside { IfSome result.owner (λ i. i < length self.entry.rows.now / 3) }
+        ensures part_inside { IfSome result.part (λ i. i < length self.entry.rows.now / 3) }
+    {
+        let count = self.row_count();
+        let mut owner = None;
+        let mut part = None;
+        'search: for i in 0..count {
+            if self.is_type_named(self.row(i), owner_name) {
+                owner = Some(i);
+                for j in i + 1..count {
+                    let row = self.row(j);
+                    if kinds::is_type(row.what) {
+                        break 'search;
+                    }
+                    if self.is_part_named(row, kind, part_name) {
+                        part = Some(j);
+                        break 'search;
+                    }
                 }
-                if is_part_named(
-                    text,
-                    words,
-                    rows[ROW_WORDS * j],
-                    rows[ROW_WORDS * j + 1],
-                    kind,
-                    part_name,
-                ) {
-                    part = Found::Row(j);
-                    break 'search;
-                }
-                j += 1;
+                break;
             }
-            break;
         }
-        i += 1;
+        Located { owner, part }
     }
-    Located { owner, part }
-}
-
-// The first row of a kind.
-pub fn find_row(rows: &[u32], kind: u32) -> Found
-    ensures { result ≡ found_from (is_row_of kind) 0 (lent_rows rows.now) }
-{
-    let count = rows.len() / ROW_WORDS;
-    let mut i = 0;
-    while i < count {
-        if rows[ROW_WORDS * i] == kind {
-            return Found::Row(i);
-        }
-        i += 1;
-    }
-    Found::Nothing
 }

@@ -19,19 +19,19 @@ left a text words = record { answer = a; text = text; words = words }
 -- ---- Opening.
 
 module _ (text words lent cards : List ℕ) where
-  pub open_short_text : length text < text_capacity → left (answer 21 0) text words ≡ open_store text words lent cards
+  pub open_short_text : (a : Answer) → a ≡ answer 21 0 → length text < text_capacity → left a text words ≡ open_store text words lent cards
   unfolding open_store unchanged too_short
-  open_short_text h = rw (lt-ltb (length text) text_capacity h)
+  open_short_text a d h = rw (d, lt-ltb (length text) text_capacity h)
 
   module _ (t : text_capacity ≤ length text) where
-    pub open_short_words : length words < words_capacity → left (answer 21 0) text words ≡ open_store text words lent cards
+    pub open_short_words : (a : Answer) → a ≡ answer 21 0 → length words < words_capacity → left a text words ≡ open_store text words lent cards
     unfolding open_store unchanged too_short
-    open_short_words h = rw (le-ltb (length text) text_capacity t, lt-ltb (length words) words_capacity h)
+    open_short_words a d h = rw (d, le-ltb (length text) text_capacity t, lt-ltb (length words) words_capacity h)
 
     module _ (w : words_capacity ≤ length words) where
-      pub open_refused : (a : Answer) → opening_refusal lent cards ≡ some a → left a text words ≡ open_store text words lent cards
+      pub open_refused : (a b : Answer) → a ≡ b → opening_refusal lent cards ≡ some b → left a text words ≡ open_store text words lent cards
       unfolding open_store unchanged too_short
-      open_refused a e = rw (le-ltb (length text) text_capacity t, le-ltb (length words) words_capacity w, e)
+      open_refused a b d e = rw (d, le-ltb (length text) text_capacity t, le-ltb (length words) words_capacity w, e)
 
       pub open_done : (text' words' : List ℕ) → opening_refusal lent cards ≡ none →
           text' ≡ opened_text text (document false lent cards) → words' ≡ opened_words words (document false lent cards) →
@@ -41,15 +41,15 @@ module _ (text words lent cards : List ℕ) where
 
   -- ---- Filing.
 
-  pub add_unsound : (n : ℕ) → eqb (store_refusal text words) 0 ≡ false → n ≡ store_refusal text words →
-      left (answer n 0) text words ≡ add_ast text words lent cards
+  pub add_unsound : (a : Answer) (n : ℕ) → a ≡ answer n 0 → eqb (store_refusal text words) 0 ≡ false → n ≡ store_refusal text words →
+      left a text words ≡ add_ast text words lent cards
   unfolding add_ast unchanged
-  add_unsound n u e = rw (u, e)
+  add_unsound a n d u e = rw (d, u, e)
 
   module _ (s : store_refusal text words ≡ 0) where
-    pub add_refused : (a : Answer) → filing_refusal (account_in text words) lent cards ≡ some a → left a text words ≡ add_ast text words lent cards
+    pub add_refused : (a b : Answer) → a ≡ b → filing_refusal (account_in text words) lent cards ≡ some b → left a text words ≡ add_ast text words lent cards
     unfolding add_ast unchanged
-    add_refused a e = rw (s, e)
+    add_refused a b d e = rw (d, s, e)
 
     pub add_done : (text' words' : List ℕ) → filing_refusal (account_in text words) lent cards ≡ none →
         text' ≡ filed_text text words (document false lent cards) → words' ≡ filed_words words (document false lent cards) →
@@ -60,9 +60,10 @@ module _ (text words lent cards : List ℕ) where
 -- ---- Turning on.
 
 module _ (text words on : List ℕ) where
-  pub turned_unsound : (n : ℕ) → eqb (store_refusal text words) 0 ≡ false → n ≡ store_refusal text words → left (answer n 0) text words ≡ turned text words on
+  pub turned_unsound : (a : Answer) (n : ℕ) → a ≡ answer n 0 → eqb (store_refusal text words) 0 ≡ false → n ≡ store_refusal text words →
+      left a text words ≡ turned text words on
   unfolding turned unchanged
-  turned_unsound n u e = rw (u, e)
+  turned_unsound a n d u e = rw (d, u, e)
 
   pub turned_done : store_refusal text words ≡ 0 → left (answer 0 0) text on ≡ turned text words on
   unfolding turned accepted

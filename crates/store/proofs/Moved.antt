@@ -1,7 +1,7 @@
 -- The words of a document's cards as they are stored, card by card: what a loop that copies and moves them has made so far.
 use mathlib.Core.Path.{◌≡◌, refl, sym, ap, ◌∙◌}
 use mathlib.Core.List.{List, [], ◌∷◌, ◌++◌, append_assoc, append-nil}
-use Prim.Native.Nat.{ℕ, suc, ◌+◌, ◌/◌, ◌≤◌}
+use Prim.Native.Nat.{ℕ, suc, ◌+◌, ◌*◌, ◌/◌, ◌≤◌}
 use native.Mathlib.Nat.{add-zero}
 use native.Mathlib.Numerals.{towards_suc}
 use native.Mathlib.Omega.{arith}
@@ -96,3 +96,7 @@ moved_all base s l l₀ i h k e d =
     front_written (moved_words base (cards_of s)) l l₀ i k
     (sym (append-nil (take i l)) ∙ ap (λ (x : List ℕ). take i l ++ x) (sym (ap (moved_words base) (cards_none s i h))) ∙ e)
     d
+
+-- The next card begins where this one ends.
+pub next_at : (n : ℕ) → card_words * n + card_words ≡ card_words * (n + 1)
+next_at n = omega arith

@@ -15,25 +15,16 @@ pub fn copy_text(unused: &mut [u8], text: &[u8])
     requires { length text.now ≤ length unused.old }
     ensures { unused.new ≡ written unused.old 0 text.now }
 {
-    let mut copied = 0;
-    while copied < text.len() {
-        unused[copied] = text[copied];
-        copied += 1;
-    }
+    unused[..text.len()].copy_from_slice(text);
 }
 
 // Where a name is stored whose document's text begins at base; the absent name, 0 and 0, stays.
+#[tactic(auto, unfolding(crate::specs::Moving::moved_name))]
 fn moved_name(base: u32, at: u32, len: u32) -> u32
     requires { at + base < 2 ^ 32 }
     ensures { result ≡ moved_name base at len }
 {
-    if len == 0 {
-        if at == 0 {
-            return at;
-        }
-        return at + base;
-    }
-    at + base
+    if len == 0 && at == 0 { at } else { at + base }
 }
 
 // Copies the kind and the item of the card at i, the item moved by base.
@@ -69,11 +60,10 @@ fn copy_cards(unused: &mut [u32], cards: &[u32], base: u32)
         × All (Within text_capacity) (cards_of cards.now) }
     ensures { unused.new ≡ written unused.old 0 (moved_words base (cards_of cards.now)) }
 {
-    let mut i = 0;
-    while i < cards.len() {
-        copy_item(unused, cards, i, base);
-        copy_name(unused, cards, i, base);
-        i += CARD_WORDS;
+    for card in 0..cards.len() / CARD_WORDS {
+        let at = CARD_WORDS * card;
+        copy_item(unused, cards, at, base);
+        copy_name(unused, cards, at, base);
     }
 }
 

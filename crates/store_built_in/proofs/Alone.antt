@@ -7,6 +7,7 @@ use Prim.Native.Nat.{ℕ, ◌+◌, ◌≤◌}
 use native.Mathlib.Omega.{arith}
 use borrow.Author.Tests.{eqb-true, le-leb, leb-true}
 use lib.Dec.{eqb, leb}
+use Rattle.definition.specs.declared.Answer.{Answer}
 use Rattle.definition.specs.Answers.{answer, absent}
 use Rattle.definition.specs.Lists.{choose, found, filter, any, is_empty, first, find, All, flat_map, firsts, repeats}
 use Rattle.definition.specs.Cards.{Card, cards_of, is_part, is_type, is_extension}
@@ -510,12 +511,12 @@ alone text cs u =
     six_first (reading_errors [] (hs ++ []) ++ drawing_errors false (hs ++ []))
     ∙ ap six_at (rw (append-nil hs, no_drawing hs a, append-nil (reading_errors [] hs)) (all_given text cs u))
 
--- With o the number of the first barred heading: that heading is the refusal; where there is none, the first error is.
-module _ (text ws : List ℕ) (o : Option ℕ) (barred : six_at o ≡ barred_from 0 (cards_of ws)) where
-  pub zero_barred : (i : ℕ) → o ≡ some i → zero_fault (document false text ws) ≡ some (answer 6 i)
-  unfolding zero_fault document six_at
-  zero_barred i e = rw (← barred, e)
+-- A barred heading is the refusal; where there is none, the first error is.
+module _ (text ws : List ℕ) where
+  pub zero_barred : (a : Answer) → some a ≡ barred_from 0 (cards_of ws) → some a ≡ zero_fault (document false text ws)
+  unfolding zero_fault document
+  zero_barred a b = rw (← b)
 
-  pub zero_alone : o ≡ none → zero_fault (document false text ws) ≡ six_at (fails_from text [] none 0 (cards_of ws))
-  unfolding zero_fault document six_at
-  zero_alone e = let b : barred_from 0 (cards_of ws) ≡ none = sym barred ∙ ap six_at e in rw b (alone text (cards_of ws) (unbarred_all 0 (cards_of ws) b))
+  pub zero_alone : none ≡ barred_from 0 (cards_of ws) → zero_fault (document false text ws) ≡ six_at (fails_from text [] none 0 (cards_of ws))
+  unfolding zero_fault document
+  zero_alone b = rw (← b) (alone text (cards_of ws) (unbarred_all 0 (cards_of ws) (sym b)))

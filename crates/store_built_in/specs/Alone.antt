@@ -1,15 +1,11 @@
 -- Which card of a document 0 without barred kinds gives the first error, told card by card: all its headings are built-in and there is nothing
 -- before it, so an error is a type whose name a type before it has, or a part that comes again under its type.
-use Rattle.std.specs.Prelude.{List, [], ◌∷◌, ◌++◌, ℕ, ◌+◌}
+use Rattle.std.specs.Prelude.{List, [], ◌∷◌, ◌++◌, ℕ, ◌+◌, Option as Lent, Some, None}
 use Rattle.std.proofs.Math.Option.{Option, none, some}
 use Rattle.definition.specs.declared.Answer.{Answer}
 use Rattle.definition.specs.Lists.{choose, found}
 use Rattle.definition.specs.Answers.{answer}
 use Rattle.definition.specs.Cards.{Card, is_part, is_type}
-use Rattle.store_built_in.specs.declared.Search.{Search}
-use Rattle.store_built_in.specs.declared.Search.TheVariants.{Found, Nothing}
-use Rattle.store_built_in.specs.declared.card_errors.Under.{Under}
-use Rattle.store_built_in.specs.declared.card_errors.Under.TheVariants.{«Type» as UnderType, Other}
 use Rattle.store_built_in.specs.Fails.{card_fails}
 
 -- The parts under the same type as the card after c.
@@ -27,11 +23,11 @@ fails_from text before seen i (c ∷ cs) =
 unfoldable pub six_at : Option ℕ → Option Answer
 six_at o = found o (λ i. some (answer 6 i)) none
 
--- What a card of kind k leaves the next card, of that number, under.
-unfoldable pub under_after : Under → ℕ → ℕ → Under
-under_after u k next = choose (is_part k) u (choose (is_type k) (UnderType next) Other)
+-- The first part under the type that the card after one of kind k stands under, `next` being its number.
+unfoldable pub under_after : Lent ℕ → ℕ → ℕ → Lent ℕ
+under_after u k next = choose (is_part k) u (choose (is_type k) (Some next) None)
 
 -- What a search over cards finds.
-abbrev pub found_at : Search → Option ℕ
-found_at (Found i) = some i
-found_at Nothing = none
+abbrev pub found_at : Lent ℕ → Option ℕ
+found_at (Some i) = some i
+found_at None = none

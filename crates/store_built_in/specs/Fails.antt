@@ -1,13 +1,11 @@
 -- Which cards give an error in a document without barred kinds that stands alone.
-use Rattle.std.specs.Prelude.{List, Bool, false, ◌&&◌, ◌||◌, not, ℕ, eqb, leb}
+use Rattle.std.specs.Prelude.{List, Bool, false, ◌&&◌, ◌||◌, not, ℕ, eqb, leb, Option as Lent, Some, None}
 use Rattle.std.proofs.Math.Option.{Option, none, some}
 use Rattle.definition.specs.Lists.{choose, found, any}
 use Rattle.definition.specs.Names.{same_name}
 use Rattle.definition.specs.Cards.{Card, is_part, is_type}
 use Rattle.definition.specs.Headings.{name_of, named_card, alike}
 use Rattle.ast.specs.Cards.{cards_between}
-use Rattle.store_built_in.specs.declared.card_errors.Under.{Under}
-use Rattle.store_built_in.specs.declared.card_errors.Under.TheVariants.{«Type» as UnderType, Other}
 
 -- The card defines a type of the name.
 unfoldable pub type_named : List ℕ → List ℕ → Card → Bool
@@ -25,7 +23,7 @@ heading_fails text before c = leb c.kind 2 || (not (eqb c.kind 3) && any (type_n
 unfoldable pub card_fails : List ℕ → List Card → Option (List Card) → Card → Bool
 card_fails text before seen c = choose (is_part c.kind) (found seen (any (alike_cards text c)) false) (heading_fails text before c)
 
--- The parts under the same type before the card i.
-abbrev pub seen_of : List ℕ → Under → ℕ → Option (List Card)
-seen_of ws (UnderType from) i = some (cards_between ws from i)
-seen_of ws Other i = none
+-- The parts under the same type before the card i, where the first of them is known.
+abbrev pub seen_of : List ℕ → Lent ℕ → ℕ → Option (List Card)
+seen_of ws (Some from) i = some (cards_between ws from i)
+seen_of ws None i = none

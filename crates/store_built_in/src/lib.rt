@@ -8,104 +8,81 @@ ghost use Rattle.definition.specs.Refusals.{is_barred, barred_from, document, ze
 ghost use Rattle.ast_check.specs.Checks.{check_option};
 ghost use Rattle.store_built_in.specs.Alone.{fails_from, six_at, found_at, under_after};
 
-use crate::card_errors::Under;
 use ast::kinds;
-use ast_check::CardCheck;
-use definition::Answer;
+use ast_check::Document;
 use definition::layout::CARD_WORDS;
-use definition::refusal::BUILT_INS_FAULTY;
+use definition::refusal::{Refusal, Refused};
 
 pub mod card_errors;
 
-// What a search over cards finds: a card's number.
-#[derive(Clone, Copy)]
-enum Search {
-    Found(usize),
-    Nothing,
-}
-
 // The kinds that document 0 may not hold: only directives and types are built in.
+#[tactic(auto, unfolding(definition::specs::Refusals::is_barred))]
 fn is_barred(kind: u32) -> bool
     ensures { result ≡ is_barred kind }
 {
-    if kind == kinds::OPERATION_DEFINITION {
-        return true;
-    }
-    if kind == kinds::FRAGMENT_DEFINITION {
-        return true;
-    }
-    if kind == kinds::SCHEMA_DEFINITION {
-        return true;
-    }
-    kinds::is_extension(kind)
+    let barred = matches!(
+        kind,
+        kinds::OPERATION_DEFINITION | kinds::FRAGMENT_DEFINITION | kinds::SCHEMA_DEFINITION
+    );
+    barred || kinds::is_extension(kind)
 }
 
 // The first heading of a barred kind.
-fn first_barred(cards: &[u32]) -> Search
+fn first_barred(cards: &[u32]) -> Option<usize>
     ensures { six_at (found_at result) ≡ barred_from 0 (cards_of cards.now) }
 {
-    let count = cards.len() / CARD_WORDS;
-    let mut i = 0;
-    while i < count {
-        if is_barred(ast::kind_at(cards, i)) {
-            return Search::Found(i);
-        }
-        i += 1;
-    }
-    Search::Nothing
+    (0..cards.len() / CARD_WORDS).find(|i| is_barred(ast::kind_at(cards, *i)))
 }
 
 // What the card after one of that kind stands under, `next` being its number.
-fn under_after(under: Under, kind: u32, next: usize) -> Under
+#[tactic(auto, unfolding(crate::specs::Alone::under_after))]
+fn under_after(under: Option<usize>, kind: u32, next: usize) -> Option<usize>
     ensures { result ≡ under_after under kind next }
 {
     if kinds::is_part(kind) {
-        return under;
+        under
+    } else if kinds::is_type(kind) {
+        Some(next)
+    } else {
+        None
     }
-    if kinds::is_type(kind) {
-        return Under::Type(next);
-    }
-    Under::Other
 }
 
 // The first card that gives an error where no kind is barred.
-fn first_error(text: &[u8], cards: &[u32]) -> Search
-    ensures { found_at result ≡ fails_from text.now [] none 0 (cards_of cards.now) }
+fn first_error(document: Document) -> Option<usize>
+    ensures { found_at result
+        ≡ fails_from document.entry.text.now [] none 0 (cards_of document.entry.cards.now) }
 {
-    let count = cards.len() / CARD_WORDS;
-    let mut under = Under::Other;
-    let mut i = 0;
-    while i < count {
-        let card = ast::card_at(cards, i);
-        if crate::card_errors::card_fails(text, cards, under, i, card) {
-            return Search::Found(i);
+    let mut under = None;
+    for i in 0..document.cards.len() / CARD_WORDS {
+        let card = ast::card_at(document.cards, i);
+        if crate::card_errors::card_fails(document, under, i, card) {
+            return Some(i);
         }
-        let next = i + 1;
-        under = under_after(under, card.kind, next);
-        i = next;
+        under = under_after(under, card.kind, i + 1);
     }
-    Search::Nothing
+    None
 }
 
 // The refusal of a card that was found.
-fn refusal(search: Search) -> CardCheck
-    ensures { check_option result ≡ six_at (found_at search) }
+#[tactic(auto, unfolding(crate::specs::Alone::six_at))]
+fn refuse(card: Option<usize>) -> Result<(), Refused>
+    ensures { check_option result ≡ six_at (found_at card) }
 {
-    let Search::Found(i) = search else {
-        return CardCheck::Sound;
-    };
-    CardCheck::Faulty(Answer {
-        number: BUILT_INS_FAULTY,
-        card: i,
-    })
+    match card {
+        Some(place) => Err(Refused {
+            refusal: Refusal::BuiltInsFaulty,
+            place,
+        }),
+        None => Ok(()),
+    }
 }
 
 // The refusal 6 of a document 0: a barred kind, or else the first error that it gives alone.
-pub fn check_built_in(text: &[u8], cards: &[u32]) -> CardCheck
-    ensures { check_option result ≡ zero_fault (document false text.now cards.now) }
+pub fn check_built_in(built_ins: Document) -> Result<(), Refused>
+    ensures { check_option result
+        ≡ zero_fault (document false built_ins.entry.text.now built_ins.entry.cards.now) }
 {
-    let Search::Found(i) = first_barred(cards) else {
-        return refusal(first_error(text, cards));
-    };
-    refusal(Search::Found(i))
+    refuse(first_barred(built_ins.cards))?;
+    refuse(first_error(built_ins))
 }

@@ -12,13 +12,15 @@ use Rattle.definition.specs.declared.Answer.{Answer}
 use Rattle.definition.specs.Lists.{chunks, found}
 use Rattle.definition.specs.Cards.{Card, card_words, card_from, cards_from, cards_of, card_fault}
 use Rattle.definition.specs.Refusals.{card_capacity}
-use Rattle.definition.specs.Store.{cards_at, words_capacity, document_count, cards_used_of}
+use Rattle.definition.specs.Store.{documents_at, document_words, document_row_from, cards_at, words_capacity, document_count, cards_used_of}
 use Rattle.definition.specs.Store.{DocumentRow, document_rows, stored_cards, cards_counted, cards_sound}
 use Rattle.ast.proofs.Walk.{card_front}
 use Rattle.store_reader.proofs.Lists.{drop_take}
 use Rattle.store_reader.proofs.Sound.{counted_le}
 use Rattle.store_reader.proofs.Words.{rows_over}
-use Rattle.store_check.proofs.Rows.{row_at, rows_next}
+use Rattle.store_check.proofs.Sound.{counts_held}
+use Rattle.store_check.specs.Check.{SoundRows}
+use Rattle.store_check.proofs.Rows.{row_at, row_from, rows_next}
 
 -- ---- Parts of a list of cards are the cards of parts of the words.
 
@@ -111,3 +113,22 @@ module _ (text words : List ℕ) (n row : ℕ) (h : row < document_count words) 
     pub faulty_here : (a : Answer) → card_fault text here.text_at here.text_len (cards_of (words_at words n here.card_count)) ≡ some a →
         false ≡ cards_sound text (document_rows words) (stored_cards words)
     faulty_here a e = sym (step ∙ rw e)
+
+-- The same where r is the row that was read, in a store with sound rows.
+module _ (text words : List ℕ) (n row : ℕ) (r : DocumentRow) (f : r ≡ document_row_from (drop (documents_at + document_words * row) words))
+    (h : row < document_count words) (p : Cleared text words n row) (k : SoundRows words) where
+  same : r ≡ row_at words row
+  same = f ∙ row_from words row
+
+  used : cards_used_of words ≤ card_capacity
+  used = (counts_held words k.counts).cards
+
+  pub room : n + r.card_count ≤ card_capacity
+  room = rw same (omega (arith, fits_here text words n row h p, used))
+
+  pub cleared_row : card_fault text r.text_at r.text_len (cards_of (words_at words n r.card_count)) ≡ none → Cleared text words (n + r.card_count) (row + 1)
+  cleared_row e = rw same (cleared_next text words n row h p k.long used (rw same at e))
+
+  pub faulty_row : (a : Answer) → card_fault text r.text_at r.text_len (cards_of (words_at words n r.card_count)) ≡ some a →
+      false ≡ cards_sound text (document_rows words) (stored_cards words)
+  faulty_row a e = faulty_here text words n row h p k.long used a (rw same at e)

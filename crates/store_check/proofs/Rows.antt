@@ -24,7 +24,7 @@ row_at words row = record {
   ignored = get_or words (documents_at + document_words * row + 3) 0;
 }
 
-row_from : (words : List ℕ) (row : ℕ) → document_row_from (drop (documents_at + document_words * row) words) ≡ row_at words row
+pub row_from : (words : List ℕ) (row : ℕ) → document_row_from (drop (documents_at + document_words * row) words) ≡ row_at words row
 unfolding document_row_from
 row_from words row = simp get_or-drop
 
@@ -107,27 +107,25 @@ module _ (words : List ℕ) where
       (p.rise ∙ ap (switches_rise (ignore_word words) ignored) (rows_next words row h)
       ∙ rise_fallen (ignore_word words) ignored (row_at words row) (drop (row + 1) (document_rows words)) k)
 
-  -- The row's test, as the code asks it.
-  test_of : (at ignored row : ℕ) → row_follows words (documents_at + document_words * row) at ignored ≡
-      (eqb (row_at words row).text_at at && leb ignored (row_at words row).ignored)
-  unfolding row_follows
-  test_of at ignored row = rw (row_from words row)
+  module _ (at cards ignored row : ℕ) (r : DocumentRow) (f : r ≡ document_row_from (drop (documents_at + document_words * row) words))
+      (h : row < document_count words) (p : Passed words at cards ignored row) where
+    same : r ≡ row_at words row
+    same = f ∙ row_from words row
 
-  pub misfollows : (at cards ignored row : ℕ) → row < document_count words → row_follows words (documents_at + document_words * row) at ignored ≡ false →
-      Passed words at cards ignored row → rows_sound words (document_rows words) ≡ false
-  misfollows at cards ignored row h e p = go (eqb (row_at words row).text_at at) refl (sym (test_of at ignored row) ∙ e)
-    where
-      go : (b : Bool) → eqb (row_at words row).text_at at ≡ b → (b && leb ignored (row_at words row).ignored) ≡ false →
-          rows_sound words (document_rows words) ≡ false
-      go true q k = fallen at cards ignored row h (leb-false _ _ k) p
-      go false q k = untouched at cards ignored row h (eqb-false _ _ q) p
+    pub misfollows : row_follows r at ignored ≡ false → rows_sound words (document_rows words) ≡ false
+    unfolding row_follows
+    misfollows e = go (eqb (row_at words row).text_at at) refl (rw same at e)
+      where
+        go : (b : Bool) → eqb (row_at words row).text_at at ≡ b → (b && leb ignored (row_at words row).ignored) ≡ false →
+            rows_sound words (document_rows words) ≡ false
+        go true q k = fallen at cards ignored row h (leb-false _ _ k) p
+        go false q k = untouched at cards ignored row h (eqb-false _ _ q) p
 
-  pub follows : (at cards ignored row : ℕ) → row < document_count words → row_follows words (documents_at + document_words * row) at ignored ≡ true →
-      Passed words at cards ignored row →
-      Passed words (at + (row_at words row).text_len) (cards + (row_at words row).card_count) (row_at words row).ignored (row + 1)
-  follows at cards ignored row h e p =
-      let q = and_true (eqb (row_at words row).text_at at) (leb ignored (row_at words row).ignored) (sym (test_of at ignored row) ∙ e) in
-      passed_next words at cards ignored row h (eqb-true _ _ q.0) (leb-true _ _ q.1) p
+    pub follows : row_follows r at ignored ≡ true → Passed words (at + r.text_len) (cards + r.card_count) r.ignored (row + 1)
+    unfolding row_follows
+    follows e =
+        let q = and_true (eqb (row_at words row).text_at at) (leb ignored (row_at words row).ignored) (rw same at e) in
+        rw same (passed_next words at cards ignored row h (eqb-true _ _ q.0) (leb-true _ _ q.1) p)
 
   zero_row : 0 < document_count words → zero_unignored (document_rows words) ≡ eqb (get_or words (documents_at + 3) 0) 0
   unfolding zero_unignored
@@ -152,14 +150,3 @@ module _ (words : List ℕ) where
     pub all_passed : 0 < document_count words → get_or words (documents_at + 3) 0 ≡ 0 → sums_sound words at cards ignored ≡ rows_sound words (document_rows words)
     unfolding rows_sound sums_sound
     all_passed d z = sym (rw (touch_end, counted_end, rise_end, zero_row d ∙ eq-eqb (get_or words (documents_at + 3) 0) 0 z) (and-all _))
-
--- ---- The row's test, return by return.
-
-module _ (words : List ℕ) (i at ignored : ℕ) where
-  pub other_start : (get_or words (i + 0) 0 ≡ at → ⊥) → row_follows words i at ignored ≡ false
-  unfolding row_follows document_row_from
-  other_start e = rw (get_or-drop i words 0 0, ne_eqb (get_or words (i + 0) 0) at e)
-
-  pub same_start : get_or words (i + 0) 0 ≡ at → row_follows words i at ignored ≡ leb ignored (get_or words (i + 3) 0)
-  unfolding row_follows document_row_from
-  same_start e = rw (get_or-drop i words 0 0, get_or-drop i words 3 0, eq-eqb (get_or words (i + 0) 0) at e)

@@ -6,43 +6,34 @@ ghost use Rattle.definition.specs.Refusals.{text_capacity};
 ghost use Rattle.definition.specs.Store.{account_in, document_rows, stored_cards, cards_sound, zero_sound};
 ghost use Rattle.store_check.specs.Check.{SoundRows, Checked};
 
-use ast_check::CardCheck;
-use definition::layout::{
-    CARD_WORDS, CARDS_AT, DOCUMENT_CARD_COUNT, DOCUMENT_COUNT, DOCUMENT_TEXT_AT, DOCUMENT_TEXT_LEN,
-    DOCUMENT_WORDS, DOCUMENTS_AT, TEXT_CAPACITY, WORDS_CAPACITY,
-};
-use definition::refusal::{STORE_TOO_SHORT, STORE_UNSOUND};
+use ast_check::Document;
+use ast_check::faults::DocumentText;
+use definition::layout::{CARD_WORDS, CARDS_AT, DOCUMENT_COUNT, TEXT_CAPACITY, WORDS_CAPACITY};
+use definition::refusal::Refusal;
+use store_reader::documents::DocumentRow;
 
 pub mod counts;
-
-// The store is sound, or it is refused with this number.
-#[derive(Clone, Copy)]
-pub enum StoreCheck {
-    Sound,
-    Refused(u32),
-}
 
 // Every document's cards pass 2 to 5, 27 and 28 against its own text.
 fn cards_sound(text: &[u8], words: &[u32]) -> bool
     requires { SoundRows words.now }
     ensures { result ≡ cards_sound text.now (document_rows words.now) (stored_cards words.now) }
 {
-    let documents = words[DOCUMENT_COUNT] as usize;
     let mut cards: usize = 0;
-    let mut row: usize = 0;
-    while row < documents {
-        let i = DOCUMENTS_AT + DOCUMENT_WORDS * row;
-        let text_at = words[i + DOCUMENT_TEXT_AT] as usize;
-        let text_len = words[i + DOCUMENT_TEXT_LEN] as usize;
-        let count = words[i + DOCUMENT_CARD_COUNT] as usize;
+    for document in 0..words[DOCUMENT_COUNT] as usize {
+        let row = DocumentRow::at(words, document);
+        let own = DocumentText {
+            text,
+            base: row.text_at as usize,
+            size: row.text_len as usize,
+        };
+        let count = row.card_count as usize;
         let start = CARDS_AT + CARD_WORDS * cards;
         let end = start + CARD_WORDS * count;
-        let CardCheck::Sound = ast_check::check_cards(text, text_at, text_len, &words[start..end])
-        else {
+        if ast_check::check_cards(own, &words[start..end]).is_err() {
             return false;
-        };
+        }
         cards += count;
-        row += 1;
     }
     true
 }
@@ -53,36 +44,31 @@ fn zero_sound(text: &[u8], words: &[u32]) -> bool
         × SoundRows words.now }
     ensures { result ≡ zero_sound (account_in text.now words.now).documents }
 {
-    let len = words[DOCUMENTS_AT + DOCUMENT_TEXT_LEN] as usize;
-    let end = CARDS_AT + CARD_WORDS * words[DOCUMENTS_AT + DOCUMENT_CARD_COUNT] as usize;
-    let CardCheck::Sound = store_built_in::check_built_in(&text[..len], &words[CARDS_AT..end])
-    else {
-        return false;
+    let row = DocumentRow::at(words, 0);
+    let len = row.text_len as usize;
+    let end = CARDS_AT + CARD_WORDS * row.card_count as usize;
+    let built_ins = Document {
+        text: &text[..len],
+        cards: &words[CARDS_AT..end],
     };
-    true
+    store_built_in::check_built_in(built_ins).is_ok()
 }
 
 // 21, then 22. Each test is asked only where those before it hold.
-pub fn check_store(text: &[u8], words: &[u32]) -> StoreCheck
+#[tactic(auto, using(crate::proofs::Checked::short_text, crate::proofs::Checked::short_words, crate::proofs::Checked::counts_unsound, crate::proofs::Checked::rows_unsound, crate::proofs::Checked::cards_unsound, crate::proofs::Checked::zero_unsound))]
+pub fn check_store(text: &[u8], words: &[u32]) -> Result<(), Refusal>
     ensures { Checked result text.now words.now }
 {
-    if text.len() < TEXT_CAPACITY {
-        return StoreCheck::Refused(STORE_TOO_SHORT);
+    if text.len() < TEXT_CAPACITY || words.len() < WORDS_CAPACITY {
+        return Err(Refusal::StoreTooShort);
     }
-    if words.len() < WORDS_CAPACITY {
-        return StoreCheck::Refused(STORE_TOO_SHORT);
+    if crate::counts::counts_sound(words)
+        && crate::counts::rows_sound(words)
+        && cards_sound(text, words)
+        && zero_sound(text, words)
+    {
+        Ok(())
+    } else {
+        Err(Refusal::StoreUnsound)
     }
-    if !crate::counts::counts_sound(words) {
-        return StoreCheck::Refused(STORE_UNSOUND);
-    }
-    if !crate::counts::rows_sound(words) {
-        return StoreCheck::Refused(STORE_UNSOUND);
-    }
-    if !cards_sound(text, words) {
-        return StoreCheck::Refused(STORE_UNSOUND);
-    }
-    if !zero_sound(text, words) {
-        return StoreCheck::Refused(STORE_UNSOUND);
-    }
-    StoreCheck::Sound
 }

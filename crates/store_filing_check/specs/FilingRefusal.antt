@@ -1,18 +1,11 @@
 -- What the check of the room and that of a lent document answer.
-use Rattle.std.proofs.Math.Option.{Option, none, some}
+use Rattle.std.proofs.Math.Option.{Option}
 use Rattle.std.specs.Prelude.{List, ℕ, ◌+◌, ◌/◌, ltb, leb, length}
 use Rattle.definition.specs.declared.Answer.{Answer}
 use Rattle.definition.specs.Lists.{or_else}
-use Rattle.definition.specs.Answers.{answer}
 use Rattle.definition.specs.Cards.{card_words, document_fault}
 use Rattle.definition.specs.Refusals.{text_capacity, document_capacity, card_capacity, refuse}
 use Rattle.definition.specs.Store.{document_count, text_used_of, cards_used_of}
-use Rattle.store_filing_check.specs.declared.Capacity.{Capacity}
-use Rattle.store_filing_check.specs.declared.Capacity.TheVariants.{Enough, Refused}
-
-abbrev pub capacity_option : Capacity → Option Answer
-capacity_option Enough = none
-capacity_option (Refused n) = some (answer n 0)
 
 -- 24 and 25, where this many bytes and cards are used and that many are lent.
 unfoldable pub capacity_for : ℕ → ℕ → ℕ → ℕ → Option Answer

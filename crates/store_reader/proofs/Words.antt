@@ -354,50 +354,27 @@ rows_over words i h =
     let l = length_chunks document_words document_row_from (document_count words) (drop documents_at words) in
     drop_of_length-le (chunks document_words document_row_from (document_count words) (drop documents_at words)) {i = i} (omega arith)
 
-module _ (words : List ℕ) (i : ℕ) where
-  row_count_lem : (document_row_from (drop (documents_at + document_words * i) words)).card_count ≡ get_or words (documents_at + document_words * i + 2) 0
-  unfolding document_row_from
-  row_count_lem = get_or-drop (documents_at + document_words * i) words 2 0
-
-  row_switch : (document_row_from (drop (documents_at + document_words * i) words)).ignored ≡ get_or words (documents_at + document_words * i + 3) 0
-  unfolding document_row_from
-  row_switch = get_or-drop (documents_at + document_words * i) words 3 0
-
-  ignored_step : (n : ℕ) → i < document_count words →
-      ignored_in (drop i (document_rows words)) n ≡
-      choose (ltb n (get_or words (documents_at + document_words * i + 2) 0)) (eqb (get_or words (documents_at + document_words * i + 3) 0) 1)
-      (ignored_in (drop (i + 1) (document_rows words)) (n - get_or words (documents_at + document_words * i + 2) 0))
-  unfolding ignored_in
-  ignored_step n h = rw (row_at_lem words i h, row_count_lem, row_switch)
-
-  -- A turn of the walk over the rows.
-  pub ignored_here : (n : ℕ) → i < document_count words → n < get_or words (documents_at + document_words * i + 2) 0 →
-      ignored_in (drop i (document_rows words)) n ≡ eqb (get_or words (documents_at + document_words * i + 3) 0) 1
-  ignored_here n h l = ignored_step n h ∙ rw (lt-ltb n (get_or words (documents_at + document_words * i + 2) 0) l)
-
-  pub ignored_next : (n : ℕ) → i < document_count words → get_or words (documents_at + document_words * i + 2) 0 ≤ n →
-      ignored_in (drop i (document_rows words)) n ≡ ignored_in (drop (i + 1) (document_rows words)) (n - get_or words (documents_at + document_words * i + 2) 0)
-  ignored_next n h l = ignored_step n h ∙ rw (le-ltb n (get_or words (documents_at + document_words * i + 2) 0) l)
-
-  pub ignored_end : (n : ℕ) → document_count words ≤ i → ignored_in (drop i (document_rows words)) n ≡ false
-  unfolding ignored_in
-  ignored_end n h = ap (λ (rs : List DocumentRow). ignored_in rs n) (rows_over words i h)
-
 pub ignored_start : (words : List ℕ) (n : ℕ) → ignored_at words n ≡ ignored_in (drop 0 (document_rows words)) n
 unfolding ignored_at
 ignored_start words n = refl
 
--- The same where the number of rows and a row's card count were read as words.
-module _ (words : List ℕ) (rows count i n : ℕ) (e : rows ≡ document_count words) (f : count ≡ get_or words (documents_at + document_words * i + 2) 0) where
-  pub ignored_found : i < rows → n < count → ignored_in (drop i (document_rows words)) n ≡ eqb (get_or words (documents_at + document_words * i + 3) 0) 1
-  ignored_found h l = ignored_here words i n (omega arith) (omega arith)
+-- A turn of the walk over the rows: r is the row of the number i.
+module _ (words : List ℕ) (rows i n : ℕ) (r : DocumentRow) (e : rows ≡ document_count words) where
+  module _ (f : r ≡ document_row_from (drop (documents_at + document_words * i) words)) (h : i < rows) where
+    here : drop i (document_rows words) ≡ r ∷ drop (i + 1) (document_rows words)
+    here = row_at_lem words i (omega arith) ∙ rw (← f) refl
 
-  pub ignored_passed : i < rows → count ≤ n → ignored_in (drop i (document_rows words)) n ≡ ignored_in (drop (i + 1) (document_rows words)) (n - count)
-  ignored_passed h l =
-      ignored_next words i n (omega arith) (omega arith) ∙ ap (λ (m : ℕ). ignored_in (drop (i + 1) (document_rows words)) (n - m)) (sym f)
+    pub ignored_found : n < r.card_count → ignored_in (drop i (document_rows words)) n ≡ eqb r.ignored 1
+    unfolding ignored_in
+    ignored_found l = rw (here, lt-ltb n r.card_count l)
+
+    pub ignored_passed : r.card_count ≤ n → ignored_in (drop i (document_rows words)) n ≡ ignored_in (drop (i + 1) (document_rows words)) (n - r.card_count)
+    unfolding ignored_in
+    ignored_passed l = rw (here, le-ltb n r.card_count l)
 
 pub ignored_over : (words : List ℕ) (rows i n : ℕ) → rows ≡ document_count words → rows ≤ i → ignored_in (drop i (document_rows words)) n ≡ false
-ignored_over words rows i n e h = ignored_end words i n (omega arith)
+unfolding ignored_in
+ignored_over words rows i n e h = ap (λ (rs : List DocumentRow). ignored_in rs n) (rows_over words i (omega arith))
 
 pub built_in_is : (words : List ℕ) (n : ℕ) → built_in_at words n ≡ ltb n (built_in_count words)
 unfolding built_in_at

@@ -9,6 +9,7 @@ use ast::word;
 use definition::layout::{CARD_WORDS, CARDS_AT, CARDS_USED};
 
 // How many cards the store says it has.
+#[tactic(auto, unfolding(definition::specs::Store::cards_used_of))]
 pub fn cards_used(words: &[u32]) -> usize
     ensures { result ≡ cards_used_of words.now }
 {
@@ -22,12 +23,14 @@ pub fn card_word(words: &[u32], n: usize, k: usize) -> u32
 {
     let used = word(words, CARDS_USED) as usize;
     if n < used {
-        return word(words, CARDS_AT + CARD_WORDS * n + k);
+        word(words, CARDS_AT + CARD_WORDS * n + k)
+    } else {
+        0
     }
-    0
 }
 
 // What a reader asks of the card n.
+#[tactic(auto, unfolding(crate::specs::Cards::card_kind))]
 pub fn card_kind(words: &[u32], n: usize) -> u32
     ensures { result ≡ card_kind words.now n }
 {
@@ -42,12 +45,14 @@ pub fn card_is_part(words: &[u32], n: usize) -> bool
 }
 
 // Where the name of a card begins in the store's text, and how long it is.
+#[tactic(auto, unfolding(crate::specs::Cards::name_start))]
 pub fn name_start(words: &[u32], n: usize) -> usize
     ensures { result ≡ name_start words.now n }
 {
     card_word(words, n, ast::CARD_NAME_AT) as usize
 }
 
+#[tactic(auto, unfolding(crate::specs::Cards::name_size))]
 pub fn name_size(words: &[u32], n: usize) -> usize
     ensures { result ≡ name_size words.now n }
 {
@@ -61,12 +66,10 @@ pub fn name_of<'a>(text: &'a [u8], words: &[u32], n: usize) -> &'a [u8]
 }
 
 // The position after n, and at the end the number of cards.
+#[tactic(auto, unfolding(crate::specs::Cards::next_card))]
 pub fn card_after(words: &[u32], n: usize) -> usize
     ensures { result ≡ next_card words.now n }
 {
     let used = cards_used(words);
-    if used <= n {
-        return used;
-    }
-    n + 1
+    if n < used { n + 1 } else { used }
 }

@@ -18,6 +18,7 @@ pub use ast::kinds::is_part;
 pub use ast::word;
 
 // The name of the card n, where only its bytes matter.
+#[tactic(auto, unfolding(crate::specs::Cards::card_name))]
 pub fn card_name<'a>(text: &'a [u8], words: &[u32], n: usize) -> &'a [u8]
     ensures { result.now ≡ card_name text.now words.now n }
 {

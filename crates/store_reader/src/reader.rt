@@ -57,6 +57,7 @@ pub fn read_name<'a>(text: &'a [u8], words: &[u32], card: usize) -> &'a [u8]
 }
 
 // The first heading after a card, or the number of cards: the reader goes from card to card while it stands at a part.
+// Stays: the project's rule asks for a reader that is carried from card to card (docs/DECISIONS.md, "Forms that 01 names").
 pub fn next_heading(text: &[u8], words: &[u32], card: usize) -> usize
     ensures { result ≡ next_heading words.now card }
 {

@@ -3,5 +3,5 @@ use Rattle.std.proofs.Common.{arith}
 use Rattle.store_reader.proofs.Laws.{cards_fit_lem}
 use Rattle.from_ast.proofs.build_inner.Goals as goal
 
-pub size_for-requires : goal.size_for-requires
-size_for-requires c = omega (arith, cards_fit_lem _ _ c.requires.store_sound, c.cards_used.ensures)
+pub build_over-requires-else-cards-le-MEDIUM_CARDS-clause-cards : goal.build_over-requires-else-cards-le-MEDIUM_CARDS-clause-cards
+build_over-requires-else-cards-le-MEDIUM_CARDS-clause-cards c = omega (arith, cards_fit_lem _ _ c.requires.store_sound)

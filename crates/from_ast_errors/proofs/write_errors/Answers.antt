@@ -1,27 +1,24 @@
-use native.Mathlib.Omega.{arith}
-use native.Mathlib.Nat.{sub-zero}
-use lib.ListN.{length-take}
-use Rattle.from_ast_errors.proofs.Written.{rows_inside, rows_few, push_asked, errors_written}
+use borrow.Author.Rules.{rules}
+use mathlib.Core.Path.{◌≡◌, ◌∙◌, refl, ap}
+use Rattle.from_ast_collisions.specs.declared.pushing.Errors.{Errors}
+use Rattle.from_ast_collisions.proofs.Push.{pushed_reference}
+use Rattle.from_ast_errors.proofs.Written.{rows_few, all_capacity, total_least, errors_written}
 use Rattle.from_ast_errors.proofs.write_errors.Goals as goal
 
-pub overflow_mul-end : goal.overflow_mul-end
-overflow_mul-end c = let f = rows_few c.requires in omega arith
-
-pub slice_bounds-rows-end : goal.slice_bounds-rows-end
-slice_bounds-rows-end c = rows_inside c.requires
-
 pub place_rows-requires : goal.place_rows-requires
-place_rows-requires c =
-    let f =
-    rows_few
-    c.requires in simp (sub-zero, length-take) (omega arith)
+place_rows-requires c = rows_few _ _ _ _ c.requires
 
-pub push_errors-requires : goal.push_errors-requires
-push_errors-requires c =
-    simp sub-zero
-    (push_asked c.requires _ (simp sub-zero at c.place_rows.ensures))
+pub push_errors-reading-requires : goal.push_errors-reading-requires
+push_errors-reading-requires c = rw c.new-errors.ensures (all_capacity _ _ _ _ c.requires _ refl)
+
+pub overflow_sub-result : goal.overflow_sub-result
+overflow_sub-result c =
+    total_least _ _ _ _ c.requires _ refl _ (rw c.new-errors.ensures at c.push_errors-reading.ensures.pushed) _
+    (rw c.new-errors.ensures at c.push_errors-reading.ensures.reading)
 
 pub returns : goal.returns
 returns c =
-    errors_written
-    c.requires _ _ (simp sub-zero at c.push_errors.ensures)
+    let same : c.push_errors-reading.new.errors.words.ghost_name ≡ c.new-errors.result.words.ghost_name =
+    ap (λ (l : Errors). l.words.ghost_name) c.push_errors-reading.ensures.pushed ∙ pushed_reference _ _ in
+    errors_written _ _ _ _ c.requires _ refl _ (rw c.new-errors.ensures at c.push_errors-reading.ensures.pushed) _
+    (rw c.new-errors.ensures at c.push_errors-reading.ensures.reading) _ (search rules)

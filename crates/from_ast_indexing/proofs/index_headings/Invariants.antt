@@ -1,14 +1,6 @@
-use Prim.Native.Nat.{◌-◌}
-use mathlib.Core.Path.{◌≡◌}
-use lib.ListN.{length}
-use Rattle.definition.specs.Store.{cards_used_of}
 use Rattle.from_ast_indexing.proofs.Headings.{HeadingsSoFar}
 use Rattle.from_ast_indexing.proofs.index_headings.Given as goal
 
--- The loop's invariant: the entries so far, then the headings from `card` on, are all headings; and `card` is a heading or the end.
+-- The entries so far, then the headings from `card` on, are all headings.
 abbrev pub invariant-loop-card : goal.invariant-loop-card
-invariant-loop-card l = HeadingsSoFar l.words l.headings l.count l.card × (l.used ≡ cards_used_of l.words)
-    × (length l.headings ≡ length l.initial.headings)
-
-abbrev pub decreases-loop-card : goal.decreases-loop-card
-decreases-loop-card l = l.used - l.card
+invariant-loop-card l = HeadingsSoFar l.words l.headings l.count l.card

@@ -1,20 +1,13 @@
-use mathlib.Core.Path.{refl, sym}
-use native.Mathlib.Nat.{add_comm, add-sub_cancel_left}
+use mathlib.Core.Path.{◌≡◌}
+use mathlib.Core.Path.{refl}
+use native.Mathlib.Nat.{add_comm}
 use native.Mathlib.Omega.{arith}
-use Rattle.definition.specs.Names.{bytes_at}
-use Rattle.name.proofs.Laws.{span_past, span_clipped}
+use Rattle.name.proofs.Laws.{part_bytes}
 use Rattle.name.proofs.bytes_at.Goals as goal
 
-pub returns-then-text-at : goal.returns-then-text-at
-returns-then-text-at c = record {
-  bytes = sym (span_past _ _ _ c.if-text-at.true);
-  block = refl;
-  place = λ h. absurd (let t = c.if-text-at.true in omega arith);
-}
-
-pub returns-then-text-at-2 : goal.returns-then-text-at-2
-returns-then-text-at-2 c = record { bytes = sym (span_clipped _ _ _ c.if-text-at-2.true); block = refl; place = λ h. add_comm _ _ }
-
 pub returns : goal.returns
-unfolding bytes_at
-returns c = record { bytes = simp add-sub_cancel_left; block = refl; place = λ h. add_comm _ _ }
+returns c = record {
+  bytes = part_bytes _ _ _ _ _ c.min-from.ensures c.min.ensures;
+  block = refl;
+  place = λ h. let f : c.min-from.result ≡ c.args.at = omega arith in rw f (add_comm _ _);
+}

@@ -3,13 +3,11 @@ use mathlib.Core.List.{[], ◌∷◌}
 use Prim.Native.Nat.{◌-◌}
 use lib.ListN.{length}
 use Rattle.definition.specs.Grammar.{part, Definition, Definition*}
-use Rattle.parser_lexer.specs.Ahead.{Lies}
 use Rattle.parser.specs.Headings.{Definitions}
 use Rattle.parser.proofs.read_document.Given as goal
 
 abbrev pub invariant-loop-k : goal.invariant-loop-k
-invariant-loop-k l = Definitions l.text l.initial.cards (part Definition ∷ part Definition* ∷ []) l.c l.cards ×
-    Lies (length l.text) l.c × (length l.cards ≡ length l.initial.cards)
+invariant-loop-k l = Definitions l.text l.initial.cards (part Definition ∷ part Definition* ∷ []) l.c l.cards × (l.c.text.now ≡ l.text)
 
 abbrev pub decreases-loop-k : goal.decreases-loop-k
 decreases-loop-k l = length l.text - l.c.last

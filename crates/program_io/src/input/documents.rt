@@ -1,100 +1,88 @@
 // A document's two files: its text, and its cards as little-endian words.
-ghost use Rattle.std.specs.Prelude.{◌≡◌, ◌+◌, ◌*◌, ◌≤◌, length};
-ghost use Rattle.program_io.specs.Text.{Put};
-ghost use Rattle.program_io.specs.Input.{folder_capacity, path_capacity, Lies, little_endian, words_of};
+ghost use Rattle.std.specs.Prelude.{◌≡◌, ◌*◌, ◌≤◌, IfOk, IfSome, length, vec_len};
+ghost use Rattle.program_io.specs.Input.{Lies, words_of};
 
-use crate::input::files::{File, PATH_CAPACITY, is_missing, read_file};
-use crate::output::put::put_name;
+use crate::input::files::{Unread, read_file};
+use crate::output::file_name::FileName;
+use std::alloc::{AllocError, Global};
 use std::rt::Files;
 
-#[derive(Clone, Copy)]
-pub enum Document {
-    // Its text and its card words stand at the front of their buffers.
-    Read { text: usize, cards: usize },
-    // One of its two files is missing: the list of documents ended before it.
-    Missing,
+// The bytes that a document's file may have.
+const FILE_CAPACITY: usize = 1048576;
+
+#[derive(Drop)]
+pub struct Document {
+    pub text: Vec<u8>,
+    pub cards: Vec<u32>,
+}
+
+// Why a document is not read.
+#[derive(Debug, Drop)]
+pub enum DocumentError {
     // Its card file is not in whole words.
     Uneven,
-    // It was told why it can't be read.
-    Told,
+    Unread(Unread),
 }
 
-// Document n of a folder, whose path is empty or ends with a slash, read by way of a buffer for the bytes of its cards.
-pub fn read_document(
-    rt: &(impl Files + Eprint),
-    folder: &[u8],
-    n: usize,
-    text: &mut [u8],
-    bytes: &mut [u8],
-    cards: &mut [u32],
-) -> Document
-    requires { (length folder.now ≤ folder_capacity)
-        × (length bytes.old ≤ 4 * length cards.old + 1) }
-    ensures { Lies result (length text.old) (length cards.old) }
-{
-    let mut txt_name = [0u8; PATH_CAPACITY];
-    let mut crd_name = [0u8; PATH_CAPACITY];
-    let a = put_name(folder, b"d", n, b".txt", &mut txt_name);
-    let b = put_name(folder, b"d", n, b".crd", &mut crd_name);
-    let txt = &txt_name[..a];
-    let crd = &crd_name[..b];
-    if is_missing(rt, txt) {
-        return Document::Missing;
+impl From<Unread> for DocumentError {
+    fn from(unread: Unread) -> DocumentError {
+        DocumentError::Unread(unread)
     }
-    if is_missing(rt, crd) {
-        return Document::Missing;
-    }
-    read_both(rt, txt, crd, text, bytes, cards)
 }
 
-fn read_both(
-    rt: &(impl Files + Eprint),
-    txt: &[u8],
-    crd: &[u8],
-    text: &mut [u8],
-    bytes: &mut [u8],
-    cards: &mut [u32],
-) -> Document
-    requires { (length txt.now ≤ path_capacity)
-        × (length crd.now ≤ path_capacity)
-        × (length bytes.old ≤ 4 * length cards.old + 1) }
-    ensures { Lies result (length text.old) (length cards.old) }
-{
-    let larger = b" is larger than 1048576 bytes";
-    let File::Whole(size) = read_file(rt, txt, larger, text) else {
-        return Document::Told;
+impl From<AllocError> for DocumentError {
+    fn from(error: AllocError) -> DocumentError {
+        DocumentError::Unread(Unread::from(error))
+    }
+}
+
+impl Document {
+    // Document `number` of a folder, whose path is empty or ends with a slash. Where one of its two files is missing the list of documents ended before it.
+    pub fn read(
+        rt: &(impl Files + AllocGlobal),
+        folder: &str,
+        number: usize,
+    ) -> Result<Option<Document>, DocumentError>
+        ensures { IfOk result (λ read. IfSome read Lies) }
+    {
+        let text = read_file(rt, path(rt.alloc(), folder, number, ".txt")?, FILE_CAPACITY);
+        let cards = read_file(rt, path(rt.alloc(), folder, number, ".crd")?, FILE_CAPACITY);
+        if is_missing(&text) || is_missing(&cards) {
+            return Ok(None);
+        }
+        let text = text?;
+        let bytes = cards?;
+        if bytes.len() % 4 != 0 {
+            return Err(DocumentError::Uneven);
+        }
+        let cards = words_of(rt.alloc(), bytes.as_slice())?;
+        Ok(Some(Document { text, cards }))
+    }
+}
+
+fn path(alloc: Global, folder: &str, number: usize, ending: &str) -> Result<String, AllocError> {
+    let name = FileName {
+        folder,
+        stem: "d",
+        number,
+        ending,
     };
-    let File::Whole(n) = read_file(rt, crd, larger, bytes) else {
-        return Document::Told;
-    };
-    if n % 4 != 0 {
-        return Document::Uneven;
-    }
-    let count = put_words(&bytes[..n], cards);
-    Document::Read {
-        text: size,
-        cards: count,
-    }
+    name.to_string(alloc)
 }
 
-// Puts the words of the bytes at the front of a buffer.
-fn put_words(bytes: &[u8], words: &mut [u32]) -> usize
-    requires { length bytes.now ≤ 4 * length words.old }
-    ensures put { Put words.old 0 (words_of bytes.now) words.new result }
-    ensures upper_bound { result ≤ length words.old }
-{
-    let mut n = 0;
-    let mut i = 0;
-    while bytes.len() - i >= 4 {
-        words[n] = little_endian(bytes[i], bytes[i + 1], bytes[i + 2], bytes[i + 3]);
-        n += 1;
-        i += 4;
-    }
-    n
+fn is_missing(read: &Result<Vec<u8>, Unread>) -> bool {
+    matches!(read, Err(unread) if unread.is_missing())
 }
 
-fn little_endian(a: u8, b: u8, c: u8, d: u8) -> u32
-    ensures { result ≡ little_endian a b c d }
+// The little-endian words of the bytes. Bytes past the last whole word are left out.
+fn words_of(alloc: Global, bytes: &[u8]) -> Result<Vec<u32>, AllocError>
+    ensures words { IfOk result (λ words. words.items ≡ words_of bytes.now) }
+    ensures count { IfOk result (λ words. 4 * vec_len words ≤ length bytes.now) }
 {
-    a as u32 + 256 * (b as u32) + 65536 * (c as u32) + 16777216 * (d as u32)
+    bytes
+        .as_chunks()
+        .0
+        .iter()
+        .map(|word| u32::from_le_bytes(*word))
+        .collect(alloc)
 }

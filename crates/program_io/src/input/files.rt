@@ -1,96 +1,65 @@
-// Reading whole files. What goes wrong is told on standard error where it happens, with the file's name.
-ghost use Rattle.std.specs.Prelude.{◌≤◌, length};
-ghost use Rattle.program_io.specs.Input.{path_capacity, Within};
+// Reading whole files. What goes wrong is told by the caller.
+ghost use Rattle.std.specs.Prelude.{◌≤◌, IfOk, vec_len};
 
-use crate::output::put::put_bytes;
+use std::alloc::AllocError;
 use std::io::{ErrorKind, Read};
 use std::rt::Files;
-use std::{fs, io, str};
+use std::{fmt, fs, io};
 
-// The bytes that a path may have.
-pub const PATH_CAPACITY: usize = 64;
-
-// How many bytes a file has, which stand at the front of a buffer, or that it was told why there are none.
-#[derive(Clone, Copy)]
-pub enum File {
-    Whole(usize),
-    Told,
+// Why a file is not read.
+#[derive(Debug, Drop)]
+pub enum Unread {
+    System { path: String, why: io::Error },
+    // It has more bytes than are allowed.
+    Larger { path: String, most: usize },
+    // There is no memory for its name.
+    OutOfMemory,
 }
 
-// Whether there is no file of that name. One that is there and can't be opened is not missing.
-pub fn is_missing(rt: &impl Files, path: &[u8]) -> bool {
-    match open_read(rt, path) {
-        Ok(_) => false,
-        Err(why) => why.kind() == ErrorKind::NotFound,
+impl Unread {
+    // Whether there is no file of that name. One that is there and can't be opened is not missing.
+    pub fn is_missing(&self) -> bool {
+        matches!(self, Unread::System { why, .. } if why.kind() == ErrorKind::NotFound)
     }
 }
 
-// Opens a file, whose path is to be UTF-8 text.
-fn open_read<R: Files>(rt: &R, path: &[u8]) -> io::Result<R::File> {
-    match str::from_utf8(path) {
-        Ok(path) => fs::open(rt, path),
-        Err(_) => Err(io::Error::from(ErrorKind::InvalidFilename)),
+impl From<AllocError> for Unread {
+    fn from(_: AllocError) -> Unread {
+        Unread::OutOfMemory
     }
 }
 
-// Reads a file of fewer bytes than the buffer has; of one that has as many or more, `larger` is told.
-pub fn read_file(rt: &(impl Files + Eprint), path: &[u8], larger: &[u8], buffer: &mut [u8]) -> File
-    requires { length path.now ≤ path_capacity }
-    ensures { Within result (length buffer.old) }
-{
-    match open_read(rt, path) {
-        Ok(file) => read_open(rt, file, path, larger, buffer),
-        Err(why) => {
-            tell_why(rt, path, &why);
-            File::Told
+// The file's name and what is wrong with it.
+impl fmt::Display for Unread {
+    fn fmt<W: fmt::Write>(&self, f: &mut fmt::Formatter<W>) -> fmt::Result {
+        match self {
+            Unread::System { path, why } => write!(f, "{path} can't be read: {why}"),
+            Unread::Larger { path, most } => write!(f, "{path} is larger than {most} bytes"),
+            Unread::OutOfMemory => write!(f, "out of memory"),
         }
     }
 }
 
-fn read_open(
-    rt: &impl Eprint,
-    mut file: impl Read + Drop,
-    path: &[u8],
-    larger: &[u8],
-    buffer: &mut [u8],
-) -> File
-    requires { length path.now ≤ path_capacity }
-    ensures { Within result (length buffer.old) }
+// Reads a file that has at most so many bytes.
+pub fn read_file(
+    rt: &(impl Files + AllocGlobal),
+    path: String,
+    most: usize,
+) -> Result<Vec<u8>, Unread>
+    ensures { IfOk result (λ bytes. vec_len bytes ≤ most) }
 {
-    let mut done = 0;
-    while done < buffer.len() {
-        match file.read(&mut buffer[done..]) {
-            Ok(0) => return File::Whole(done),
-            Ok(more) => done += more,
-            Err(why) => {
-                tell_why(rt, path, &why);
-                return File::Told;
-            }
-        }
+    match read_start(rt, path.as_str(), most) {
+        Ok(bytes) if bytes.len() <= most => Ok(bytes),
+        Ok(_) => Err(Unread::Larger { path, most }),
+        Err(why) => Err(Unread::System { path, why }),
     }
-    tell(rt, path, larger);
-    File::Told
 }
 
-// A file's name and what is wrong with it, on a line.
-pub fn tell(rt: &impl Eprint, path: &[u8], wrong: &[u8]) {
-    let path = text_of(path);
-    let wrong = text_of(wrong);
-    let _ = eprintln!(rt; "{path}{wrong}");
-}
-
-// The same with the system's reason.
-fn tell_why(rt: &impl Eprint, path: &[u8], why: &io::Error)
-    requires { length path.now ≤ path_capacity }
-{
-    let mut line = [0u8; 96];
-    let at = put_bytes(path, &mut line, 0);
-    let end = put_bytes(b" can't be read", &mut line, at);
-    let line = text_of(&line[..end]);
-    let _ = eprintln!(rt; "{line}: {why}");
-}
-
-// Bytes as the text that they are. Of other bytes a question mark is told.
-fn text_of(bytes: &[u8]) -> &str {
-    str::from_utf8(bytes).unwrap_or("?")
+// One byte more than is allowed is asked for, so that a longer file shows.
+fn read_start(rt: &(impl Files + AllocGlobal), path: &str, most: usize) -> io::Result<Vec<u8>> {
+    let mut bytes = Vec::new(rt.alloc());
+    fs::open(rt, path)?
+        .take((most as u64).saturating_add(1))
+        .read_to_end(&mut bytes)?;
+    Ok(bytes)
 }

@@ -1,51 +1,45 @@
-use mathlib.Core.Path.{sym, ap, ◌∙◌}
-use Rattle.ast_check.specs.Checks.{check_option}
-use Rattle.store_filing_check.specs.FilingRefusal.{capacity_option}
+use mathlib.Core.Path.{sym, ap}
+use Rattle.definition.specs.Numbers.{refused_answer}
+use Rattle.ast_check.proofs.Told.{answer_of}
 use Rattle.store.proofs.Allowed.{opening_faulty, opening_barred, opening_capacity, opens}
 use Rattle.store.proofs.Entries.{open_short_text, open_short_words, open_refused, open_done}
 use Rattle.store.proofs.open.Goals as goal
+use Rattle.store.proofs.open.Goals.{then-text-lt-TEXT_CAPACITY-via-then-text-lt-TEXT_CAPACITY, then-text-lt-TEXT_CAPACITY-via-else-text-lt-TEXT_CAPACITY+then-words-lt-WORDS_CAPACITY}
 
 pub returns-then-text-lt-TEXT_CAPACITY : goal.returns-then-text-lt-TEXT_CAPACITY
 returns-then-text-lt-TEXT_CAPACITY c =
     let e = c.args in
-    open_short_text e.text.now e.words.now e.lent.now e.cards.now c.if-text-lt-TEXT_CAPACITY.true
+    let told = ap refused_answer c.into.ensures in
+    elim c.then-text-lt-TEXT_CAPACITY.branch [ then-text-lt-TEXT_CAPACITY-via-then-text-lt-TEXT_CAPACITY w ↦ open_short_text e.text.now e.words.now e.lent.now e.cards.now _ told w.if-text-lt-TEXT_CAPACITY.true | then-text-lt-TEXT_CAPACITY-via-else-text-lt-TEXT_CAPACITY+then-words-lt-WORDS_CAPACITY w ↦ open_short_words e.text.now e.words.now e.lent.now e.cards.now w.if-text-lt-TEXT_CAPACITY.false _ told w.if-words-lt-WORDS_CAPACITY.true ]
 
-pub returns-then-words-lt-WORDS_CAPACITY : goal.returns-then-words-lt-WORDS_CAPACITY
-returns-then-words-lt-WORDS_CAPACITY c =
+pub returns-in_err-check : goal.returns-in_err-check
+returns-in_err-check c =
     let e = c.args in
-    open_short_words e.text.now e.words.now e.lent.now e.cards.now c.if-text-lt-TEXT_CAPACITY.false c.if-words-lt-WORDS_CAPACITY.true
+    open_refused e.text.now e.words.now e.lent.now e.cards.now c.if-text-lt-TEXT_CAPACITY.false c.if-words-lt-WORDS_CAPACITY.false _ _
+    (answer_of _ _ c.from_residual.ensures.1)
+    (opening_faulty _ _ _ (sym c.in_err-check.ensures))
 
-pub returns-in-Faulty : goal.returns-in-Faulty
-returns-in-Faulty c =
+pub returns-in_err-check_built_in : goal.returns-in_err-check_built_in
+returns-in_err-check_built_in c =
     let e = c.args in
-    open_refused e.text.now e.words.now e.lent.now e.cards.now c.if-text-lt-TEXT_CAPACITY.false c.if-words-lt-WORDS_CAPACITY.false _
-    (opening_faulty _ _ _ (sym c.check_document.ensures ∙ ap check_option c.in-Faulty.is))
+    open_refused e.text.now e.words.now e.lent.now e.cards.now c.if-text-lt-TEXT_CAPACITY.false c.if-words-lt-WORDS_CAPACITY.false _ _
+    (answer_of _ _ c.from_residual-in_err-check_built_in.ensures.1)
+    (opening_barred _ _ (sym c.in_ok-check.ensures) _ (sym c.in_err-check_built_in.ensures))
 
-pub returns-in-Faulty-check_built_in : goal.returns-in-Faulty-check_built_in
-returns-in-Faulty-check_built_in c =
+pub returns-in_err-check_capacity : goal.returns-in_err-check_capacity
+returns-in_err-check_capacity c =
     let e = c.args in
-    open_refused e.text.now e.words.now e.lent.now e.cards.now c.if-text-lt-TEXT_CAPACITY.false c.if-words-lt-WORDS_CAPACITY.false _
-    (opening_barred _ _ (sym c.check_document.ensures ∙ ap check_option c.in_default.is) _
-    (sym c.check_built_in.ensures ∙ ap check_option c.in-Faulty-check_built_in.is))
-
-pub returns-in-Refused : goal.returns-in-Refused
-returns-in-Refused c =
-    let e = c.args in
-    open_refused e.text.now e.words.now e.lent.now e.cards.now c.if-text-lt-TEXT_CAPACITY.false c.if-words-lt-WORDS_CAPACITY.false _
-    (opening_capacity _ _ (sym c.check_document.ensures ∙ ap check_option c.in_default.is) _
-    (sym c.check_built_in.ensures ∙ ap check_option c.in_default-check_built_in.is)
-    (sym (ap capacity_option c.in-Refused.is) ∙ c.check_capacity.ensures))
+    open_refused e.text.now e.words.now e.lent.now e.cards.now c.if-text-lt-TEXT_CAPACITY.false c.if-words-lt-WORDS_CAPACITY.false _ _
+    (answer_of _ _ c.from_residual-in_err-check_capacity.ensures.1)
+    (opening_capacity _ _ (sym c.in_ok-check.ensures) _ (sym c.in_ok-check_built_in.ensures) c.in_err-check_capacity.ensures)
 
 pub file_built_in-requires : goal.file_built_in-requires
 file_built_in-requires c =
-    opens _ _ (sym c.check_document.ensures ∙ ap check_option c.in_default.is) _ _ c.if-text-lt-TEXT_CAPACITY.false
-    c.if-words-lt-WORDS_CAPACITY.false (sym (ap capacity_option c.in_default-check_capacity.is) ∙ c.check_capacity.ensures)
+    opens _ _ (sym c.in_ok-check.ensures) _ _ c.if-text-lt-TEXT_CAPACITY.false c.if-words-lt-WORDS_CAPACITY.false c.in_ok-check_capacity.ensures
 
 pub returns : goal.returns
 returns c =
     let e = c.args in
     open_done e.text.now e.words.now e.lent.now e.cards.now c.if-text-lt-TEXT_CAPACITY.false c.if-words-lt-WORDS_CAPACITY.false _ _
-    (opening_capacity _ _ (sym c.check_document.ensures ∙ ap check_option c.in_default.is) _
-    (sym c.check_built_in.ensures ∙ ap check_option c.in_default-check_built_in.is)
-    (sym (ap capacity_option c.in_default-check_capacity.is) ∙ c.check_capacity.ensures))
+    (opening_capacity _ _ (sym c.in_ok-check.ensures) _ (sym c.in_ok-check_built_in.ensures) c.in_ok-check_capacity.ensures)
     c.file_built_in.ensures.text_after c.file_built_in.ensures.words_after

@@ -1,14 +1,14 @@
 use mathlib.Core.Path.{sym, ap, ◌∙◌}
-use Rattle.store_built_in.specs.Alone.{six_at, found_at}
+use Rattle.ast_check.proofs.Told.{handed_on}
+use Rattle.store_built_in.specs.Alone.{six_at}
 use Rattle.store_built_in.proofs.Alone.{zero_barred, zero_alone}
 use Rattle.store_built_in.proofs.check_built_in.Goals as goal
 
-pub returns-in_default : goal.returns-in_default
-returns-in_default c =
-    c.refusal.ensures ∙ ap six_at c.first_error.ensures
-    ∙ sym (zero_alone _ _ _ c.first_barred.ensures (ap found_at c.in_default.is))
+pub returns-in_err-refuse : goal.returns-in_err-refuse
+returns-in_err-refuse c =
+    handed_on _ _ _ c.from_residual.ensures.1 (zero_barred _ _ _ (c.in_err-refuse.ensures ∙ c.first_barred.ensures))
 
 pub returns : goal.returns
-unfolding six_at
 returns c =
-    c.refusal-2.ensures ∙ sym (zero_barred _ _ _ c.first_barred.ensures _ (ap found_at c.in-Found.is))
+    c.refuse-2.ensures ∙ ap six_at c.first_error.ensures
+    ∙ sym (zero_alone _ _ (c.in_ok-refuse.ensures ∙ c.first_barred.ensures))

@@ -1,21 +1,16 @@
-use mathlib.Core.Path.{refl, sym, ap, ◌∙◌}
-use Rattle.definition.specs.Refusals.{is_barred}
-use Rattle.store_built_in.proofs.Searches.{barred_all, barred_hit, barred_next, barred_end}
+use mathlib.Core.Path.{◌≡◌}
+use mathlib.Core.Bool.{true, false}
 use borrow.Author.Rules.{rules}
+use borrow.Author.Tests.{tests}
+use Rattle.std.proofs.lemmas.Iterator.{first_from_Range}
+use Rattle.definition.specs.Refusals.{is_barred}
+use Rattle.store_built_in.proofs.Fails.{numbered_card}
+use Rattle.store_built_in.proofs.Searches.{barred_told}
 use Rattle.store_built_in.proofs.first_barred.Goals as goal
 
-pub loop-i-init : goal.loop-i-init
-loop-i-init c = (search rules, barred_all _)
-
-pub returns-then-is_barred : goal.returns-then-is_barred
-returns-then-is_barred c =
-    let told = c.is_barred.ensures ∙ ap is_barred c.kind_at.ensures in
-    sym (c.loop-i.invariant.1 ∙ barred_hit _ _ _ _ c.loop-i-test.true refl told c.if-is_barred.true)
-
-pub loop-i-preserved : goal.loop-i-preserved
-loop-i-preserved c =
-    let told = c.is_barred.ensures ∙ ap is_barred c.kind_at.ensures in
-    (search rules, c.loop-i.invariant.1 ∙ barred_next _ _ _ _ c.loop-i-test.true refl told c.if-is_barred.false)
-
 pub returns : goal.returns
-returns c = sym (c.loop-i.invariant.1 ∙ barred_end _ _ c.loop-i-test.false)
+returns c =
+    let ws = c.args.cards.now in
+    barred_told ws _
+    (first_from_Range _ _ _ _ (λ i. is_barred (numbered_card ws i).kind ≡ true) (λ i. is_barred (numbered_card ws i).kind ≡ false) c.find.ensures.ran
+    (λ x q k. search (rules, tests)) (λ x q k. search (rules, tests)))

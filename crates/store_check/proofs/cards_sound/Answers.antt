@@ -1,75 +1,50 @@
-use mathlib.Core.Path.{sym, ap, ◌∙◌}
+use mathlib.Core.Path.{sym, ◌∙◌}
 use native.Mathlib.Nat.{add-sub_cancel_left}
 use native.Mathlib.Omega.{arith}
 use Rattle.definition.specs.Store.{document_count}
-use Rattle.ast_check.specs.Checks.{check_option}
-use Rattle.store_check.proofs.Sound.{counts_held, rows_held}
-use Rattle.store_check.proofs.Cards.{cleared_none, cleared_next, cleared_all, faulty_here, fits_here}
+use Rattle.ast_check.proofs.Told.{refused_some, passed_none}
+use Rattle.store_reader.specs.Rows.{row_of}
+use Rattle.store_check.proofs.Sound.{rows_held}
+use Rattle.store_check.proofs.Cards.{cleared_none, cleared_all, room, cleared_row, faulty_row}
 use Rattle.store_check.proofs.cards_sound.Goals as goal
 
-pub loop-row-init : goal.loop-row-init
-unfolding document_count
-loop-row-init c =
-    let p = c.requires in
-    let k = counts_held _ p.counts in
-    (omega arith, k.few, p.long, k.cards, cleared_none _ _ (rows_held _ p.rows).counted)
+pub loop-document-init : goal.loop-document-init
+loop-document-init c = cleared_none _ _ (rows_held _ c.requires.rows).counted
 
 pub overflow_mul-start : goal.overflow_mul-start
 unfolding document_count
-overflow_mul-start c = omega (arith, c.loop-row.invariant, fits_here _ _ _ _ c.loop-row-test.true c.loop-row.invariant.4)
+overflow_mul-start c = omega (arith, room _ _ _ _ (row_of c.at-row.result) c.at-row.ensures c.loop-document-test.true c.loop-document.invariant c.requires)
 
 pub overflow_add-start : goal.overflow_add-start
 unfolding document_count
-overflow_add-start c = omega (arith, c.loop-row.invariant, fits_here _ _ _ _ c.loop-row-test.true c.loop-row.invariant.4)
-
-pub overflow_mul-end : goal.overflow_mul-end
-unfolding document_count
-overflow_mul-end c = omega (arith, c.loop-row.invariant, fits_here _ _ _ _ c.loop-row-test.true c.loop-row.invariant.4)
+overflow_add-start c = omega (arith, room _ _ _ _ (row_of c.at-row.result) c.at-row.ensures c.loop-document-test.true c.loop-document.invariant c.requires)
 
 pub overflow_add-end : goal.overflow_add-end
 unfolding document_count
-overflow_add-end c = omega (arith, c.loop-row.invariant, fits_here _ _ _ _ c.loop-row-test.true c.loop-row.invariant.4)
+overflow_add-end c = omega (arith, room _ _ _ _ (row_of c.at-row.result) c.at-row.ensures c.loop-document-test.true c.loop-document.invariant c.requires)
 
 pub offset_bounds-words-start : goal.offset_bounds-words-start
 unfolding document_count
-offset_bounds-words-start c = omega (arith, c.loop-row.invariant, fits_here _ _ _ _ c.loop-row-test.true c.loop-row.invariant.4)
-
-pub slice_bounds-check_cards-count : goal.slice_bounds-check_cards-count
-unfolding document_count
-slice_bounds-check_cards-count c = omega (arith, c.loop-row.invariant, fits_here _ _ _ _ c.loop-row-test.true c.loop-row.invariant.4)
+offset_bounds-words-start c = omega (arith, room _ _ _ _ (row_of c.at-row.result) c.at-row.ensures c.loop-document-test.true c.loop-document.invariant c.requires)
 
 pub slice_bounds-check_cards-end : goal.slice_bounds-check_cards-end
 unfolding document_count
-slice_bounds-check_cards-end c = omega (arith, c.loop-row.invariant, fits_here _ _ _ _ c.loop-row-test.true c.loop-row.invariant.4)
+slice_bounds-check_cards-end c =
+    omega (arith, c.requires.long, room _ _ _ _ (row_of c.at-row.result) c.at-row.ensures c.loop-document-test.true c.loop-document.invariant c.requires)
 
-pub returns-in_default : goal.returns-in_default
+pub returns-then-is_err : goal.returns-then-is_err
 unfolding document_count
-returns-in_default c =
-    let v = c.loop-row.invariant in
-    faulty_here _ _ _ _ c.loop-row-test.true v.4 v.2 v.3 _
-    (sym (simp add-sub_cancel_left at c.check_cards.ensures) ∙ ap check_option c.in_default.is)
+returns-then-is_err c =
+    let e = refused_some c.check_cards.result (sym c.is_err.ensures.value ∙ c.if-is_err.true) in
+    faulty_row _ _ _ _ (row_of c.at-row.result) c.at-row.ensures c.loop-document-test.true c.loop-document.invariant c.requires _
+    (sym (simp add-sub_cancel_left at c.check_cards.ensures) ∙ e.1)
 
-pub overflow_add-cards : goal.overflow_add-cards
+pub loop-document-preserved : goal.loop-document-preserved
 unfolding document_count
-overflow_add-cards c =
-    let v = c.loop-row.invariant in
-    omega (arith, v, fits_here _ _ _ _ c.loop-row-test.true v.4)
-
-pub overflow_add-row : goal.overflow_add-row
-overflow_add-row c = omega (arith, c.loop-row.invariant)
-
-pub loop-row-preserved : goal.loop-row-preserved
-unfolding document_count
-loop-row-preserved c =
-    let v = c.loop-row.invariant in (
-      omega (arith, c.loop-row-test.true),
-      v.1,
-      v.2,
-      v.3,
-      cleared_next _ _ _ _ c.loop-row-test.true v.4 v.2 v.3
-          (sym (simp add-sub_cancel_left at c.check_cards.ensures) ∙ ap check_option c.in-Sound.is),
-    )
+loop-document-preserved c =
+    cleared_row _ _ _ _ (row_of c.at-row.result) c.at-row.ensures c.loop-document-test.true c.loop-document.invariant c.requires
+    (sym (simp add-sub_cancel_left at c.check_cards.ensures) ∙ passed_none c.check_cards.result (sym c.is_err.ensures.value ∙ c.if-is_err.false))
 
 pub returns : goal.returns
 unfolding document_count
-returns c = cleared_all _ _ _ _ c.loop-row-test.false c.loop-row.invariant.4
+returns c = cleared_all _ _ _ _ c.loop-document-test.false c.loop-document.invariant

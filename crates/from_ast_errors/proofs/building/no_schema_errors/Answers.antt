@@ -1,47 +1,36 @@
+use mathlib.Core.Path.{sym, ◌∙◌, ap}
+use Rattle.definition.specs.Lists.{flat_map}
+use Rattle.from_ast_collisions.specs.ErrorsByCards.{schema_merge_errors}
+use Rattle.from_ast_collisions.specs.Views.{cards}
 use Rattle.from_ast_collisions.proofs.Push.{same_pushed, same_capacity}
 use Rattle.from_ast_collisions.proofs.Branches.{no_schema_adopted, no_schema_unmet, no_schema_met}
 use Rattle.from_ast_errors.proofs.building.no_schema_errors.Goals as goal
-
-pub merge_schema_extensions-requires : goal.merge_schema_extensions-requires
-merge_schema_extensions-requires c =
-    let e = c.args in (
-      c.requires.0,
-      same_capacity _ _ _
-          (no_schema_adopted e.text.now e.words.now e.rows.now e.headings.now e.adopt c.if-adopt.true)
-          c.requires.1,
-    )
-
-pub returns-then-adopt : goal.returns-then-adopt
-returns-then-adopt c =
-    let e = c.args in
-    same_pushed _ _ _ _ (no_schema_adopted e.text.now e.words.now e.rows.now e.headings.now e.adopt
-    c.if-adopt.true) c.merge_schema_extensions.ensures
+use Rattle.from_ast_errors.proofs.building.no_schema_errors.Goals.{else-not-adopt-via-then-not-adopt+else-is_bare, else-not-adopt-via-else-not-adopt}
 
 pub unmet_errors-requires : goal.unmet_errors-requires
-unmet_errors-requires c =
-    let e = c.args in
-    same_capacity _ _ _ (no_schema_unmet e.text.now e.words.now e.rows.now e.headings.now e.adopt
-    c.if-adopt.false _ c.is_bare.ensures c.if-is_bare.true) c.requires.1
+unmet_errors-requires c = same_capacity _ _ _ (no_schema_unmet _ _ _ _ _ c.if-not-adopt.true _ c.is_bare.ensures c.if-is_bare.true) c.requires.capacity
 
 pub returns-then-is_bare : goal.returns-then-is_bare
-returns-then-is_bare c =
-    let e = c.args in
-    same_pushed _ _ _ _ (no_schema_unmet e.text.now e.words.now e.rows.now e.headings.now e.adopt
-    c.if-adopt.false _ c.is_bare.ensures
-    c.if-is_bare.true) c.unmet_errors.ensures
+returns-then-is_bare c = same_pushed _ _ _ _ (no_schema_unmet _ _ _ _ _ c.if-not-adopt.true _ c.is_bare.ensures c.if-is_bare.true) c.unmet_errors.ensures
 
-pub merge_schema_extensions-requires-2 : goal.merge_schema_extensions-requires-2
-merge_schema_extensions-requires-2 c =
-    let e = c.args in (
-      c.requires.0,
-      same_capacity _ _ _
-          (no_schema_met e.text.now e.words.now e.rows.now e.headings.now e.adopt c.if-adopt.false _
-          c.is_bare.ensures c.if-is_bare.false) c.requires.1,
-    )
+pub merge_schema_extensions-requires-clause-capacity : goal.merge_schema_extensions-requires-clause-capacity
+merge_schema_extensions-requires-clause-capacity c =
+    let a = c.args in
+    same_capacity _ _ _ (elim c.else-not-adopt.branch [
+      | else-not-adopt-via-then-not-adopt+else-is_bare w ↦ no_schema_met a.index.now.collection.text.now a.index.now.collection.words.now a.schema.now.rows.now
+          a.index.now.headings.now a.adopt w.if-not-adopt.true _ w.is_bare.ensures w.if-is_bare.false
+      | else-not-adopt-via-else-not-adopt w ↦ no_schema_adopted a.index.now.collection.text.now a.index.now.collection.words.now a.schema.now.rows.now
+          a.index.now.headings.now a.adopt w.if-not-adopt.false
+    ]
+    ∙ ap (λ d. flat_map (schema_merge_errors (cards a.index.now.collection) a.schema.now.rows.now d) a.index.now.headings.now) (sym c.requires.is_absent)) c.requires.capacity
 
-pub returns : goal.returns
-returns c =
-    let e = c.args in
-    same_pushed _ _ _ _ (no_schema_met e.text.now e.words.now e.rows.now e.headings.now e.adopt
-    c.if-adopt.false _ c.is_bare.ensures
-    c.if-is_bare.false) c.merge_schema_extensions-2.ensures
+pub returns-else-not-adopt : goal.returns-else-not-adopt
+returns-else-not-adopt c =
+    let a = c.args in
+    same_pushed _ _ _ _ (elim c.else-not-adopt.branch [
+      | else-not-adopt-via-then-not-adopt+else-is_bare w ↦ no_schema_met a.index.now.collection.text.now a.index.now.collection.words.now a.schema.now.rows.now
+          a.index.now.headings.now a.adopt w.if-not-adopt.true _ w.is_bare.ensures w.if-is_bare.false
+      | else-not-adopt-via-else-not-adopt w ↦ no_schema_adopted a.index.now.collection.text.now a.index.now.collection.words.now a.schema.now.rows.now
+          a.index.now.headings.now a.adopt w.if-not-adopt.false
+    ]
+    ∙ ap (λ d. flat_map (schema_merge_errors (cards a.index.now.collection) a.schema.now.rows.now d) a.index.now.headings.now) (sym c.requires.is_absent)) c.merge_schema_extensions.ensures

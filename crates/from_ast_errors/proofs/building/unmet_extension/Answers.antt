@@ -1,23 +1,13 @@
 use mathlib.Core.Path.{sym, ◌∙◌}
-use mathlib.Core.List.{[]}
-use Rattle.from_ast_collisions.specs.Views.{card_view}
 use Rattle.from_ast_collisions.proofs.Push.{same_pushed, same_capacity, none_pushed}
 use Rattle.from_ast_collisions.proofs.Branches.{unmet_other, unmet_is}
 use Rattle.from_ast_errors.proofs.building.unmet_extension.Goals as goal
 
-pub returns-then-card_kind-ne-SCHEMA_EXTENSION : goal.returns-then-card_kind-ne-SCHEMA_EXTENSION
-returns-then-card_kind-ne-SCHEMA_EXTENSION c =
-    let e = c.args in
-    none_pushed _ _ (unmet_other (card_view [] e.words.now) e.heading (λ q. c.if-card_kind-ne-SCHEMA_EXTENSION.true (c.card_kind.ensures ∙ q)))
+pub push-requires : goal.push-requires
+push-requires c = same_capacity _ _ _ (unmet_is _ _ (sym c.kind.ensures ∙ c.if-kind-eq-SCHEMA_EXTENSION.true)) c.requires
 
-pub push_error-requires : goal.push_error-requires
-push_error-requires c =
-    let e = c.args in
-    same_capacity _ _ _ (unmet_is (card_view [] e.words.now) e.heading (sym c.card_kind.ensures ∙ c.if-card_kind-ne-SCHEMA_EXTENSION.false))
-    c.requires
+pub returns-then-kind-eq-SCHEMA_EXTENSION : goal.returns-then-kind-eq-SCHEMA_EXTENSION
+returns-then-kind-eq-SCHEMA_EXTENSION c = same_pushed _ _ _ _ (unmet_is _ _ (sym c.kind.ensures ∙ c.if-kind-eq-SCHEMA_EXTENSION.true)) c.push.ensures
 
-pub returns : goal.returns
-returns c =
-    let e = c.args in
-    same_pushed _ _ _ _ (unmet_is (card_view [] e.words.now) e.heading (sym c.card_kind.ensures
-    ∙ c.if-card_kind-ne-SCHEMA_EXTENSION.false)) c.push_error.ensures
+pub returns-else-kind-eq-SCHEMA_EXTENSION : goal.returns-else-kind-eq-SCHEMA_EXTENSION
+returns-else-kind-eq-SCHEMA_EXTENSION c = none_pushed _ _ (unmet_other _ _ (λ q. c.if-kind-eq-SCHEMA_EXTENSION.false (c.kind.ensures ∙ q)))

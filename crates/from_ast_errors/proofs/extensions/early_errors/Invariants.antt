@@ -1,13 +1,7 @@
-use Prim.Native.Nat.{◌-◌}
-use lib.ListN.{length}
 use Rattle.from_ast_collisions.specs.ErrorsByCards.{early_errors}
-use Rattle.from_ast_collisions.specs.Views.{view_of}
+use Rattle.from_ast_collisions.specs.Views.{view}
 use Rattle.from_ast_collisions.proofs.Push.{Turn}
 use Rattle.from_ast_errors.proofs.extensions.early_errors.Given as goal
 
-abbrev pub invariant-loop-i : goal.invariant-loop-i
-invariant-loop-i l =
-    Turn (early_errors (view_of l.text l.words l.owners) l.rows l.h) l.extensions l.initial.errors l.initial.t l.errors l.t l.i
-
-abbrev pub decreases-loop-i : goal.decreases-loop-i
-decreases-loop-i l = length l.extensions - l.i
+abbrev pub invariant-loop-card : goal.invariant-loop-card
+invariant-loop-card l = Turn (early_errors (view l.index) l.owner.rows.now l.owner.card) l.extensions l.initial.errors l.errors l.card-index

@@ -3,33 +3,24 @@ use borrow.Author.Tests.{eqb-true, eqb-false}
 use Rattle.from_ast_collisions.proofs.Push.{same_pushed, same_capacity, none_pushed}
 use Rattle.from_ast_collisions.proofs.Branches.{early_other_kind, early_other_owner, early_own}
 use Rattle.from_ast_errors.proofs.extensions.early_extension_errors.Goals as goal
-
-pub returns-then-not-is_extension_of : goal.returns-then-not-is_extension_of
-returns-then-not-is_extension_of c =
-    none_pushed _ _
-    (early_other_kind _ _ c.args.owners.now c.args.rows.now _ _ _ c.requires.1 c.requires.2 _ c.card_kind.ensures
-    (eqb-false _ _ (sym c.is_extension_of.ensures ∙ c.if-not-is_extension_of.true)))
-
-pub returns-then-word-h : goal.returns-then-word-h
-returns-then-word-h c =
-    none_pushed _ _
-    (early_other_owner _ _ c.args.owners.now c.args.rows.now _ _ _ c.requires.1 c.requires.2 _ c.card_kind.ensures
-    (eqb-true _ _ (sym c.is_extension_of.ensures ∙ c.if-not-is_extension_of.false)) _
-    c.word.ensures c.if-word-h.true)
+use Rattle.from_ast_errors.proofs.extensions.early_extension_errors.Goals.{else-is_extension_of-via-then-is_extension_of+else-word-owner, else-is_extension_of-via-else-is_extension_of}
 
 pub merge_errors-requires : goal.merge_errors-requires
-merge_errors-requires c = (
-  c.requires.0,
-  same_capacity _ _ _ (early_own _ _ c.args.owners.now c.args.rows.now _ _ _ c.requires.1 c.requires.2 _
-      c.card_kind.ensures
-      (eqb-true _ _ (sym c.is_extension_of.ensures ∙ c.if-not-is_extension_of.false)) _
-      c.word.ensures c.if-word-h.false) c.requires.3,
-)
+merge_errors-requires c =
+    same_capacity _ _ _ (early_own _ _ c.args.index.now.owners.now _ _ _ _ c.requires.own_kind c.requires.before _ c.kind.ensures
+    (eqb-true _ _ (sym c.is_extension_of.ensures ∙ c.if-is_extension_of.true)) _ c.word.ensures c.if-word-owner.true) c.requires.capacity
 
-pub returns : goal.returns
-returns c =
-    same_pushed _ _ _ _ (early_own _ _ c.args.owners.now c.args.rows.now _ _ _ c.requires.1 c.requires.2 _
-    c.card_kind.ensures
-    (eqb-true _ _ (sym c.is_extension_of.ensures
-    ∙ c.if-not-is_extension_of.false)) _ c.word.ensures
-    c.if-word-h.false) c.merge_errors.ensures
+pub returns-then-word-owner : goal.returns-then-word-owner
+returns-then-word-owner c =
+    same_pushed _ _ _ _ (early_own _ _ c.args.index.now.owners.now _ _ _ _ c.requires.own_kind c.requires.before _ c.kind.ensures
+    (eqb-true _ _ (sym c.is_extension_of.ensures ∙ c.if-is_extension_of.true)) _ c.word.ensures c.if-word-owner.true) c.merge_errors.ensures
+
+pub returns-else-is_extension_of : goal.returns-else-is_extension_of
+returns-else-is_extension_of c =
+    elim c.else-is_extension_of.branch [
+      | else-is_extension_of-via-then-is_extension_of+else-word-owner w ↦ none_pushed _ _ (early_other_owner _ _ c.args.index.now.owners.now _ _ _ _
+          c.requires.own_kind c.requires.before _ c.kind.ensures (eqb-true _ _ (sym c.is_extension_of.ensures ∙ w.if-is_extension_of.true)) _ w.word.ensures
+          w.if-word-owner.false)
+      | else-is_extension_of-via-else-is_extension_of w ↦ none_pushed _ _ (early_other_kind _ _ c.args.index.now.owners.now _ _ _ _ c.requires.own_kind
+          c.requires.before _ c.kind.ensures (eqb-false _ _ (sym c.is_extension_of.ensures ∙ w.if-is_extension_of.false)))
+    ]

@@ -1,21 +1,12 @@
 use Rattle.from_ast_collisions.proofs.Push.{same_pushed, same_capacity, none_pushed}
-use Rattle.from_ast_collisions.proofs.Branches.{extension_waits, extension_merged}
+use Rattle.from_ast_collisions.proofs.Branches.{extension_waits, schema_extended}
 use Rattle.from_ast_errors.proofs.extensions.schema_extension_errors.Goals as goal
 
-pub returns-then-h-schema : goal.returns-then-h-schema
-returns-then-h-schema c =
-    let e = c.args in
-    none_pushed _ _ (extension_waits _ e.rows.now e.schema e.h c.if-h-schema.true)
-
 pub merge_errors-requires : goal.merge_errors-requires
-merge_errors-requires c =
-    let e = c.args in (
-      record { hashed = c.requires.0; row = c.seek_row-from.ensures },
-      same_capacity _ _ _ (extension_merged _ e.rows.now e.schema e.h c.if-h-schema.false) c.requires.1,
-    )
+merge_errors-requires c = same_capacity _ _ _ (schema_extended _ c.args.schema.now c.requires.is_schema _ c.if-schema-h.true) c.requires.capacity
 
-pub returns : goal.returns
-returns c =
-    let e = c.args in
-    same_pushed _ _ _ _ (extension_merged _ e.rows.now e.schema e.h
-    c.if-h-schema.false) c.merge_errors.ensures
+pub returns-then-schema-h : goal.returns-then-schema-h
+returns-then-schema-h c = same_pushed _ _ _ _ (schema_extended _ c.args.schema.now c.requires.is_schema _ c.if-schema-h.true) c.merge_errors.ensures
+
+pub returns-else-schema-h : goal.returns-else-schema-h
+returns-else-schema-h c = none_pushed _ _ (extension_waits _ _ _ _ c.if-schema-h.false)

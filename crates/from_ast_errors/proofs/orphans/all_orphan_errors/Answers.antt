@@ -1,24 +1,16 @@
-use Rattle.from_ast_collisions.proofs.Push.{turn_first, turn_fits, turn_next, turn_last}
-use Rattle.from_ast_collisions.proofs.Branches.{held_at}
+use borrow.Author.Rules.{rules}
+use native.Mathlib.Omega.{arith}
+use mathlib.Core.Bool.{true}
 use Rattle.from_ast_collisions.specs.Views.{HeldExtension}
+use Rattle.from_ast_collisions.proofs.Push.{turn_next}
+use Rattle.from_ast_collisions.proofs.Branches.{held_at}
+use Rattle.from_ast_errors.proofs.Written.{orphans_held}
 use Rattle.from_ast_errors.proofs.orphans.all_orphan_errors.Goals as goal
 
-pub loop-i-init : goal.loop-i-init
-loop-i-init c = turn_first _ _ _ _ c.requires.3
+pub orphan_errors-requires-clause-held : goal.orphan_errors-requires-clause-held
+orphan_errors-requires-clause-held c =
+    let f = c.args.finished.now in
+    held_at (HeldExtension f.index.collection.words.now) f.index.orphans.now c.loop-g.g-index (orphans_held f.index f.store_sound true) (omega arith)
 
-pub orphan_errors-t-requires : goal.orphan_errors-t-requires
-orphan_errors-t-requires c =
-    let e = c.args in
-    let p = c.requires in
-    let a = c.loop-i in
-    let h = held_at (HeldExtension e.words.now) e.orphans.now a.i p.2 c.loop-i-test.true in
-    (p.0, h, p.1, turn_fits _ _ _ _ _ _ _ a.invariant c.loop-i-test.true)
-
-pub loop-i-preserved : goal.loop-i-preserved
-loop-i-preserved c =
-    turn_next _ _ _ _ _ _ _ c.loop-i.invariant
-    c.loop-i-test.true _ _ c.orphan_errors-t.auto.errors
-    c.orphan_errors-t.ensures
-
-pub returns : goal.returns
-returns c = turn_last _ _ _ _ _ _ _ c.loop-i.invariant c.loop-i-test.false
+pub loop-g-preserved : goal.loop-g-preserved
+loop-g-preserved c = search (rules, turn_next)

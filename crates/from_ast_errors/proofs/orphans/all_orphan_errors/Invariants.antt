@@ -1,13 +1,7 @@
-use Prim.Native.Nat.{◌-◌}
-use lib.ListN.{length}
-use Rattle.from_ast_collisions.proofs.Push.{Turn}
 use Rattle.from_ast_collisions.specs.ErrorsByCards.{orphan_errors_at}
-use Rattle.from_ast_collisions.specs.Views.{view_of}
+use Rattle.from_ast_collisions.specs.Views.{view}
+use Rattle.from_ast_collisions.proofs.Push.{Turn}
 use Rattle.from_ast_errors.proofs.orphans.all_orphan_errors.Given as goal
 
-abbrev pub invariant-loop-i : goal.invariant-loop-i
-invariant-loop-i l =
-    Turn (orphan_errors_at l.adopt (view_of l.text l.words l.owners) l.rows l.extensions) l.orphans l.initial.errors l.initial.t l.errors l.t l.i
-
-abbrev pub decreases-loop-i : goal.decreases-loop-i
-decreases-loop-i l = length l.orphans - l.i
+abbrev pub invariant-loop-g : goal.invariant-loop-g
+invariant-loop-g l = Turn (orphan_errors_at l.adopt (view l.finished.index) l.finished.rows.rows.now l.finished.index.extensions.now) l.finished.index.orphans.now l.initial.errors l.errors l.g-index

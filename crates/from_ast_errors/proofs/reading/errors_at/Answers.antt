@@ -1,116 +1,75 @@
 use native.Mathlib.Omega.{arith}
+use mathlib.Core.Path.{sym, ◌∙◌, ap}
+use Rattle.from_ast_collisions.specs.ErrorsByCards.{schema_errors_at, schema_extension_errors_at}
+use Rattle.from_ast_collisions.specs.Views.{cards}
 use Rattle.from_ast_collisions.proofs.Push.{same_pushed, same_capacity}
 use Rattle.from_ast_collisions.proofs.Branches.{at_executable, at_directive, at_schema, at_type, at_schema_extension, at_type_extension}
 use Rattle.from_ast_errors.proofs.reading.errors_at.Goals as goal
 
-pub push_error-requires : goal.push_error-requires
-push_error-requires c =
-    let e = c.args in
-    same_capacity _ _ _ (at_executable _ _ e.owners.now e.rows.now _ _ _ _ _ c.card_kind-kind.ensures c.if-kind-le-FRAGMENT_DEFINITION.true)
-    c.requires.6
+pub push-requires : goal.push-requires
+push-requires c =
+    same_capacity _ _ _ (at_executable _ _ c.args.finished.now.index.owners.now c.args.finished.now.rows.rows.now _ _ _ _ _ c.kind.ensures (omega arith))
+    c.requires.capacity
 
-pub returns-then-kind-le-FRAGMENT_DEFINITION : goal.returns-then-kind-le-FRAGMENT_DEFINITION
-returns-then-kind-le-FRAGMENT_DEFINITION c =
-    let e = c.args in
-    same_pushed _ _ _ _ (at_executable _ _ e.owners.now e.rows.now _ _ _ _ _ c.card_kind-kind.ensures
-    c.if-kind-le-FRAGMENT_DEFINITION.true) c.push_error.ensures
+pub returns-in-0-to-2 : goal.returns-in-0-to-2
+returns-in-0-to-2 c =
+    same_pushed _ _ _ _ (at_executable _ _ c.args.finished.now.index.owners.now c.args.finished.now.rows.rows.now _ _ _ _ _ c.kind.ensures (omega arith))
+    c.push.ensures
 
-pub directive_errors-requires : goal.directive_errors-requires
-directive_errors-requires c =
-    let e = c.args in
-    let p = c.requires in (
-      p.0.hashed,
-      p.1,
-      p.3,
-      same_capacity _ _ _ (at_directive _ _ e.owners.now e.rows.now _ _ _ _ _ c.card_kind-kind.ensures
-          c.if-kind-eq-DIRECTIVE_DEFINITION.true) p.6,
-    )
+pub directive_errors-requires-clause-capacity : goal.directive_errors-requires-clause-capacity
+directive_errors-requires-clause-capacity c =
+    same_capacity _ _ _ (at_directive _ _ c.args.finished.now.index.owners.now c.args.finished.now.rows.rows.now _ _ _ _ _ c.kind.ensures c.in-3.is)
+    c.requires.capacity
 
-pub returns-then-kind-eq-DIRECTIVE_DEFINITION : goal.returns-then-kind-eq-DIRECTIVE_DEFINITION
-returns-then-kind-eq-DIRECTIVE_DEFINITION c =
-    let e =
-    c.args in
-    same_pushed _ _ _ _
-    (at_directive _ _ e.owners.now e.rows.now _ _ _ _ _ c.card_kind-kind.ensures
-    c.if-kind-eq-DIRECTIVE_DEFINITION.true) c.directive_errors.ensures
+pub returns-in-3 : goal.returns-in-3
+returns-in-3 c =
+    same_pushed _ _ _ _ (at_directive _ _ c.args.finished.now.index.owners.now c.args.finished.now.rows.rows.now _ _ _ _ _ c.kind.ensures c.in-3.is)
+    c.directive_errors.ensures
 
-pub schema_errors-requires : goal.schema_errors-requires
-schema_errors-requires c =
-    let e = c.args in
-    let p = c.requires in (
-      p.0.hashed,
-      same_capacity _ _ _ (at_schema _ _ e.owners.now e.rows.now _ _ _ _ _ c.card_kind-kind.ensures
-          c.if-kind-eq-SCHEMA_DEFINITION.true) p.6,
-    )
+pub schema_errors-requires-clause-capacity : goal.schema_errors-requires-clause-capacity
+schema_errors-requires-clause-capacity c =
+    let f = c.args.finished.now in
+    same_capacity _ _ _ (at_schema _ _ c.args.finished.now.index.owners.now c.args.finished.now.rows.rows.now _ _ _ _ _ c.kind.ensures c.in-4.is
+    ∙ ap (λ r. schema_errors_at (cards f.index.collection) r c.args.schema.now.card c.args.before.now c.args.h) (sym c.requires.same_rows))
+    c.requires.capacity
 
-pub returns-then-kind-eq-SCHEMA_DEFINITION : goal.returns-then-kind-eq-SCHEMA_DEFINITION
-returns-then-kind-eq-SCHEMA_DEFINITION c =
-    let e =
-    c.args in
-    same_pushed _ _ _ _
-    (at_schema _ _ e.owners.now e.rows.now _ _ _ _ _ c.card_kind-kind.ensures
-    c.if-kind-eq-SCHEMA_DEFINITION.true) c.schema_errors.ensures
+pub returns-in-4 : goal.returns-in-4
+returns-in-4 c =
+    let f = c.args.finished.now in
+    same_pushed _ _ _ _ (at_schema _ _ c.args.finished.now.index.owners.now c.args.finished.now.rows.rows.now _ _ _ _ _ c.kind.ensures c.in-4.is
+    ∙ ap (λ r. schema_errors_at (cards f.index.collection) r c.args.schema.now.card c.args.before.now c.args.h) (sym c.requires.same_rows))
+    c.schema_errors.ensures
 
-pub type_errors-requires : goal.type_errors-requires
-type_errors-requires c =
-    let e = c.args in
-    let p = c.requires in (
-      p.0,
-      p.1,
-      omega (arith, p.2),
-      p.4,
-      p.5,
-      same_capacity _ _ _ (at_type _ _ e.owners.now e.rows.now _ _ _ _ _ c.card_kind-kind.ensures
-          (omega (arith, c.if-kind-eq-SCHEMA_DEFINITION.false, c.if-kind-eq-DIRECTIVE_DEFINITION.false, c.if-kind-le-FRAGMENT_DEFINITION.false))
-          c.if-kind-le-INPUT_OBJECT_TYPE_DEFINITION.true) p.6,
-    )
+pub type_errors-requires-clause-capacity : goal.type_errors-requires-clause-capacity
+type_errors-requires-clause-capacity c =
+    same_capacity _ _ _ (at_type _ _ c.args.finished.now.index.owners.now c.args.finished.now.rows.rows.now _ _ _ _ _ c.kind.ensures (omega arith) (omega arith))
+    c.requires.capacity
 
-pub returns-then-kind-le-INPUT_OBJECT_TYPE_DEFINITION : goal.returns-then-kind-le-INPUT_OBJECT_TYPE_DEFINITION
-returns-then-kind-le-INPUT_OBJECT_TYPE_DEFINITION c =
-    let e =
-    c.args in
-    same_pushed _ _ _ _
-    (at_type _ _ e.owners.now e.rows.now _ _ _ _ _ c.card_kind-kind.ensures
-    (omega (
-      arith,
-      c.if-kind-eq-SCHEMA_DEFINITION.false,
-      c.if-kind-eq-DIRECTIVE_DEFINITION.false,
-      c.if-kind-le-FRAGMENT_DEFINITION.false,
-    )) c.if-kind-le-INPUT_OBJECT_TYPE_DEFINITION.true) c.type_errors.ensures
+pub returns-in-0-to-10 : goal.returns-in-0-to-10
+returns-in-0-to-10 c =
+    same_pushed _ _ _ _ (at_type _ _ c.args.finished.now.index.owners.now c.args.finished.now.rows.rows.now _ _ _ _ _ c.kind.ensures (omega arith) (omega arith))
+    c.type_errors.ensures
 
-pub schema_extension_errors-requires : goal.schema_extension_errors-requires
-schema_extension_errors-requires c =
-    let e = c.args in
-    let p = c.requires in (
-      p.0.hashed,
-      same_capacity _ _ _ (at_schema_extension _ _ e.owners.now e.rows.now _ _ _ _ _
-          c.card_kind-kind.ensures c.if-kind-eq-SCHEMA_EXTENSION.true) p.6,
-    )
+pub schema_extension_errors-requires-clause-capacity : goal.schema_extension_errors-requires-clause-capacity
+schema_extension_errors-requires-clause-capacity c =
+    let f = c.args.finished.now in
+    same_capacity _ _ _ (at_schema_extension _ _ c.args.finished.now.index.owners.now c.args.finished.now.rows.rows.now _ _ _ _ _ c.kind.ensures c.in-11.is
+    ∙ ap (λ r. schema_extension_errors_at (cards f.index.collection) r c.args.schema.now.card c.args.h) (sym c.requires.same_rows))
+    c.requires.capacity
 
-pub returns-then-kind-eq-SCHEMA_EXTENSION : goal.returns-then-kind-eq-SCHEMA_EXTENSION
-returns-then-kind-eq-SCHEMA_EXTENSION c =
-    let e =
-    c.args in
-    same_pushed _ _ _ _ (at_schema_extension _ _ e.owners.now e.rows.now _ _ _ _ _
-    c.card_kind-kind.ensures
-    c.if-kind-eq-SCHEMA_EXTENSION.true) c.schema_extension_errors.ensures
+pub returns-in-11 : goal.returns-in-11
+returns-in-11 c =
+    let f = c.args.finished.now in
+    same_pushed _ _ _ _ (at_schema_extension _ _ c.args.finished.now.index.owners.now c.args.finished.now.rows.rows.now _ _ _ _ _ c.kind.ensures c.in-11.is
+    ∙ ap (λ r. schema_extension_errors_at (cards f.index.collection) r c.args.schema.now.card c.args.h) (sym c.requires.same_rows))
+    c.schema_extension_errors.ensures
 
-pub type_extension_errors-requires : goal.type_extension_errors-requires
-type_extension_errors-requires c =
-    let e = c.args in
-    let p = c.requires in (
-      p.0,
-      p.2,
-      same_capacity _ _ _
-          (at_type_extension _ _ e.owners.now e.rows.now _ _ _ _ _ c.card_kind-kind.ensures
-          (omega (arith, c.if-kind-eq-SCHEMA_EXTENSION.false, c.if-kind-le-INPUT_OBJECT_TYPE_DEFINITION.false))) p.6,
-    )
+pub type_extension_errors-requires-clause-capacity : goal.type_extension_errors-requires-clause-capacity
+type_extension_errors-requires-clause-capacity c =
+    same_capacity _ _ _ (at_type_extension _ _ c.args.finished.now.index.owners.now c.args.finished.now.rows.rows.now _ _ _ _ _ c.kind.ensures (omega arith))
+    c.requires.capacity
 
-pub returns : goal.returns
-returns c =
-    let e =
-    c.args in
-    same_pushed _ _ _ _ (at_type_extension _ _ e.owners.now e.rows.now _ _ _ _ _
-    c.card_kind-kind.ensures
-    (omega (arith, c.if-kind-eq-SCHEMA_EXTENSION.false, c.if-kind-le-INPUT_OBJECT_TYPE_DEFINITION.false)))
+pub returns-in_default : goal.returns-in_default
+returns-in_default c =
+    same_pushed _ _ _ _ (at_type_extension _ _ c.args.finished.now.index.owners.now c.args.finished.now.rows.rows.now _ _ _ _ _ c.kind.ensures (omega arith))
     c.type_extension_errors.ensures

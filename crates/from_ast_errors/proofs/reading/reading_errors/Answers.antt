@@ -1,59 +1,36 @@
-use Prim.Native.Nat.{◌≤◌, ◌<◌}
 use native.Mathlib.Omega.{arith}
-use native.Mathlib.Nat.{sub-zero}
-use mathlib.Core.Path.{◌∙◌, refl}
+use Prim.Native.Nat.{ℕ, ◌<◌, ◌≤◌}
 use Rattle.definition.specs.Store.{cards_used_of}
-use Rattle.definition.proofs.All.{all_to}
 use Rattle.store_reader.specs.Stored.{card_kind}
-use Rattle.from_ast_collisions.specs.Views.{view_of}
+use Rattle.definition.proofs.All.{all_to}
 use Rattle.from_ast_collisions.proofs.Push.{going_start, next_capacity, next_on, going_end}
 use Rattle.from_ast_collisions.proofs.Branches.{reading_next, reading_done, held_at, held_before}
+use Rattle.from_ast_errors.proofs.Written.{headings_held}
 use Rattle.from_ast_errors.proofs.reading.reading_errors.Goals as goal
 
 pub loop-k-init : goal.loop-k-init
-loop-k-init c = (
-  refl,
-  omega arith,
-  rw (c.no_errors-t.ensures, c.word-schema.ensures)
-      (going_start _ _ c.requires.4),
-)
+loop-k-init c = going_start _ _ c.requires.capacity
 
-pub errors_at-t-requires : goal.errors_at-t-requires
-errors_at-t-requires c =
-    let e = c.args in
-    let p = c.requires in
-    let a = c.loop-k in
-    let h = held_at (λ n. (n < cards_used_of e.words.now) × (card_kind e.words.now n ≤ 17)) e.headings.now a.k p.1
-    c.loop-k-test.true in
-    let held = all_to (λ n. (n < cards_used_of e.words.now) × (card_kind e.words.now n ≤ 17)) (λ n. n < cards_used_of e.words.now) (λ n q. q.0)
-    e.headings.now p.1 in
-    simp sub-zero (
-      p.0,
-      h.0,
-      h.1,
-      held_before (λ n. n < cards_used_of e.words.now) a.k e.headings.now held,
-      p.2,
-      p.3,
-      next_capacity _ _ _ _ _ _ (reading_next (view_of _ _ e.owners.now) e.rows.now
-          c.word-schema.result e.extensions.now e.headings.now a.k
-          c.loop-k-test.true) a.invariant.2,
-    )
+pub errors_at-requires-clause-heading : goal.errors_at-requires-clause-heading
+errors_at-requires-clause-heading c =
+    let f = c.args.finished.now in
+    (held_at (λ (n : ℕ). (n < cards_used_of f.index.collection.words.now) × (card_kind f.index.collection.words.now n ≤ 17)) f.index.headings.now c.loop-k.k
+    (headings_held f.index f.store_sound) (omega arith)).1
+
+pub errors_at-requires-clause-held : goal.errors_at-requires-clause-held
+errors_at-requires-clause-held c =
+    let f = c.args.finished.now in
+    held_before (λ (n : ℕ). n < cards_used_of f.index.collection.words.now) c.loop-k.k f.index.headings.now
+    (all_to (λ (n : ℕ). (n < cards_used_of f.index.collection.words.now) × (card_kind f.index.collection.words.now n ≤ 17))
+    (λ (n : ℕ). n < cards_used_of f.index.collection.words.now) (λ n q. q.0) f.index.headings.now (headings_held f.index f.store_sound))
+
+pub errors_at-requires-clause-capacity : goal.errors_at-requires-clause-capacity
+errors_at-requires-clause-capacity c =
+    next_capacity _ _ _ _ _ _ (reading_next _ _ _ _ _ c.loop-k.k (omega arith)) c.loop-k.invariant
 
 pub loop-k-preserved : goal.loop-k-preserved
 loop-k-preserved c =
-    let e =
-    c.args in
-    let a = c.loop-k in (
-      c.errors_at-t.auto.errors ∙ a.invariant.0,
-      omega arith,
-      next_on _ _ _ _ _ _ _ (reading_next (view_of _ _ e.owners.now) e.rows.now
-          c.word-schema.result e.extensions.now e.headings.now a.k
-          c.loop-k-test.true) (simp sub-zero at c.errors_at-t.ensures) a.invariant.2,
-    )
+    next_on _ _ _ _ _ _ _ (reading_next _ _ _ _ _ c.loop-k.k (omega arith)) c.errors_at.ensures c.loop-k.invariant
 
 pub returns : goal.returns
-returns c =
-    let e = c.args in
-    let a = c.loop-k in
-    rw (← c.word-schema.ensures) (going_end _ _ _ _ (reading_done (view_of _ _ e.owners.now) e.rows.now
-    c.word-schema.result e.extensions.now e.headings.now a.k c.loop-k-test.false) a.invariant.2)
+returns c = going_end _ _ _ _ (reading_done _ _ _ _ _ c.loop-k.k (omega arith)) c.loop-k.invariant

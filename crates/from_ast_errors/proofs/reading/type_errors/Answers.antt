@@ -1,73 +1,37 @@
-use native.Mathlib.Omega.{arith}
-use Rattle.from_ast_collisions.specs.Pushing.{ledger}
-use Rattle.from_ast_collisions.proofs.Push.{first_capacity, second_capacity, both_pushed, same_pushed, same_capacity}
-use Rattle.from_ast_collisions.proofs.Branches.{defined_again, defined_first}
-use Rattle.from_ast_collisions.proofs.Spans.{told_ascends, defined_spanned}
+use mathlib.Core.Path.{refl}
+use Rattle.from_ast_index.specs.Index.{own_extensions}
+use Rattle.from_ast_collisions.proofs.Spans.{defined_owned, told_ascends}
+use Rattle.from_ast_collisions.proofs.Push.{same_pushed, same_capacity, first_capacity, second_capacity, both_pushed}
+use Rattle.from_ast_collisions.proofs.Branches.{defined_again}
+use Rattle.from_ast_errors.proofs.Written.{extensions_ascend}
 use Rattle.from_ast_errors.proofs.reading.type_errors.Goals as goal
 
 pub redefinition_errors-requires : goal.redefinition_errors-requires
 redefinition_errors-requires c =
-    let e = c.args in
-    same_capacity _ _ _ (defined_again _ _ e.owners.now e.rows.now _ _ _ c.word.ensures c.if-word-h.true)
-    c.requires.5
+    same_capacity _ _ _ (defined_again _ _ c.args.finished.now.index.owners.now _ _ _ _ c.word.ensures c.if-word-h.true) c.requires.capacity
 
 pub returns-then-word-h : goal.returns-then-word-h
 returns-then-word-h c =
-    let e = c.args in
-    same_pushed _ _ _ _ (defined_again _ _ e.owners.now e.rows.now _ _ _
-    c.word.ensures c.if-word-h.true)
-    c.redefinition_errors.ensures
+    same_pushed _ _ _ _ (defined_again _ _ c.args.finished.now.index.owners.now _ _ _ _ c.word.ensures c.if-word-h.true) c.redefinition_errors.ensures
 
-pub row_at-from-requires : goal.row_at-from-requires
-row_at-from-requires c = (
-  c.requires.0.placed,
-  omega (
-    arith,
-    c.card_kind-kind.ensures,
-    c.requires.2,
-  ),
-)
+pub merge_errors-requires : goal.merge_errors-requires
+merge_errors-requires c =
+    let f = c.args.finished.now in
+    first_capacity _ c.args.errors.now _ _ _ (defined_owned c.args.finished.now.index _ c.owner-owner.result _ _ c.requires.stored c.word.ensures c.if-word-h.false _ c.kind.ensures
+    c.owner-owner.ensures.rows c.owner-owner.ensures.kind c.owner-owner.ensures.card
+    (own_extensions f.index.extensions.now f.index.starts.now f.index.ends.now c.args.h) refl) c.requires.capacity
 
-pub merge_errors-t-requires : goal.merge_errors-t-requires
-merge_errors-t-requires c =
-    let e = c.args in (
-      record {
-        hashed = c.requires.0.hashed;
-        row = c.row_at-from.ensures;
-      },
-      first_capacity _ (ledger e.errors.now e.t) _ _ _
-          (defined_first _ _ e.owners.now e.rows.now _ _ _ c.word.ensures
-          c.if-word-h.false _ c.card_kind-kind.ensures) c.requires.5,
-    )
+pub early_errors-requires-clause-ascending : goal.early_errors-requires-clause-ascending
+early_errors-requires-clause-ascending c =
+    let f = c.args.finished.now in
+    told_ascends _ _ _ _ _ c.own_extensions.ensures (extensions_ascend f.index f.store_sound)
 
-pub own_extensions-own-requires : goal.own_extensions-own-requires
-own_extensions-own-requires c =
-    let p =
-    c.requires in
-    (omega (arith, p.1, p.4.starts_length), omega (arith, p.1, p.4.ends_length))
-
-pub early_errors-requires : goal.early_errors-requires
-early_errors-requires c =
-    let e = c.args in
-    let p = c.requires in
-    let own = c.own_extensions-own.ensures in (
-      record { hashed = p.0.hashed; row = c.row_at-from.ensures },
-      c.card_kind-kind.ensures,
-      told_ascends e.extensions.now e.starts.now e.ends.now e.h _ own p.3,
-      second_capacity _ _ _ _ _ (defined_spanned _ _ e.owners.now e.rows.now _ e.starts.now
-          e.ends.now e.h p.4 p.1 _ c.word.ensures
-          c.if-word-h.false _
-          c.card_kind-kind.ensures _ own)
-          c.merge_errors-t.ensures p.5,
-    )
+pub early_errors-requires-clause-capacity : goal.early_errors-requires-clause-capacity
+early_errors-requires-clause-capacity c =
+    second_capacity _ _ _ _ _ (defined_owned c.args.finished.now.index _ c.owner-owner.result _ _ c.requires.stored c.word.ensures c.if-word-h.false _ c.kind.ensures
+    c.owner-owner.ensures.rows c.owner-owner.ensures.kind c.owner-owner.ensures.card _ c.own_extensions.ensures) c.merge_errors.ensures c.requires.capacity
 
 pub returns : goal.returns
 returns c =
-    let e = c.args in
-    let p = c.requires in
-    both_pushed _ _ _ _ _ (defined_spanned _ _ e.owners.now e.rows.now _ e.starts.now e.ends.now e.h p.4 p.1 _
-    c.word.ensures
-    c.if-word-h.false _
-    c.card_kind-kind.ensures _
-    c.own_extensions-own.ensures) _ c.merge_errors-t.ensures
-    c.early_errors.ensures
+    both_pushed _ _ _ _ _ (defined_owned c.args.finished.now.index _ c.owner-owner.result _ _ c.requires.stored c.word.ensures c.if-word-h.false _ c.kind.ensures
+    c.owner-owner.ensures.rows c.owner-owner.ensures.kind c.owner-owner.ensures.card _ c.own_extensions.ensures) _ c.merge_errors.ensures c.early_errors.ensures

@@ -1,55 +1,28 @@
-use Prim.Native.Nat.{◌<◌}
 use native.Mathlib.Omega.{arith}
-use mathlib.Core.Path.{sym, ◌∙◌, refl, ap}
-use Rattle.definition.specs.Store.{cards_used_of}
-use Rattle.from_ast_collisions.specs.Pushing.{ledger}
+use mathlib.Core.Path.{sym, ◌∙◌}
 use Rattle.from_ast_collisions.proofs.Push.{same_pushed, same_capacity, none_pushed}
-use Rattle.from_ast_collisions.proofs.Branches.{first_here, first_later, first_past, held_at, directive_found, directive_none}
+use Rattle.from_ast_collisions.proofs.Branches.{directive_found, directive_none, first_here, first_later, first_past}
 use Rattle.from_ast_errors.proofs.redefinitions.directive_errors.Goals as goal
 
-pub loop-i-init : goal.loop-i-init
-loop-i-init c = (omega arith, refl, refl, refl)
-
-pub collides-requires : goal.collides-requires
-collides-requires c =
-    let p = c.requires in (
-      p.0,
-      p.1,
-      held_at (λ n. n < cards_used_of c.args.words.now) c.args.before.now c.loop-i.i p.2
-          c.loop-i-test.true,
-    )
-
-pub push_error-requires : goal.push_error-requires
-push_error-requires c =
-    let e = c.args in
-    let a = c.loop-i in
-    rw a.invariant.1 (same_capacity _ _ _ (directive_found _ e.before.now e.h _ (a.invariant.3
-    ∙ first_here _ e.before.now a.i c.loop-i-test.true (sym c.collides.ensures
-    ∙ c.if-collides.true))) c.requires.3)
+pub push-requires : goal.push-requires
+push-requires c =
+    let a = c.loop-card in
+    rw a.invariant.0 (same_capacity _ _ _ (directive_found _ _ _ _ (a.invariant.1
+    ∙ first_here _ _ a.card-index (omega arith) (sym c.collides.ensures ∙ c.if-collides.true))) c.requires.capacity)
 
 pub returns-then-collides : goal.returns-then-collides
 returns-then-collides c =
-    let e = c.args in
-    let a = c.loop-i in
-    same_pushed _ _ _ _ (directive_found _ e.before.now e.h _ (a.invariant.3
-    ∙ first_here _ e.before.now a.i c.loop-i-test.true
-    (sym c.collides.ensures ∙ c.if-collides.true)))
-    (rw a.invariant.1 at c.push_error.ensures)
+    let a = c.loop-card in
+    same_pushed _ _ _ _ (directive_found _ _ _ _ (a.invariant.1
+    ∙ first_here _ _ a.card-index (omega arith) (sym c.collides.ensures ∙ c.if-collides.true)))
+    (rw a.invariant.0 at c.push.ensures)
 
-pub loop-i-preserved : goal.loop-i-preserved
-loop-i-preserved c =
-    let e = c.args in
-    let a = c.loop-i in (
-      omega arith,
-      a.invariant.1,
-      a.invariant.2,
-      a.invariant.3
-          ∙ first_later _ e.before.now a.i c.loop-i-test.true (sym c.collides.ensures ∙ c.if-collides.false),
-    )
+pub loop-card-preserved : goal.loop-card-preserved
+loop-card-preserved c =
+    let a = c.loop-card in
+    (a.invariant.0, a.invariant.1 ∙ first_later _ _ a.card-index (omega arith) (sym c.collides.ensures ∙ c.if-collides.false))
 
 pub returns : goal.returns
 returns c =
-    let e = c.args in
-    let a = c.loop-i in
-    ap (λ l. ledger l e.t) a.invariant.1
-    ∙ none_pushed _ _ (directive_none _ e.before.now e.h (a.invariant.3 ∙ first_past _ e.before.now a.i c.loop-i-test.false))
+    let a = c.loop-card in
+    a.invariant.0 ∙ none_pushed _ _ (directive_none _ _ _ (a.invariant.1 ∙ first_past _ _ a.card-index (omega arith)))

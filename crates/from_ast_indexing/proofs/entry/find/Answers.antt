@@ -1,39 +1,29 @@
-use Prim.Native.Nat.{◌<◌}
 use native.Mathlib.Omega.{arith}
-use mathlib.Core.Path.{sym, ◌∙◌, refl}
-use lib.ListN.{length}
+use mathlib.Core.Path.{sym, ap₂, ◌∙◌}
+use Rattle.definition.specs.Names.{same_name}
+use Rattle.from_ast_index.specs.Index.{same_cards}
 use Rattle.from_ast_indexing.proofs.EntrySearch.{search_length, search_hit, search_miss, search_end, search_differ}
 use Rattle.from_ast_indexing.proofs.entry.find.Goals as goal
-use Rattle.from_ast_indexing.proofs.entry.find.Goals.{else-hashes-i, then-hashes-i+else-same_names}
 
-pub loop-i-init : goal.loop-i-init
-loop-i-init c = (
-  omega arith,
-  search_length c.args.text.now c.args.words.now c.args.cards.now c.args.hashes.now c.args.card c.args.hash c.requires,
-  refl,
-)
-
-pub returns-then-same_names : goal.returns-then-same_names
-returns-then-same_names c =
+pub loop-i-preserved-then-hashes-i : goal.loop-i-preserved-then-hashes-i
+loop-i-preserved-then-hashes-i c =
     let l = c.loop-i in
-    sym (l.invariant.2 ∙ search_hit c.args.text.now c.args.words.now c.args.cards.now c.args.card l.i (omega arith)
-    (sym c.same_names.ensures ∙ c.if-same_names.true))
+    l.invariant ∙ search_miss c.args.collection.now.text.now c.args.collection.now.words.now c.args.cards.now c.args.card l.i (omega arith)
+    (search_differ c.args.collection.now.text.now c.args.collection.now.words.now c.args.cards.now c.args.hashes.now c.args.card _ c.requires.searched l.i (omega arith) c.if-hashes-i.true)
+
+pub returns-then-same : goal.returns-then-same
+unfolding same_cards
+returns-then-same c =
+    let l = c.loop-i in
+    let same = sym (ap₂ same_name c.name.ensures c.name-in-loop-i.ensures) ∙ sym c.same.ensures ∙ c.if-same.true in
+    sym (l.invariant ∙ search_hit c.args.collection.now.text.now c.args.collection.now.words.now c.args.cards.now c.args.card l.i (omega arith) same)
 
 pub loop-i-preserved : goal.loop-i-preserved
+unfolding same_cards
 loop-i-preserved c =
     let l = c.loop-i in
-    let h : l.i < length c.args.cards.now = omega arith in (
-      omega arith,
-      l.invariant.1,
-      l.invariant.2 ∙ (elim c.if-hashes-i.branch [
-        | then-hashes-i+else-same_names w ↦ search_miss c.args.text.now c.args.words.now c.args.cards.now c.args.card l.i h (sym w.same_names.ensures ∙ w.if-same_names.false)
-        | else-hashes-i w ↦ search_miss c.args.text.now c.args.words.now c.args.cards.now c.args.card l.i h
-            (search_differ c.args.text.now c.args.words.now c.args.cards.now c.args.hashes.now c.args.card c.args.hash c.requires
-            l.i h w.if-hashes-i.false)
-      ]),
-    )
+    let other = sym (ap₂ same_name c.name.ensures c.name-in-loop-i.ensures) ∙ sym c.same.ensures ∙ c.if-same.false in
+    l.invariant ∙ search_miss c.args.collection.now.text.now c.args.collection.now.words.now c.args.cards.now c.args.card l.i (omega arith) other
 
 pub returns : goal.returns
-returns c =
-    let l = c.loop-i in
-    sym (l.invariant.2 ∙ search_end c.args.text.now c.args.words.now c.args.cards.now c.args.card l.i (omega arith))
+returns c = sym (c.loop-i.invariant ∙ search_end c.args.collection.now.text.now c.args.collection.now.words.now c.args.cards.now c.args.card c.loop-i.i (omega (arith, search_length _ _ _ _ _ _ c.requires.searched)))

@@ -4,39 +4,23 @@ use Rattle.component.specs.RowsByCards.{standing_at}
 use Rattle.component.proofs.Turns.{standing_other, standing_found, standing_next, standing_end}
 use Rattle.from_ast_rows.proofs.directives.standing_directive.Goals as goal
 
-pub loop-i-init : goal.loop-i-init
-loop-i-init c = refl
+pub loop-other-init : goal.loop-other-init
+unfolding standing_at
+loop-other-init c = refl
 
-pub names_directive-requires : goal.names_directive-requires
-names_directive-requires c =
-    (c.requires.0, c.requires.2, c.requires.1.stored c.loop-i.i c.loop-i-test.true)
-
-pub loop-i-preserved-then-not-names_directive : goal.loop-i-preserved-then-not-names_directive
-loop-i-preserved-then-not-names_directive c = c.loop-i.invariant ∙ standing_other _ _ _ _ _ _ c.loop-i-test.true
-    (sym c.names_directive.ensures ∙ c.if-not-names_directive.true)
-
-pub overflow_cast-other : goal.overflow_cast-other
-overflow_cast-other c =
-    let n = c.requires.1.stored c.loop-i.i
-    c.loop-i-test.true in
-    let m = c.requires.0.cards_most in
-    omega arith
+pub loop-other-preserved-then-not-names_directive : goal.loop-other-preserved-then-not-names_directive
+loop-other-preserved-then-not-names_directive c =
+    c.loop-other.invariant ∙ standing_other c.args.index.now.collection.text.now _ c.args.card c.args.index.now.headings.now c.loop-other.other-index _ (omega arith) (sym c.names_directive.ensures ∙ c.if-not-names_directive.true)
 
 pub returns-then-first-other : goal.returns-then-first-other
-unfolding standing_at
 returns-then-first-other c =
-    let f = c.built_in_count-first.ensures in
     let named = sym c.names_directive.ensures ∙ c.if-not-names_directive.false in
-    sym (c.loop-i.invariant ∙ standing_found _ _ _ _ _ _ c.loop-i-test.true named
-    (omega (arith, c.if-first-other.true)))
+    sym (c.loop-other.invariant ∙ standing_found c.args.index.now.collection.text.now _ c.args.card c.args.index.now.headings.now c.loop-other.other-index _ (omega arith) named (omega arith))
 
-pub loop-i-preserved : goal.loop-i-preserved
-loop-i-preserved c =
-    let f = c.built_in_count-first.ensures in
+pub loop-other-preserved : goal.loop-other-preserved
+loop-other-preserved c =
     let named = sym c.names_directive.ensures ∙ c.if-not-names_directive.false in
-    c.loop-i.invariant ∙ standing_next _ _ _ _ _ _ c.loop-i-test.true named
-    (omega (arith, c.if-first-other.false))
+    c.loop-other.invariant ∙ standing_next c.args.index.now.collection.text.now _ c.args.card c.args.index.now.headings.now c.loop-other.other-index _ (omega arith) named (omega arith)
 
 pub returns : goal.returns
-unfolding standing_at
-returns c = sym (c.loop-i.invariant ∙ standing_end _ _ _ _ _ _ c.loop-i-test.false)
+returns c = sym (c.loop-other.invariant ∙ standing_end c.args.index.now.collection.text.now _ c.args.card c.args.index.now.headings.now c.loop-other.other-index _ (omega arith))

@@ -2,29 +2,34 @@ use mathlib.Core.Path.{refl, sym, ◌∙◌}
 use Rattle.definition.specs.Cards.{is_root}
 use Rattle.from_ast_rows.proofs.SchemaTurns.{some_first, some_second, some_third}
 use Rattle.from_ast_rows.proofs.root_operations.has_implicit_root_operation.Goals as goal
+use Rattle.from_ast_rows.proofs.root_operations.has_implicit_root_operation.Goals.{then-is_default_object, else-is_default_object}
+use Rattle.from_ast_index.proofs.Lists.{never}
 
--- One root operation after the other.
 pub is_default_object-requires : goal.is_default_object-requires
 unfolding is_root
 is_default_object-requires c = refl
 
-pub returns-then-is_default_object : goal.returns-then-is_default_object
-returns-then-is_default_object c = sym (some_first _ _ _ _ (sym c.is_default_object.ensures ∙ c.if-is_default_object.true))
-
-pub is_default_object-requires-2 : goal.is_default_object-requires-2
+pub is_default_object-requires-else-is_default_object : goal.is_default_object-requires-else-is_default_object
 unfolding is_root
-is_default_object-requires-2 c = refl
+is_default_object-requires-else-is_default_object c = refl
+
+pub is_default_object-requires-else-is_default_object-2 : goal.is_default_object-requires-else-is_default_object-2
+unfolding is_root
+is_default_object-requires-else-is_default_object-2 c = refl
 
 pub returns-then-is_default_object-2 : goal.returns-then-is_default_object-2
-returns-then-is_default_object-2 c = sym (some_second _ _ _ _ (sym c.is_default_object.ensures ∙ c.if-is_default_object.false)
-    (sym c.is_default_object-2.ensures ∙ c.if-is_default_object-2.true))
+returns-then-is_default_object-2 c = c.if-is_default_object-2.true ∙ sym (elim c.if-is_default_object.branch [
+  | then-is_default_object w ↦ some_first _ _ _ _ (sym c.is_default_object.ensures ∙ w.if-is_default_object.true)
+  | else-is_default_object w ↦
+      some_second _ _ _ _ (sym c.is_default_object.ensures ∙ w.if-is_default_object.false)
+      (sym w.is_default_object-else-is_default_object.ensures ∙ sym w.value-is ∙ c.if-is_default_object-2.true)
+])
 
-pub is_default_object-requires-3 : goal.is_default_object-requires-3
-unfolding is_root
-is_default_object-requires-3 c = refl
-
-pub returns : goal.returns
-returns c =
-    let first = sym c.is_default_object.ensures ∙ c.if-is_default_object.false in
-    let second = sym c.is_default_object-2.ensures ∙ c.if-is_default_object-2.false in
-    c.is_default_object-3.ensures ∙ sym (some_third _ _ _ _ first second)
+pub returns-else-is_default_object-2 : goal.returns-else-is_default_object-2
+returns-else-is_default_object-2 c = elim c.if-is_default_object.branch [
+  | then-is_default_object w ↦ absurd (never (sym w.if-is_default_object.true ∙ sym w.value-is ∙ c.if-is_default_object-2.false))
+  | else-is_default_object w ↦
+      c.is_default_object-else-is_default_object-2.ensures
+      ∙ sym (some_third _ _ _ _ (sym c.is_default_object.ensures ∙ w.if-is_default_object.false)
+      (sym w.is_default_object-else-is_default_object.ensures ∙ sym w.value-is ∙ c.if-is_default_object-2.false))
+]

@@ -1,4 +1,3 @@
--- Adopting and not adopting.
 use mathlib.Core.Path.{sym, ap, ◌∙◌}
 use mathlib.Core.Bool.{Bool, not}
 use Rattle.component.specs.RowsByCards.{is_implicit}
@@ -7,12 +6,12 @@ use Rattle.from_ast_rows.proofs.root_operations.is_implicit.Goals as goal
 
 pub returns-then-adopt : goal.returns-then-adopt
 returns-then-adopt c =
-    let e = c.args in
-    let adopted = ap (λ (b : Bool). is_implicit e.text.now e.words.now b e.headings.now) c.if-adopt.true in
+    let i = c.args.index.now in
+    let adopted = ap (λ (b : Bool). is_implicit i.collection.text.now i.collection.words.now b i.headings.now) c.if-adopt.true in
     ap not c.any_root.ensures ∙ sym (adopted ∙ implicit_adopting _ _ _)
 
 pub returns : goal.returns
 returns c =
-    let e = c.args in
-    let unadopted = ap (λ (b : Bool). is_implicit e.text.now e.words.now b e.headings.now) c.if-adopt.false in
+    let i = c.args.index.now in
+    let unadopted = ap (λ (b : Bool). is_implicit i.collection.text.now i.collection.words.now b i.headings.now) c.if-adopt.false in
     c.has_implicit_root_operation.ensures ∙ sym (unadopted ∙ implicit_unadopting _ _ _)

@@ -1,4 +1,3 @@
--- Each test is the one that the kinds have.
 use mathlib.Core.Path.{sym, ap, ◌∙◌}
 use mathlib.Core.Bool.{Bool}
 use Rattle.component.specs.RowsByCards.{is_type_kind}
@@ -7,10 +6,4 @@ use Rattle.from_ast_rows.proofs.root_operations.is_type_kind.Goals as goal
 
 pub returns-then-extending : goal.returns-then-extending
 returns-then-extending c =
-    let e = c.args in
-    c.is_type_extension.ensures ∙ extension_kind_lem e.kind ∙ ap (λ (b : Bool). is_type_kind b e.kind) (sym c.if-extending.true)
-
-pub returns : goal.returns
-returns c =
-    let e = c.args in
-    c.is_type.ensures ∙ ap (λ (b : Bool). is_type_kind b e.kind) (sym c.if-extending.false)
+    c.is_type_extension.ensures ∙ extension_kind_lem c.args.kind ∙ ap (λ (b : Bool). is_type_kind b c.args.kind) (sym c.if-extending.true)

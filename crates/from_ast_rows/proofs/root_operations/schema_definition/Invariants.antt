@@ -1,14 +1,11 @@
 use mathlib.Core.Path.{◌≡◌}
-use Prim.Native.Nat.{◌-◌}
-use lib.ListN.{length, drop}
+use lib.ListN.{drop}
 use Rattle.definition.specs.Lists.{find}
 use Rattle.component.specs.RowsByCards.{is_schema_card}
 use Rattle.from_ast_rows.proofs.root_operations.schema_definition.Given as goal
 
--- The loop's invariant: the first of all headings is the first of those left.
-abbrev pub invariant-loop-i : goal.invariant-loop-i
-invariant-loop-i l =
-    find (is_schema_card l.words) l.headings ≡ find (is_schema_card l.words) (drop l.i l.headings)
-
-abbrev pub decreases-loop-i : goal.decreases-loop-i
-decreases-loop-i l = length l.headings - l.i
+-- The first of all headings is the first of those left.
+abbrev pub invariant-loop-card : goal.invariant-loop-card
+invariant-loop-card l =
+    find (is_schema_card l.index.collection.words.now) l.index.headings.now
+    ≡ find (is_schema_card l.index.collection.words.now) (drop l.card-index l.index.headings.now)

@@ -1,17 +1,15 @@
 use mathlib.Core.Path.{◌≡◌}
-use Prim.Native.Nat.{◌-◌}
 use lib.ListN.{length, drop}
-use Rattle.component.specs.Pushed.{filled, pushed}
+use Rattle.component.specs.Pushed.{filled_of, pushed}
 use Rattle.component.specs.RowsByCards.{type_rows_at, types_rows_at}
 use Rattle.component.proofs.Pushing.{Left}
 use Rattle.from_ast_rows.proofs.types.push_defined_types.Given as goal
 
--- As push_types, each type with its part of the extensions.
-abbrev pub invariant-loop-i : goal.invariant-loop-i
-invariant-loop-i l =
-    (length l.mine ≡ length l.initial.mine)
-    × (length l.rows ≡ length l.initial.rows)
-    × Left (type_rows_at l.text l.words l.extensions) (drop l.i l.types) (filled l.rows l.next) (pushed (types_rows_at l.text l.words l.types l.extensions) (filled l.initial.rows l.initial.next))
-
-abbrev pub decreases-loop-i : goal.decreases-loop-i
-decreases-loop-i l = length l.types - l.i
+-- The types from `card` on are left.
+abbrev pub invariant-loop-card : goal.invariant-loop-card
+invariant-loop-card l = record {
+  same_slice : l.rows.words.ghost_name ≡ l.initial.rows.words.ghost_name;
+  same_length : length l.mine.words.now ≡ length l.initial.mine.words.now;
+  left : Left (type_rows_at l.index.collection.text.now l.index.collection.words.now l.index.extensions.now) (drop l.card-index l.index.types.now) (filled_of l.rows)
+      (pushed (types_rows_at l.index.collection.text.now l.index.collection.words.now l.index.types.now l.index.extensions.now) (filled_of l.initial.rows));
+}

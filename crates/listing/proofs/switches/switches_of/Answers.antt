@@ -1,17 +1,24 @@
-use mathlib.Core.Path.{sym, ◌∙◌}
-use Rattle.listing.proofs.Digits.{two_bytes, three_bytes, no_line_feed, other_length}
+use Rattle.std.proofs.Common.{◌∙◌, ◌-◌, length, drop, take, arith}
+use Rattle.std.proofs.Math.ListN.{length-drop}
+use Rattle.std.proofs.lemmas.List.{take_all}
+use Rattle.listing.proofs.Digits.{too_short, two_digits, with_line_feed, something_else}
 use Rattle.listing.proofs.switches.switches_of.Goals as goal
+use Rattle.listing.proofs.switches.switches_of.Goals.{then-is_empty-via-then-is_empty, then-is_empty-via-else-is_empty+then-eq}
 
-pub returns-then-bytes-eq2 : goal.returns-then-bytes-eq2
-returns-then-bytes-eq2 c = c.adopt_of.ensures ∙ sym (two_bytes c.args.bytes.now c.if-bytes-eq2.true)
+pub returns-in_default : goal.returns-in_default
+returns-in_default c = too_short c.args.bytes.now c.in_default.len_below
 
-pub returns-then-bytes-ne3 : goal.returns-then-bytes-ne3
-returns-then-bytes-ne3 c = sym (other_length c.args.bytes.now c.if-bytes-eq2.false c.if-bytes-ne3.true)
-
-pub returns-then-bytes-ne10 : goal.returns-then-bytes-ne10
-returns-then-bytes-ne10 c = sym (no_line_feed c.args.bytes.now c.if-bytes-ne3.false c.if-bytes-ne10.true)
+pub returns-then-is_empty : goal.returns-then-is_empty
+returns-then-is_empty c =
+    let s = c.args.bytes.now in
+    let e = take_all (length s - 2) (drop 2 s) (simp length-drop (omega arith)) in
+    c.both.ensures ∙ elim c.then-is_empty.branch [
+      | then-is_empty-via-then-is_empty w ↦ two_digits s (take (length s - 2) (drop 2 s)) c.in-len2-up.len_at_least e w.if-is_empty.ensures
+      | then-is_empty-via-else-is_empty+then-eq w ↦ with_line_feed s (take (length s - 2) (drop 2 s)) w.as_slice.result.now c.in-len2-up.len_at_least e w.as_slice.ensures w.if-eq.ensures
+    ]
 
 pub returns : goal.returns
 returns c =
-    c.adopt_of-2.ensures ∙ sym (three_bytes c.args.bytes.now
-    c.if-bytes-ne3.false c.if-bytes-ne10.false)
+    let s = c.args.bytes.now in
+    let e = take_all (length s - 2) (drop 2 s) (simp length-drop (omega arith)) in
+    something_else s (take (length s - 2) (drop 2 s)) c.as_slice.result.now c.in-len2-up.len_at_least e c.as_slice.ensures c.if-is_empty.ensures c.if-eq.ensures

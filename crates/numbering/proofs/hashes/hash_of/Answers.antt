@@ -1,18 +1,15 @@
-use native.Mathlib.Omega.{arith}
 use mathlib.Core.Path.{sym, ◌∙◌}
-use Rattle.numbering.proofs.HashLaws.{hash_start, hash_turn, hash_end}
+use Prim.Native.Nat.{◌*◌}
+use Rattle.numbering.proofs.HashLaws.{hash_start, hash_turn, hash_end, wraps}
 use Rattle.numbering.proofs.hashes.hash_of.Goals as goal
 
-pub loop-i-init : goal.loop-i-init
-loop-i-init c = (omega arith, omega arith, hash_start c.args.name.now)
+pub loop-byte-init : goal.loop-byte-init
+loop-byte-init c = hash_start c.args.name.now
 
-pub loop-i-preserved : goal.loop-i-preserved
-loop-i-preserved c = (
-  omega arith,
-  omega arith,
-  c.loop-i.invariant.2 ∙ hash_turn c.loop-i.hash c.args.name.now
-      c.loop-i.i c.loop-i-test.true,
-)
+pub loop-byte-preserved : goal.loop-byte-preserved
+loop-byte-preserved c =
+    let l = c.loop-byte in
+    rw (wraps (l.hash * 16777619) c.from.result, c.from.ensures) (l.invariant ∙ hash_turn l.hash c.args.name.now l.byte-index c.loop-byte-test.true)
 
 pub returns : goal.returns
-returns c = sym (c.loop-i.invariant.2 ∙ hash_end c.loop-i.hash c.args.name.now c.loop-i.i c.loop-i-test.false)
+returns c = let l = c.loop-byte in sym (l.invariant ∙ hash_end l.hash c.args.name.now l.byte-index c.loop-byte-test.false)

@@ -1,12 +1,8 @@
-use Prim.Native.Nat.{◌≤◌, ◌<◌, ◌-◌}
 use mathlib.Core.Path.{◌≡◌}
-use lib.ListN.{length, drop}
+use lib.ListN.{drop}
 use Rattle.numbering.specs.Hashes.{hash_of, hash_from}
 use Rattle.numbering.proofs.hashes.hash_of.Given as goal
 
--- The loop's invariant: the bytes from `i` on turn what was made so far into the hash of the whole.
-abbrev pub invariant-loop-i : goal.invariant-loop-i
-invariant-loop-i l = (l.i ≤ length l.name) × (l.hash < 4294967296) × (hash_of l.name ≡ hash_from l.hash (drop l.i l.name))
-
-abbrev pub decreases-loop-i : goal.decreases-loop-i
-decreases-loop-i l = length l.name - l.i
+-- What was made so far turns into the hash of the whole by the bytes that are left.
+abbrev pub invariant-loop-byte : goal.invariant-loop-byte
+invariant-loop-byte l = hash_of l.name ≡ hash_from l.hash (drop l.byte-index l.name)

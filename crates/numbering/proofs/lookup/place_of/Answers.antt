@@ -1,21 +1,14 @@
-use Prim.Native.Nat.{◌+◌, ◌-◌, ◌/◌}
-use native.Mathlib.Omega.{arith}
-use Rattle.numbering.proofs.LookupLaws.{begins_here, low_moved}
+use borrow.Author.Rules.{rules}
+use Rattle.std.proofs.lemmas.Fn.{always_returns_same}
+use Rattle.numbering.specs.Named.{named, count}
+use Rattle.numbering.specs.Lookup.{is_earlier}
+use Rattle.numbering.proofs.LookupLaws.{order_parted, begins_at}
 use Rattle.numbering.proofs.lookup.place_of.Goals as goal
-
-pub loop-low-preserved-then-is_earlier : goal.loop-low-preserved-then-is_earlier
-loop-low-preserved-then-is_earlier c =
-    let l = c.loop-low in
-    let h = c.loop-low-test.true in (
-      omega (arith, h),
-      l.invariant.1,
-      low_moved c.args.text.now c.args.cards.now c.args.hashes.now c.args.order.now c.args.name.now c.args.hash
-          (l.low + (l.high - l.low) / 2) (c.is_earlier.ensures.0 c.if-is_earlier.true),
-      l.invariant.3,
-    )
 
 pub returns : goal.returns
 returns c =
-    let l = c.loop-low in
-    begins_here c.args.text.now c.args.cards.now c.args.hashes.now c.args.order.now c.args.name.now c.args.hash l.low l.high
-    l.invariant.1 l.invariant.2 l.invariant.3 (omega (arith, l.invariant.0, c.loop-low-test.false))
+    let e = c.args.hashed in
+    let q = c.args.sought in
+    let parted = order_parted (named e.names) (count e.names) e.hashes.now c.args.order.now q.name.now q.hash c.requires.0 c.requires.1 in
+    begins_at (named e.names) (count e.names) e.hashes.now c.args.order.now q.name.now q.hash c.requires.0 c.requires.1 c.partition_point.result c.partition_point.ensures.bound
+    (c.partition_point.ensures.partitioned (is_earlier (named e.names) e.hashes.now q.name.now q.hash) (always_returns_same _ _ _ (λ a r f k. search rules)) parted)

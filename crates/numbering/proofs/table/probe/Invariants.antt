@@ -1,11 +1,7 @@
-use Prim.Native.Nat.{ℕ, ◌+◌, ◌≤◌, ◌<◌, ◌-◌}
-use Rattle.numbering.specs.Numbers.{name_in}
-use Rattle.numbering.specs.Table.{most_probes, Other}
+use Prim.Native.Nat.{ℕ, ◌+◌, ◌<◌}
+use Rattle.numbering.specs.Named.{named}
+use Rattle.numbering.specs.Table.{Other}
 use Rattle.numbering.proofs.table.probe.Given as goal
 
 abbrev pub invariant-loop-d : goal.invariant-loop-d
-invariant-loop-d l =
-    (l.d ≤ most_probes) × ((e : ℕ) → e < l.d → Other (name_in l.text l.cards) l.table (name_in l.text l.cards l.card) (l.start + e))
-
-abbrev pub decreases-loop-d : goal.decreases-loop-d
-decreases-loop-d l = most_probes - l.d
+invariant-loop-d l = (e : ℕ) → e < l.d → Other (named l.hashed.names) l.table l.sought.name.now (l.start + e)

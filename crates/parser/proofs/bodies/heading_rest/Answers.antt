@@ -8,7 +8,7 @@ unfolding rest_of
 returns-then-kind-le-DIRECTIVE_DEFINITION c =
     let a = c.args in
     let e = c.directive_rest in
-    rw (le-leb a.kind 3 c.if-kind-le-DIRECTIVE_DEFINITION.true) (no_cards a.text.now directive_rest a.cards.now e.ensures)
+    rw (le-leb a.kind 3 c.if-kind-le-DIRECTIVE_DEFINITION.true) (no_cards a.c.text.now directive_rest a.cards.now e.ensures)
 
 pub returns-then-kind-le-INPUT_OBJECT_TYPE_DEFINITION : goal.returns-then-kind-le-INPUT_OBJECT_TYPE_DEFINITION
 unfolding rest_of

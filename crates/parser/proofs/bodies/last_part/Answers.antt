@@ -1,3 +1,4 @@
+use mathlib.Core.Path.{refl}
 use mathlib.Core.List.{[], ◌∷◌}
 use native.Mathlib.Omega.{arith}
 use borrow.Author.Tests.{le-leb, lt-leb}
@@ -11,14 +12,14 @@ pub returns-then-kind-le-SCHEMA_DEFINITION : goal.returns-then-kind-le-SCHEMA_DE
 unfolding last_of
 returns-then-kind-le-SCHEMA_DEFINITION c =
     let e = c.roots in
-    rw (le-leb c.args.kind 4 c.if-kind-le-SCHEMA_DEFINITION.true) (may_list c.args.text.now (part Roots ∷ []) e.result e.ensures)
+    rw (le-leb c.args.kind 4 c.if-kind-le-SCHEMA_DEFINITION.true) (may_list c.args.c.text.now (part Roots ∷ []) e.result e.ensures)
 
 pub returns-then-kind-le-SCALAR_TYPE_DEFINITION : goal.returns-then-kind-le-SCALAR_TYPE_DEFINITION
 unfolding last_of
 returns-then-kind-le-SCALAR_TYPE_DEFINITION c =
     let a = c.args in
     rw (lt-leb a.kind 4 c.if-kind-le-SCHEMA_DEFINITION.false, le-leb a.kind 5 c.if-kind-le-SCALAR_TYPE_DEFINITION.true)
-    (no_cards a.text.now [] a.cards.now (reads_none a.text.now 0 a.c, (c.requires.0, omega arith)))
+    (no_cards a.c.text.now [] a.cards.now (reads_none a.c.text.now 0 a.c, (refl, omega arith)))
 
 pub returns-then-kind-le-INTERFACE_TYPE_DEFINITION : goal.returns-then-kind-le-INTERFACE_TYPE_DEFINITION
 unfolding last_of

@@ -12,7 +12,7 @@ use Rattle.parser.proofs.bodies.optional_roots.Goals as goal
 pub returns-then-c-eq-BRACE_OPENS : goal.returns-then-c-eq-BRACE_OPENS
 unfolding rule has first_set_of first nullable within
 returns-then-c-eq-BRACE_OPENS c =
-    let text = c.args.text.now in
+    let text = c.args.c.text.now in
     let e = c.roots in
     chosen text Roots? (part Roots ∷ []) 11 here refl (omega arith) c.if-c-eq-BRACE_OPENS.true (may_list text (part Roots ∷ []) e.result e.ensures)
 
@@ -20,4 +20,4 @@ pub returns : goal.returns
 unfolding rule first
 returns c =
     let a = c.args in
-    no_cards a.text.now (part Roots? ∷ []) a.cards.now (not_there Roots? 11 (there here) refl c.if-c-eq-BRACE_OPENS.false c.requires.0)
+    no_cards a.c.text.now (part Roots? ∷ []) a.cards.now (not_there Roots? 11 (there here) refl c.if-c-eq-BRACE_OPENS.false refl)

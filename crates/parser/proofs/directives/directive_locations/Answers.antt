@@ -1,41 +1,34 @@
-use mathlib.Core.Path.{refl}
+use mathlib.Core.Path.{refl, ◌∙◌}
 use native.Mathlib.Omega.{arith}
 use Rattle.definition.specs.Lists.{here, there}
 use Rattle.definition.specs.Grammar.{rule, Bar?}
 use Rattle.definition.specs.GrammarSets.{first}
-use Rattle.parser_values.proofs.Readers.{refused, at_start, optional, on, ends}
+use Rattle.parser_values.proofs.Readers.{handed, lies, at_start, optional, on, ends, may_in, step_falls}
 use Rattle.parser.specs.Symbols.{locations}
 use Rattle.parser.proofs.Locations.{rest, refuses, is_last, follows}
 use Rattle.parser.proofs.directives.directive_locations.Goals as goal
 
 pub loop-j-init : goal.loop-j-init
-loop-j-init c = at_start rest c.take_optional-k.ensures.1
+loop-j-init c = at_start rest refl
 
-pub take-one-requires : goal.take-one-requires
-take-one-requires c = (c.loop-j.invariant.1, omega arith)
-
-pub returns-in_default : goal.returns-in_default
+pub returns-in_err-j : goal.returns-in_err-j
 unfolding rule first
-returns-in_default c =
-    let e = c.take-one in
-    let led = on rest refl (at_start locations c.requires) (optional 0 Bar? (omega arith) (here, there here, refl) c.take_optional-k.ensures) in
-    ends led (refuses c.loop-j.invariant e.ensures (refused e.result c.in_default.not-At))
+returns-in_err-j c =
+    let led = on rest (at_start locations refl) (optional 0 Bar? (omega arith) (here, there here, refl) c.take_optional-k.ensures) in
+    rw (handed _ _ c.from_residual.ensures) (ends led (may_in led.1 (refuses c.loop-j.invariant c.in_err-j.ensures)))
 
 pub returns-then-j-ne-BAR : goal.returns-then-j-ne-BAR
 unfolding rule first
 returns-then-j-ne-BAR c =
-    let led = on rest refl (at_start locations c.requires) (optional 0 Bar? (omega arith) (here, there here, refl) c.take_optional-k.ensures) in
-    ends led (is_last c.loop-j.invariant c.take-one.ensures c.in-At.is c.if-j-ne-BAR.true)
-
-pub next_token-k-requires : goal.next_token-k-requires
-next_token-k-requires c =
-    let m = rw c.in-At.is at c.take-one.ensures.1 in
-    (m.0.2, omega (arith, m.0))
+    let led = on rest (at_start locations refl) (optional 0 Bar? (omega arith) (here, there here, refl) c.take_optional-k.ensures) in
+    ends led (may_in led.1 (is_last c.loop-j.invariant c.in_ok-j.ensures c.if-j-ne-BAR.true))
 
 pub loop-j-smaller : goal.loop-j-smaller
 loop-j-smaller c =
-    let m = rw c.in-At.is at c.take-one.ensures.1 in
-    omega (arith, m.0.0, m.0.1, m.0.2, m.1, c.next_token-k.ensures.2)
+    let m = c.in_ok-j.ensures.1 in
+    let n = c.next-k.ensures in
+    let p = lies c.in_ok-j.j refl in
+    step_falls c.take_optional-k.result.text.now c.loop-j.k c.next-k.result c.loop-j.invariant.1 (n.1 ∙ m.0, omega (arith, m.1, n.2, p.0, p.1))
 
 pub loop-j-preserved : goal.loop-j-preserved
-loop-j-preserved c = follows c.loop-j.invariant c.take-one.ensures c.in-At.is c.if-j-ne-BAR.false c.next_token-k.ensures
+loop-j-preserved c = follows c.loop-j.invariant c.in_ok-j.ensures c.if-j-ne-BAR.false c.next-k.ensures

@@ -5,7 +5,7 @@ use Rattle.parser.proofs.Locations.{rest}
 use Rattle.parser.proofs.directives.directive_locations.Given as goal
 
 abbrev pub invariant-loop-j : goal.invariant-loop-j
-invariant-loop-j l = Mid rest l.text l.initial.k 0 rest l.k
+invariant-loop-j l = Mid rest l.initial.k.text.now l.initial.k 0 rest l.k
 
 abbrev pub decreases-loop-j : goal.decreases-loop-j
-decreases-loop-j l = length l.text - l.k.last
+decreases-loop-j l = length l.initial.k.text.now - l.k.last

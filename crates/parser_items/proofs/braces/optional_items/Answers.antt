@@ -32,12 +32,12 @@ pub returns-then-c-ne-BRACE_OPENS : goal.returns-then-c-ne-BRACE_OPENS
 returns-then-c-ne-BRACE_OPENS c =
     let a = c.args in
     let t = either a.list in
-    let text = a.text.now in
-    no_cards text (part (optional_of a.list) ∷ []) a.cards.now (not_there (optional_of a.list) 11 t.absent t.opener c.if-c-ne-BRACE_OPENS.true c.requires.0)
+    let text = a.c.text.now in
+    no_cards text (part (optional_of a.list) ∷ []) a.cards.now (not_there (optional_of a.list) 11 t.absent t.opener c.if-c-ne-BRACE_OPENS.true refl)
 
 pub returns : goal.returns
 returns c =
     let a = c.args in
     let t = either a.list in
-    chosen a.text.now (optional_of a.list) (part (list_of a.list) ∷ []) 11 t.standing t.begins (omega arith)
-    c.if-c-ne-BRACE_OPENS.false (may_list a.text.now (part (list_of a.list) ∷ []) c.items.result c.items.ensures)
+    chosen a.c.text.now (optional_of a.list) (part (list_of a.list) ∷ []) 11 t.standing t.begins (omega arith)
+    c.if-c-ne-BRACE_OPENS.false (may_list a.c.text.now (part (list_of a.list) ∷ []) c.items.result c.items.ensures)

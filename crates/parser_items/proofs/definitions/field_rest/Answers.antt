@@ -1,72 +1,40 @@
-use mathlib.Core.Path.{◌≡◌}
-use mathlib.Core.List.{List, [], ◌∷◌}
-use Prim.Native.Nat.{ℕ}
-use native.Mathlib.Omega.{arith}
-use lib.ListN.{length}
+use mathlib.Core.Path.{refl}
+use mathlib.Core.List.{[], ◌∷◌}
+use Rattle.std.specs.Prelude.{Ok, Err}
 use Rattle.definition.specs.Grammar.{part, colon, ArgumentDefinitions?, TypeReference, Directive*}
-use Rattle.parser_lexer.specs.Ahead.{Lies}
-use Rattle.parser_lexer.specs.declared.Cursor.{Cursor}
-use Rattle.parser_values.specs.declared.End.{End}
-use Rattle.parser_values.specs.declared.End.TheVariants.{At}
-use Rattle.parser_values.proofs.Readers.{May, Must, Flat, Mid, refused, may, at_start, on, ends, fails}
+use Rattle.parser_lexer.specs.declared.cursor.Cursor.{Cursor}
+use Rattle.parser_values.specs.Reads.{May, Must, Flat}
+use Rattle.parser_values.proofs.Readers.{Mid, handed, may, may_in, at_start, on, ends, fails}
 use Rattle.parser_items.specs.Definitions.{field_rest}
 use Rattle.parser_items.proofs.Items.{taken}
 use Rattle.parser_items.proofs.definitions.field_rest.Goals as goal
 
-module _ (text : List ℕ) {b : Cursor} (l : Lies (length text) b) where
-  at-arguments : Mid field_rest text b 0 field_rest b
-  at-arguments = at_start field_rest l
+module _ {b : Cursor} where
+  at-arguments : Mid field_rest b.text.now b 0 field_rest b
+  at-arguments = at_start field_rest refl
 
-  module _ {d : End} {k : Cursor} (q : d ≡ At k) (f : May (part ArgumentDefinitions? ∷ []) text b 0 d) where
-    at-colon : Mid field_rest text b 0 (colon ∷ part TypeReference ∷ part Directive* ∷ []) k
-    at-colon = on _ q at-arguments f
+  module _ {k : Cursor} (f : May (part ArgumentDefinitions? ∷ []) b.text.now b 0 (Ok k)) where
+    at-colon : Mid field_rest b.text.now b 0 (colon ∷ part TypeReference ∷ part Directive* ∷ []) k
+    at-colon = on _ at-arguments f
 
-    module _ {e : End} {j : Cursor} (r : e ≡ At j) (g : Flat (colon ∷ []) text k e) where
-      at_type : Mid field_rest text b 0 (part TypeReference ∷ part Directive* ∷ []) j
-      at_type = on _ r at-colon (taken text (colon ∷ []) e g)
+    module _ {j : Cursor} (g : Flat (colon ∷ []) k.text.now k (Ok j)) where
+      at_type : Mid field_rest b.text.now b 0 (part TypeReference ∷ part Directive* ∷ []) j
+      at_type = on _ at-colon (taken b.text.now (colon ∷ []) (Ok j) g)
 
-      at-directives : (o : End) {i : Cursor} → o ≡ At i → Must (part TypeReference ∷ []) text j 0 o → Mid field_rest text b 0 (part Directive* ∷ []) i
-      at-directives o s h = on _ s at_type (may h)
+      at-directives : {i : Cursor} → Must (part TypeReference ∷ []) j.text.now j 0 (Ok i) → Mid field_rest b.text.now b 0 (part Directive* ∷ []) i
+      at-directives h = on _ at_type (may h)
 
-pub returns-in_default : goal.returns-in_default
-returns-in_default c =
-    let text = c.args.text.now in
-    let e = c.argument_definitions-given in
-    fails _ (refused e.result c.in_default.not-At) (at-arguments text c.requires) e.ensures
+pub returns-in_err-k : goal.returns-in_err-k
+returns-in_err-k c = rw (handed _ _ c.from_residual.ensures) (fails _ at-arguments c.in_err-k.ensures)
 
-pub take-begun-requires : goal.take-begun-requires
-take-begun-requires c =
-    let m = rw c.in-At.is at c.argument_definitions-given.ensures.1 in
-    (m.0, omega arith)
+pub returns-in_err-j : goal.returns-in_err-j
+returns-in_err-j c =
+    rw (handed _ _ c.from_residual-in_err-j.ensures)
+    (fails _ (at-colon c.in_ok-k.ensures) (taken c.args.c.text.now (colon ∷ []) (Err _) c.in_err-j.ensures))
 
-pub returns-in_default-begun : goal.returns-in_default-begun
-returns-in_default-begun c =
-    let text = c.args.text.now in
-    let e = c.take-begun in
-    fails _ (refused e.result c.in_default-begun.not-At) (at-colon text c.requires c.in-At.is c.argument_definitions-given.ensures)
-    (taken text (colon ∷ []) e.result e.ensures)
-
-pub type_reference-typed-requires : goal.type_reference-typed-requires
-type_reference-typed-requires c =
-    let m = rw c.in-At-begun.is at c.take-begun.ensures.1 in
-    (m.0, omega arith)
-
-pub returns-in_default-typed : goal.returns-in_default-typed
-returns-in_default-typed c =
-    let text = c.args.text.now in
-    let e = c.type_reference-typed in
-    let i = at_type text c.requires c.in-At.is c.argument_definitions-given.ensures c.in-At-begun.is c.take-begun.ensures in
-    fails _ (refused e.result c.in_default-typed.not-At) i (may e.ensures)
-
-pub directives-requires : goal.directives-requires
-directives-requires c =
-    let m = rw c.in-At-typed.is at c.type_reference-typed.ensures.1 in
-    m.0
+pub returns-in_err-i : goal.returns-in_err-i
+returns-in_err-i c =
+    rw (handed _ _ c.from_residual-in_err-i.ensures) (fails _ (at_type c.in_ok-k.ensures c.in_ok-j.ensures) (may c.in_err-i.ensures))
 
 pub returns : goal.returns
-returns c =
-    let text = c.args.text.now in
-    let t = c.type_reference-typed in
-    let i = at-directives text c.requires c.in-At.is c.argument_definitions-given.ensures c.in-At-begun.is
-    c.take-begun.ensures t.result c.in-At-typed.is t.ensures in
-    ends i c.directives.ensures
+returns c = let i = at-directives c.in_ok-k.ensures c.in_ok-j.ensures c.in_ok-i.ensures in ends i (may_in i.1 c.directives.ensures)

@@ -1,79 +1,68 @@
-use mathlib.Core.Path.{◌∙◌}
+use mathlib.Core.Path.{refl, ◌∙◌}
 use native.Mathlib.Omega.{arith}
-use lib.ListN.{length}
-use Rattle.parser_values.specs.declared.End.TheVariants.{At}
-use Rattle.parser_values.proofs.Readers.{refused}
-use Rattle.parser_items.proofs.Items.{begins, stays, stays_on}
+use Rattle.std.specs.Prelude.{Ok, Err}
+use Rattle.parser_values.proofs.Readers.{handed, lies, step_falls}
+use Rattle.parser_items.proofs.Items.{begins}
 use Rattle.parser_items.proofs.Joined.{rest, absent, opened, refuses, follows, is_last}
 use Rattle.parser_items.proofs.names.names.Goals as goal
 
 pub returns-then-c-opener : goal.returns-then-c-opener
 returns-then-c-opener c =
     let a = c.args in
-    (λ h l t. (absent a.text.now a.opener a.joiner a.kind l t a.cards.now c.if-c-opener.true c.requires.0).0 h, (c.requires.0, omega arith))
+    (λ h l t. (absent a.c.text.now a.opener a.joiner a.kind l t a.cards.now c.if-c-opener.true refl).0 h, (refl, omega arith))
 
 pub loop-j-init : goal.loop-j-init
 loop-j-init c =
-    let a = c.args in
-    let i = c.take_optional-k in (
-      c.requires.2,
-      i.ensures.1,
-      omega arith,
-      λ l t. (begins a.text.now (rest l) a.cards.now i.ensures.1).0,
-    )
+    let k = c.take_optional-k.result in
+    (refl, omega arith, λ l t. (begins k.text.now (rest l) c.args.cards.now refl).0)
 
-pub name_item-read-requires : goal.name_item-read-requires
-name_item-read-requires c = (c.loop-j.invariant.1, c.requires.1, c.loop-j.invariant.0)
+pub name_item-requires : goal.name_item-requires
+name_item-requires c = rw (c.loop-j.invariant.0 ∙ c.take_optional-k.ensures.1.0 ∙ c.next-first.ensures.1) c.requires.0
 
-pub returns-in_default : goal.returns-in_default
-returns-in_default c =
+pub returns-in_err-j : goal.returns-in_err-j
+returns-in_err-j c =
     let a = c.args in
-    let text = a.text.now in
     let o = c.take_optional-k.ensures in
+    let n = c.next-first.ensures in
     let i = c.loop-j.invariant in
-    let e = c.name_item-read in (
-      λ h l t. (opened text a.opener a.joiner a.kind l t e.result c.requires.3 c.if-c-opener.false c.requires.0 c.next_token-first.ensures (
-        λ g. o.0 g 0 (omega arith) l.lead t.leads,
-        (o.1, o.2),
-      ) (refuses text a.opener a.joiner a.kind l t e.result (i.3 l t, i.1, i.2) e.ensures (refused e.result c.in_default.not-At))).0 h,
-      stays_on (length text) a.c c.loop-j.k e.result (omega (arith, c.next_token-first.ensures.2))
-          (stays (length text) c.loop-j.k e.result e.ensures.1),
+    rw (handed _ _ c.from_residual.ensures) (
+      λ h l t. (opened a.c.text.now a.opener a.joiner a.kind l t (Err _) c.requires.1 c.if-c-opener.false refl n
+          (λ g. o.0 g 0 (omega arith) l.lead t.leads, o.1)
+          (refuses c.take_optional-k.result.text.now a.opener a.joiner a.kind l t (i.2 l t, i.0, i.1) c.in_err-j.ensures)).0 h,
+      rw (i.0 ∙ o.1.0 ∙ n.1) at c.in_err-j.ensures.1,
     )
 
 pub returns-then-j-joiner : goal.returns-then-j-joiner
 returns-then-j-joiner c =
     let a = c.args in
-    let text = a.text.now in
     let o = c.take_optional-k.ensures in
+    let n = c.next-first.ensures in
     let i = c.loop-j.invariant in
-    let e = c.name_item-read in
-    let m = rw c.in-At.is at e.ensures.1 in (
-      λ h l t. (opened text a.opener a.joiner a.kind l t (At c.in-At.j) c.requires.3 c.if-c-opener.false c.requires.0 c.next_token-first.ensures
-          (λ g. o.0 g 0 (omega arith) l.lead t.leads, (o.1, o.2))
-          (is_last text a.opener a.joiner a.kind l t e.result (i.3 l t, i.1, i.2) e.ensures c.in-At.is c.if-j-joiner.true)).0 h,
-      (m.0, omega (arith, m.1, c.next_token-first.ensures.2)),
+    let m = c.in_ok-j.ensures.1 in
+    let p = lies a.c refl in (
+      λ h l t. (opened a.c.text.now a.opener a.joiner a.kind l t (Ok c.in_ok-j.j) c.requires.1 c.if-c-opener.false refl n
+          (λ g. o.0 g 0 (omega arith) l.lead t.leads, o.1)
+          (is_last c.take_optional-k.result.text.now a.opener a.joiner a.kind l t (i.2 l t, i.0, i.1) c.in_ok-j.ensures c.if-j-joiner.true)).0 h,
+      (m.0 ∙ i.0 ∙ o.1.0 ∙ n.1, omega (arith, m.1, i.1, o.1.1, n.2, p.0, p.1)),
     )
-
-pub next_token-k-requires : goal.next_token-k-requires
-next_token-k-requires c =
-    let m = rw c.in-At.is at c.name_item-read.ensures.1 in
-    omega (arith, m.0)
 
 pub loop-j-smaller : goal.loop-j-smaller
 loop-j-smaller c =
-    let m = rw c.in-At.is at c.name_item-read.ensures.1 in
-    omega (arith, m, c.next_token-k.ensures)
+    let i = c.loop-j.invariant in
+    let m = c.in_ok-j.ensures.1 in
+    let n = c.next-k.ensures in
+    let p = lies c.in_ok-j.j refl in
+    step_falls c.take_optional-k.result.text.now c.loop-j.k c.next-k.result i.0 (n.1 ∙ m.0, omega (arith, m.1, n.2, p.0, p.1))
 
 pub loop-j-preserved : goal.loop-j-preserved
 loop-j-preserved c =
     let a = c.args in
-    let text = a.text.now in
     let i = c.loop-j.invariant in
-    let e = c.name_item-read in
-    let n = c.next_token-k.ensures in
-    let m = rw c.in-At.is at e.ensures.1 in (
-      e.auto.cards ∙ i.0,
-      n.1,
-      omega (arith, m, n.2),
-      λ l t. (follows text a.opener a.joiner a.kind l t e.result (i.3 l t, i.1, i.2) e.ensures c.in-At.is c.requires.4 c.if-j-joiner.false n).0,
+    let m = c.in_ok-j.ensures.1 in
+    let n = c.next-k.ensures in
+    let p = lies c.in_ok-j.j refl in (
+      n.1 ∙ m.0 ∙ i.0,
+      omega (arith, m.1, n.2, p.0, p.1, i.1),
+      λ l t. (follows c.take_optional-k.result.text.now a.opener a.joiner a.kind l t (i.2 l t, i.0, i.1) c.in_ok-j.ensures c.requires.2
+          c.if-j-joiner.false n).0,
     )

@@ -1,22 +1,22 @@
 use mathlib.Core.Path.{sym, ◌∙◌}
-use Rattle.parser_lexer.proofs.CharacterLaws.{character_at, of_tab, of_line_feed, of_return, of_control, of_one}
+use native.Mathlib.Omega.{arith}
+use Rattle.parser_lexer.proofs.CharacterLaws.{by_three, of_first, of_control}
 use Rattle.parser_lexer.proofs.characters.character.Goals as goal
 
-pub returns-then-b-eq-TAB : goal.returns-then-b-eq-TAB
-returns-then-b-eq-TAB c = sym (character_at c.args.text.now c.args.at ∙ of_tab _ _ _ c.if-b-eq-TAB.true)
+pub returns-in-9 : goal.returns-in-9
+returns-in-9 c = sym (by_three c.args.bytes.now ∙ of_first _ _ _ (omega arith) (omega arith) (λ h n. omega arith))
 
-pub returns-then-b-eq-LINE_FEED : goal.returns-then-b-eq-LINE_FEED
-returns-then-b-eq-LINE_FEED c = sym (character_at c.args.text.now c.args.at ∙ of_line_feed _ _ _ c.if-b-eq-LINE_FEED.true)
+pub returns-in-9-2 : goal.returns-in-9-2
+returns-in-9-2 c = sym (by_three c.args.bytes.now ∙ of_first _ _ _ (omega arith) (omega arith) (λ h n. omega arith))
 
-pub returns-then-b-eq-CARRIAGE_RETURN : goal.returns-then-b-eq-CARRIAGE_RETURN
-returns-then-b-eq-CARRIAGE_RETURN c = sym (character_at c.args.text.now c.args.at ∙ of_return _ _ _ c.if-b-eq-CARRIAGE_RETURN.true)
+pub returns-in-9-3 : goal.returns-in-9-3
+returns-in-9-3 c = sym (by_three c.args.bytes.now ∙ of_first _ _ _ (omega arith) (omega arith) (λ h n. omega arith))
 
-pub returns-then-b-lt-SPACE : goal.returns-then-b-lt-SPACE
-returns-then-b-lt-SPACE c = sym (character_at c.args.text.now c.args.at ∙ of_control _ _ _ c.if-b-lt-SPACE.true c.if-b-eq-TAB.false
-    c.if-b-eq-LINE_FEED.false c.if-b-eq-CARRIAGE_RETURN.false)
+pub returns-in-0-to-31 : goal.returns-in-0-to-31
+returns-in-0-to-31 c = sym (by_three c.args.bytes.now ∙ of_control _ _ _ (omega arith) (omega arith) (omega arith) (omega arith))
 
-pub returns-then-b-le-LAST_OF_ONE : goal.returns-then-b-le-LAST_OF_ONE
-returns-then-b-le-LAST_OF_ONE c = sym (character_at c.args.text.now c.args.at ∙ of_one _ _ _ c.if-b-lt-SPACE.false c.if-b-le-LAST_OF_ONE.true)
+pub returns-in-0-to-31-2 : goal.returns-in-0-to-31-2
+returns-in-0-to-31-2 c = sym (by_three c.args.bytes.now ∙ of_control _ _ _ (omega arith) (omega arith) (omega arith) (omega arith))
 
-pub returns : goal.returns
-returns c = c.wide.ensures ∙ rw (c.byte_at-c.ensures, c.byte_at-d.ensures) (sym (character_at c.args.text.now c.args.at))
+pub returns-in_default : goal.returns-in_default
+returns-in_default c = c.wide.ensures ∙ rw (c.byte_at.ensures, c.byte_at-in_default.ensures) (sym (by_three c.args.bytes.now))

@@ -1,33 +1,27 @@
 use mathlib.Core.Path.{sym, ◌∙◌}
+use native.Mathlib.Omega.{arith}
 use Rattle.parser_lexer.proofs.CharacterLaws.{of_none, of_two, of_three, of_more}
 use Rattle.parser_lexer.proofs.characters.wide.Goals as goal
 
-pub returns-then-b-lt-FIRST_OF_TWO : goal.returns-then-b-lt-FIRST_OF_TWO
-returns-then-b-lt-FIRST_OF_TWO c = sym (of_none _ _ _ c.requires c.if-b-lt-FIRST_OF_TWO.true)
+pub returns-in-194-to-223 : goal.returns-in-194-to-223
+returns-in-194-to-223 c = sym (of_two _ _ _ c.requires (omega arith) (omega arith) ∙ simp (sym c.continues.ensures ∙ c.if-continues.true))
 
-pub returns-then-within : goal.returns-then-within
-returns-then-within c = sym (of_two _ _ _ c.requires c.if-b-lt-FIRST_OF_TWO.false c.if-b-lt-FIRST_OF_THREE.true ∙
-    simp (sym c.within.ensures ∙ c.if-within.true))
+pub returns-in-224-to-239 : goal.returns-in-224-to-239
+returns-in-224-to-239 c = sym (of_three _ _ _ c.requires (omega arith) (omega arith) ∙
+    simp (sym c.is_second.ensures ∙ c.if-is_second.true, sym c.continues-then-is_second.ensures ∙ c.if-continues-2.true))
 
-pub returns-then-b-lt-FIRST_OF_THREE : goal.returns-then-b-lt-FIRST_OF_THREE
-returns-then-b-lt-FIRST_OF_THREE c = sym (of_two _ _ _ c.requires c.if-b-lt-FIRST_OF_TWO.false c.if-b-lt-FIRST_OF_THREE.true ∙
-    simp (sym c.within.ensures ∙ c.if-within.false))
+pub returns-in_default : goal.returns-in_default
+returns-in_default c = sym (of_none _ _ _ c.requires (omega arith))
 
-pub returns-then-b-gt-LAST_OF_THREE : goal.returns-then-b-gt-LAST_OF_THREE
-returns-then-b-gt-LAST_OF_THREE c = sym (of_more _ _ _ c.requires c.if-b-gt-LAST_OF_THREE.true)
+pub returns-in_default-2 : goal.returns-in_default-2
+returns-in_default-2 c = sym (of_two _ _ _ c.requires (omega arith) (omega arith) ∙ simp (sym c.continues.ensures ∙ c.if-continues.false))
 
-pub returns-then-not-is_second : goal.returns-then-not-is_second
-returns-then-not-is_second c = sym (of_three _ _ _ c.requires c.if-b-lt-FIRST_OF_THREE.false c.if-b-gt-LAST_OF_THREE.false ∙
-    simp (sym c.is_second.ensures ∙ c.if-not-is_second.true))
+pub returns-in_default-3 : goal.returns-in_default-3
+returns-in_default-3 c = sym (of_three _ _ _ c.requires (omega arith) (omega arith) ∙
+    simp (sym c.is_second.ensures ∙ c.if-is_second.true, sym c.continues-then-is_second.ensures ∙ c.if-continues-2.false))
 
-pub returns-then-within-2 : goal.returns-then-within-2
-returns-then-within-2 c = sym (of_three _ _ _ c.requires c.if-b-lt-FIRST_OF_THREE.false c.if-b-gt-LAST_OF_THREE.false ∙ simp (
-  sym c.is_second.ensures ∙ c.if-not-is_second.false,
-  sym c.within-2.ensures ∙ c.if-within-2.true,
-))
+pub returns-in_default-4 : goal.returns-in_default-4
+returns-in_default-4 c = sym (of_three _ _ _ c.requires (omega arith) (omega arith) ∙ simp (sym c.is_second.ensures ∙ c.if-is_second.false))
 
-pub returns : goal.returns
-returns c = sym (of_three _ _ _ c.requires c.if-b-lt-FIRST_OF_THREE.false c.if-b-gt-LAST_OF_THREE.false ∙ simp (
-  sym c.is_second.ensures ∙ c.if-not-is_second.false,
-  sym c.within-2.ensures ∙ c.if-within-2.false,
-))
+pub returns-in_default-5 : goal.returns-in_default-5
+returns-in_default-5 c = sym (of_more _ _ _ c.requires (omega arith))

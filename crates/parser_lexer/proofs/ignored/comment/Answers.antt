@@ -1,37 +1,30 @@
-use native.Mathlib.Omega.{arith}
 use mathlib.Core.Path.{sym, ◌∙◌}
-use Rattle.parser_lexer.proofs.CommentLaws.{plain_taken, comment_on, comment_stops, comment_ends}
+use native.Mathlib.Omega.{arith}
+use lib.ListN.{length-drop}
+use Rattle.std.proofs.lemmas.List.{take_rest}
+use Rattle.parser_lexer.proofs.CommentLaws.{comment_on, comment_stops, comment_ends}
 use Rattle.parser_lexer.proofs.ignored.comment.Goals as goal
+use Rattle.parser_lexer.proofs.ignored.comment.Goals.{in_default, in-len1-up+then-size-eq0}
 
-pub loop-i-preserved-then-byte-le-LAST_OF_ONE : goal.loop-i-preserved-then-byte-le-LAST_OF_ONE
-loop-i-preserved-then-byte-le-LAST_OF_ONE c =
-    let t = plain_taken c.args.text.now c.loop-i.i
-    c.if-byte-ge-SPACE.true c.if-byte-le-LAST_OF_ONE.true in
-    let g = comment_on c.args.text.now c.args.at
-    c.loop-i.i c.loop-i.invariant.0 1 c.loop-i-test.true t (omega arith) c.loop-i.invariant.2 in
-    (omega arith, g.0, g.1)
+pub loop-rest-init : goal.loop-rest-init
+loop-rest-init c = (omega arith, omega arith)
 
-pub returns-then-size-eq0 : goal.returns-then-size-eq0
-returns-then-size-eq0 c = comment_stops c.args.text.now c.args.at c.loop-i.i c.loop-i.invariant.0 c.loop-i-test.true (sym c.taken-size.ensures ∙
-    c.if-size-eq0.true) c.loop-i.invariant.2
+pub slice_bounds-rest-count : goal.slice_bounds-rest-count
+slice_bounds-rest-count c = (comment_on c.loop-rest.rest.now _ (omega arith) c.taken-size.ensures c.if-size-eq0.false).0
 
-pub overflow_add-i-in-loop-i : goal.overflow_add-i-in-loop-i
-overflow_add-i-in-loop-i c =
-    let g = comment_on c.args.text.now
-    c.args.at c.loop-i.i c.loop-i.invariant.0 c.taken-size.result c.loop-i-test.true c.taken-size.ensures c.if-size-eq0.false c.loop-i.invariant.2 in
-    omega (arith, g.0)
+pub slice_bounds-rest-start : goal.slice_bounds-rest-start
+slice_bounds-rest-start c = omega (arith, (comment_on c.loop-rest.rest.now _ (omega arith) c.taken-size.ensures c.if-size-eq0.false).0)
 
-pub loop-i-smaller : goal.loop-i-smaller
-loop-i-smaller c =
-    let g = comment_on c.args.text.now
-    c.args.at c.loop-i.i c.loop-i.invariant.0 c.taken-size.result c.loop-i-test.true c.taken-size.ensures c.if-size-eq0.false c.loop-i.invariant.2 in
-    omega (arith, g.0)
-
-pub loop-i-preserved : goal.loop-i-preserved
-loop-i-preserved c =
-    let g = comment_on c.args.text.now
-    c.args.at c.loop-i.i c.loop-i.invariant.0 c.taken-size.result c.loop-i-test.true c.taken-size.ensures c.if-size-eq0.false c.loop-i.invariant.2 in
-    (omega arith, g.0, g.1)
+pub loop-rest-preserved : goal.loop-rest-preserved
+loop-rest-preserved c =
+    let rest = c.loop-rest.rest.now in
+    let n = c.taken-size.result in
+    let q = comment_on rest n (omega arith) c.taken-size.ensures c.if-size-eq0.false in
+    rw (take_rest rest n) (omega (arith, q.0, length-drop n rest), omega (arith, q.0, q.1, length-drop n rest))
 
 pub returns : goal.returns
-returns c = comment_ends c.args.text.now c.args.at c.loop-i.i c.loop-i.invariant.0 c.loop-i-test.false c.loop-i.invariant.2
+returns c =
+    elim c.if-rest-lt1.branch [
+      | in_default w ↦ omega (arith, comment_ends c.loop-rest.rest.now (omega arith))
+      | in-len1-up+then-size-eq0 w ↦ omega (arith, comment_stops c.loop-rest.rest.now (omega arith) (sym w.taken-size.ensures ∙ w.if-size-eq0.true))
+    ]

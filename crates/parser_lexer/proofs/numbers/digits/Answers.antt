@@ -1,19 +1,16 @@
 use mathlib.Core.Path.{sym, ◌∙◌}
-use native.Mathlib.Omega.{arith}
-use Rattle.parser_lexer.proofs.NumberLaws.{digit_hit, digit_miss, digit_end}
+use Rattle.std.proofs.Common.{rules, tests}
+use Rattle.std.proofs.lemmas.Iterator.{YieldsList-from_slice}
+use Rattle.std.proofs.lemmas.Iterator.Consumers.{count_from_yields_List}
+use Rattle.std.proofs.lemmas.Iterator.Search.{YieldsList-from_take_while}
+use Rattle.std.proofs.lemmas.List.Folds.{length-prefix_len}
+use Rattle.std.specs.Char.{is_ascii_digit}
+use Rattle.parser_lexer.proofs.NumberLaws.{run_digits}
 use Rattle.parser_lexer.proofs.numbers.digits.Goals as goal
 
-pub returns-then-not-within : goal.returns-then-not-within
-returns-then-not-within c = omega (
-  arith,
-  digit_miss c.args.text.now c.loop-i.i c.loop-i-test.true (sym c.within.ensures ∙ c.if-not-within.true),
-)
-
-pub loop-i-preserved : goal.loop-i-preserved
-loop-i-preserved c = omega (
-  arith,
-  digit_hit c.args.text.now c.loop-i.i c.loop-i-test.true (sym c.within.ensures ∙ c.if-not-within.false),
-)
-
 pub returns : goal.returns
-returns c = omega (arith, digit_end c.args.text.now c.loop-i.i c.loop-i-test.false)
+returns c =
+    let count = count_from_yields_List c.take_while.result _ c.count.ensures.ran
+    (YieldsList-from_take_while _ is_ascii_digit (YieldsList-from_slice c.args.bytes.now (cc)) c.take_while.ensures.closure
+    c.take_while.ensures.done (λ x b q k. search (rules, tests))) ∙ length-prefix_len is_ascii_digit c.args.bytes.now in
+    count ∙ sym (run_digits c.args.bytes.now)

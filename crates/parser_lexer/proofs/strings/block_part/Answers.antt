@@ -1,32 +1,39 @@
 use mathlib.Core.Path.{sym, ◌∙◌}
+use Rattle.std.proofs.Common.{rules, tests}
+use Rattle.std.proofs.lemmas.Iterator.{YieldsList-from_slice}
+use Rattle.std.proofs.lemmas.Iterator.Consumers.{count_from_yields_List}
+use Rattle.std.proofs.lemmas.Iterator.Search.{YieldsList-from_take_while}
+use Rattle.std.proofs.lemmas.List.{take_rest}
+use Rattle.std.proofs.lemmas.List.Folds.{length-prefix_len}
 use native.Mathlib.Omega.{arith}
-use Rattle.parser_lexer.proofs.StringLaws.{character_most, ascii, block_escape, block_character}
+use lib.ListN.{get_or}
+use Rattle.parser_lexer.specs.Strings.{is_simple}
+use Rattle.parser_lexer.proofs.StringLaws.{simple_first, block_row, block_escape, block_backslash, block_quote, block_character}
 use Rattle.parser_lexer.proofs.strings.block_part.Goals as goal
+use Rattle.parser_lexer.proofs.strings.block_part.Goals.{in_default-via-then-this-lt32, in_default-via-else-this-lt32+else-this-lt128}
 
-pub returns-then-is_tripled : goal.returns-then-is_tripled
-returns-then-is_tripled c = (
-  sym (block_escape c.args.text.now c.args.at c.if-b-eq-BACKSLASH.true ∙ simp (sym c.is_tripled.ensures ∙ c.if-is_tripled.true)),
-  omega arith,
-)
+pub returns-in-92 : goal.returns-in-92
+returns-in-92 c = block_escape c.args.bytes.now c.requires.0 c.requires.1 c.in-92.is
+    (sym (rw (take_rest c.args.bytes.now 1) at c.is_tripled.ensures) ∙ c.if-is_tripled.true)
 
-pub returns-then-b-eq-BACKSLASH : goal.returns-then-b-eq-BACKSLASH
-returns-then-b-eq-BACKSLASH c = (
-  sym (block_escape c.args.text.now c.args.at c.if-b-eq-BACKSLASH.true ∙ simp (sym c.is_tripled.ensures ∙ c.if-is_tripled.false)),
-  omega arith,
-)
+pub returns-in-34 : goal.returns-in-34
+returns-in-34 c = block_backslash c.args.bytes.now c.requires.0 c.requires.1 c.in-92.is
+    (sym (rw (take_rest c.args.bytes.now 1) at c.is_tripled.ensures) ∙ c.if-is_tripled.false)
 
-pub returns-then-within : goal.returns-then-within
-returns-then-within c = (
-  sym (block_character c.args.text.now c.args.at c.if-b-eq-BACKSLASH.false ∙ ascii c.args.text.now
-      c.args.at (sym c.within.ensures ∙ c.if-within.true)),
-  omega arith,
-)
+pub returns-in-34-2 : goal.returns-in-34-2
+returns-in-34-2 c = block_quote c.args.bytes.now c.requires.0 c.requires.1 c.in-34.is
 
-pub returns : goal.returns
-returns c = (
-  c.character.ensures ∙ sym (block_character c.args.text.now c.args.at c.if-b-eq-BACKSLASH.false),
-  omega (
-    arith,
-    character_most c.args.text.now c.args.at,
-  ),
-)
+pub returns-in-32-to-127 : goal.returns-in-32-to-127
+returns-in-32-to-127 c =
+    let count = count_from_yields_List c.take_while.result _ c.count.ensures.ran
+    (YieldsList-from_take_while _ is_simple (YieldsList-from_slice c.args.bytes.now (cc)) c.take_while.ensures.closure
+    c.take_while.ensures.done (λ x b q k. search (rules, tests))) ∙ length-prefix_len is_simple c.args.bytes.now in
+    block_row c.args.bytes.now _ (simple_first (get_or c.args.bytes.now 0 0) (omega arith) (omega arith) (omega arith) (omega arith)) count
+
+pub returns-in_default : goal.returns-in_default
+returns-in_default c =
+    elim c.in_default.branch [
+      | in_default-via-then-this-lt32 w ↦ rw c.character.ensures (block_character c.args.bytes.now c.requires.0 c.requires.1 (omega arith))
+      | in_default-via-else-this-lt32+else-this-lt128 w ↦
+          rw c.character.ensures (block_character c.args.bytes.now c.requires.0 c.requires.1 (omega arith))
+    ]

@@ -1,33 +1,18 @@
-use mathlib.Core.Path.{sym, ap, ◌∙◌}
+use borrow.Author.Rules.{rules}
+use mathlib.Core.Path.{sym, ◌∙◌}
 use native.Mathlib.Omega.{arith}
-use Rattle.parser_lexer.specs.Strings.{is_escaped}
-use Rattle.parser_lexer.proofs.StringLaws.{escape_one, escape_none, escape_code}
+use Rattle.parser_lexer.proofs.StringLaws.{escape_one, escape_code, escape_none}
 use Rattle.parser_lexer.proofs.strings.escape.Goals as goal
 
-pub returns-then-is_escaped : goal.returns-then-is_escaped
-returns-then-is_escaped c =
-    let e = ap is_escaped (sym c.byte_at-b.ensures) ∙ sym c.is_escaped.ensures ∙ c.if-is_escaped.true in
-    (sym (escape_one c.args.text.now c.args.at e), omega arith)
+pub returns-in-34 : goal.returns-in-34
+returns-in-34 c = (escape_one c.args.bytes.now (rw c.byte_at.ensures at c.in-34.is), omega arith)
 
-pub returns-then-b-ne-SMALL_U : goal.returns-then-b-ne-SMALL_U
-returns-then-b-ne-SMALL_U c =
-    let e = ap is_escaped (sym c.byte_at-b.ensures) ∙ sym c.is_escaped.ensures ∙ c.if-is_escaped.false in (
-      sym (escape_none c.args.text.now c.args.at e (λ u. c.if-b-ne-SMALL_U.true (c.byte_at-b.ensures ∙ u))),
-      omega arith,
-    )
+pub returns-in-117 : goal.returns-in-117
+returns-in-117 c = (sym (escape_code c.args.bytes.now (sym c.byte_at.ensures ∙ c.in-117.is) ∙ rw (sym c.is_code.ensures ∙ c.if-is_code.true)), omega arith)
 
-pub returns-then-is_code : goal.returns-then-is_code
-returns-then-is_code c =
-    let e = ap is_escaped (sym c.byte_at-b.ensures) ∙ sym c.is_escaped.ensures ∙ c.if-is_escaped.false in (
-      sym (escape_code c.args.text.now c.args.at e (sym c.byte_at-b.ensures ∙
-          c.if-b-ne-SMALL_U.false) ∙ simp (sym c.is_code.ensures ∙ c.if-is_code.true)),
-      omega arith,
-    )
+pub returns-in_default : goal.returns-in_default
+returns-in_default c =
+    (sym (escape_code c.args.bytes.now (sym c.byte_at.ensures ∙ c.in-117.is) ∙ rw (sym c.is_code.ensures ∙ c.if-is_code.false)), omega arith)
 
-pub returns : goal.returns
-returns c =
-    let e = ap is_escaped (sym c.byte_at-b.ensures) ∙ sym c.is_escaped.ensures ∙ c.if-is_escaped.false in (
-      sym (escape_code c.args.text.now c.args.at e (sym c.byte_at-b.ensures ∙
-          c.if-b-ne-SMALL_U.false) ∙ simp (sym c.is_code.ensures ∙ c.if-is_code.false)),
-      omega arith,
-    )
+pub returns-in_default-2 : goal.returns-in_default-2
+returns-in_default-2 c = (escape_none c.args.bytes.now _ c.byte_at.ensures (search rules) (search rules), omega arith)

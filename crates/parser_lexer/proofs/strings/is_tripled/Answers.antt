@@ -1,16 +1,11 @@
-use mathlib.Core.Path.{sym, ap, ◌∙◌}
-use Prim.Native.Nat.{ℕ}
-use lib.Dec.{eqb}
-use Rattle.parser_lexer.proofs.StringLaws.{tripled_first, tripled_second, tripled_third}
+use mathlib.Core.Path.{sym, ◌∙◌}
+use borrow.Author.Tests.{ne_eqb}
+use Rattle.parser_lexer.proofs.StringLaws.{tripled_then, tripled_first}
 use Rattle.parser_lexer.proofs.strings.is_tripled.Goals as goal
 
-pub returns-then-byte_at-ne-QUOTE : goal.returns-then-byte_at-ne-QUOTE
-returns-then-byte_at-ne-QUOTE c = sym (tripled_first c.args.text.now c.args.at (λ q. c.if-byte_at-ne-QUOTE.true (c.byte_at.ensures ∙ q)))
+pub returns-then-byte_at-eq34 : goal.returns-then-byte_at-eq34
+returns-then-byte_at-eq34 c = c.is_followed.ensures ∙ tripled_then c.args.bytes.now (sym c.byte_at.ensures ∙ c.if-byte_at-eq34.true)
 
-pub returns-then-byte_at-ne-QUOTE-2 : goal.returns-then-byte_at-ne-QUOTE-2
-returns-then-byte_at-ne-QUOTE-2 c = sym (tripled_second c.args.text.now c.args.at
-    (sym c.byte_at.ensures ∙ c.if-byte_at-ne-QUOTE.false) (λ q. c.if-byte_at-ne-QUOTE-2.true (c.byte_at-2.ensures ∙ q)))
-
-pub returns : goal.returns
-returns c = ap (λ (b : ℕ). eqb b 34) c.byte_at-3.ensures ∙ sym (tripled_third c.args.text.now c.args.at (sym c.byte_at.ensures ∙
-    c.if-byte_at-ne-QUOTE.false) (sym c.byte_at-2.ensures ∙ c.if-byte_at-ne-QUOTE-2.false))
+pub returns-else-byte_at-eq34 : goal.returns-else-byte_at-eq34
+returns-else-byte_at-eq34 c =
+    ne_eqb _ _ c.if-byte_at-eq34.false ∙ tripled_first c.args.bytes.now (λ q. c.if-byte_at-eq34.false (c.byte_at.ensures ∙ q))

@@ -1,40 +1,26 @@
-use mathlib.Core.Path.{sym, ◌∙◌}
+use borrow.Author.Rules.{rules}
+use mathlib.Core.Path.{◌∙◌}
 use native.Mathlib.Omega.{arith}
-use lib.ListN.{get_or}
-use Rattle.parser_lexer.proofs.StringLaws.{character_most, part_broken, part_escape, part_line, part_character, part_ascii, carriage_return}
-use Rattle.parser_lexer.proofs.StringLaws.{no_line}
+use Rattle.std.proofs.lemmas.List.{take_rest}
+use Rattle.parser_lexer.proofs.StringLaws.{part_broken, part_escape, part_line, part_other, part_character, part_ascii}
 use Rattle.parser_lexer.proofs.strings.plain_part.Goals as goal
+use Rattle.parser_lexer.proofs.strings.plain_part.Goals.{in_default-via-then-this-lt32, in_default-via-else-this-lt32+else-this-lt128}
 
-pub returns-then-e-eq0 : goal.returns-then-e-eq0
-returns-then-e-eq0 c = (
-  sym (part_broken c.args.text.now c.args.at _ c.escape-e.ensures.0 c.if-b-eq-BACKSLASH.true c.if-e-eq0.true),
-  omega arith,
-)
+pub returns-in-0 : goal.returns-in-0
+returns-in-0 c = part_broken c.args.bytes.now _ (rw (take_rest c.args.bytes.now 1) at c.escape.ensures.0) c.in-92.is c.in-0.is
 
-pub returns-then-b-eq-BACKSLASH : goal.returns-then-b-eq-BACKSLASH
-returns-then-b-eq-BACKSLASH c = (
-  sym (part_escape c.args.text.now c.args.at _ c.escape-e.ensures.0 c.if-b-eq-BACKSLASH.true c.if-e-eq0.false),
-  omega arith,
-)
+pub returns-in_default-escape : goal.returns-in_default-escape
+returns-in_default-escape c = part_escape c.args.bytes.now _ (rw (take_rest c.args.bytes.now 1) at c.escape.ensures.0) c.in-92.is (omega arith)
 
-pub returns-then-within : goal.returns-then-within
-returns-then-within c = (
-  sym (part_ascii c.args.text.now c.args.at c.if-b-eq-BACKSLASH.false (sym c.within.ensures ∙ c.if-within.true)),
-  omega arith,
-)
+pub returns-in-10 : goal.returns-in-10
+returns-in-10 c = part_line c.args.bytes.now c.in-10.is
 
-pub returns-then-b-eq-CARRIAGE_RETURN : goal.returns-then-b-eq-CARRIAGE_RETURN
-returns-then-b-eq-CARRIAGE_RETURN c = (
-  sym (part_line c.args.text.now c.args.at c.if-b-eq-BACKSLASH.false (carriage_return _ c.if-b-eq-CARRIAGE_RETURN.true)),
-  omega arith,
-)
+pub returns-in-32-to-127 : goal.returns-in-32-to-127
+returns-in-32-to-127 c = part_ascii c.args.bytes.now (omega arith) (omega arith) (omega arith)
 
-pub returns : goal.returns
-returns c = (
-  c.character.ensures ∙ sym (part_character c.args.text.now c.args.at c.if-b-eq-BACKSLASH.false
-      (no_line (get_or c.args.text.now c.args.at 0) (omega arith) (omega arith))),
-  omega (
-    arith,
-    character_most c.args.text.now c.args.at,
-  ),
-)
+pub returns-in_default : goal.returns-in_default
+returns-in_default c =
+    elim c.in_default.branch [
+      | in_default-via-then-this-lt32 w ↦ c.character.ensures ∙ part_other c.args.bytes.now (omega arith) (search rules)
+      | in_default-via-else-this-lt32+else-this-lt128 w ↦ c.character.ensures ∙ part_character c.args.bytes.now (omega arith) (omega arith) (omega arith)
+    ]

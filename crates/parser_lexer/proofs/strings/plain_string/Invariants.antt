@@ -1,12 +1,10 @@
-use mathlib.Core.Path.{◌≡◌}
-use Prim.Native.Nat.{◌+◌, ◌-◌, ◌≤◌}
-use lib.ListN.{length, drop}
+use lib.ListN.{length}
 use Rattle.definition.specs.Lexical.{plain}
-use Rattle.parser_lexer.specs.Strings.{string_of}
+use Rattle.parser_lexer.proofs.StringLaws.{read_to}
 use Rattle.parser_lexer.proofs.strings.plain_string.Given as goal
 
-abbrev pub invariant-loop-i : goal.invariant-loop-i
-invariant-loop-i l = (l.at ≤ l.i) × (string_of 1 (plain 0 (drop (l.at + 1) l.text)) ≡ string_of (l.i - l.at) (plain 0 (drop l.i l.text)))
+abbrev pub invariant-loop-rest : goal.invariant-loop-rest
+invariant-loop-rest l = read_to (plain 0) 1 l.bytes l.rest
 
-abbrev pub decreases-loop-i : goal.decreases-loop-i
-decreases-loop-i l = length l.text - l.i
+abbrev pub decreases-loop-rest : goal.decreases-loop-rest
+decreases-loop-rest l = length l.rest

@@ -56,9 +56,9 @@ pub returns-in-36 : goal.returns-in-36
 unfolding lexical.punctuator punctuators
 returns-in-36 c = rw c.in-36.is
 
-pub returns : goal.returns
+pub returns-in_default : goal.returns-in_default
 unfolding lexical.punctuator punctuators
-returns c =
+returns-in_default c =
     rw (
       ne_eqb c.args.byte 33 (omega arith),
       ne_eqb c.args.byte 36 (omega arith),

@@ -1,11 +1,9 @@
 use mathlib.Core.Path.{sym, ◌∙◌}
-use Rattle.definition.specs.Names.{bytes_at}
+use Rattle.parser_lexer.proofs.NameLaws.{same_as}
 use Rattle.parser_lexer.proofs.words.sort_if.Goals as goal
 
-pub returns-then-span_is : goal.returns-then-span_is
-unfolding bytes_at
-returns-then-span_is c = rw (sym c.span_is.ensures ∙ c.if-span_is.true)
+pub returns-then-eq : goal.returns-then-eq
+returns-then-eq c = rw (sym (same_as c.args.name.now c.args.word.now) ∙ sym c.eq.ensures ∙ c.if-eq.true)
 
-pub returns : goal.returns
-unfolding bytes_at
-returns c = rw (sym c.span_is.ensures ∙ c.if-span_is.false)
+pub returns-else-eq : goal.returns-else-eq
+returns-else-eq c = rw (sym (same_as c.args.name.now c.args.word.now) ∙ sym c.eq.ensures ∙ c.if-eq.false)

@@ -1,7 +1,6 @@
 use borrow.Author.Rules.{rules}
 use mathlib.Core.Path.{refl, ◌∙◌}
 use mathlib.Core.List.{[], ◌∷◌}
-use native.Mathlib.Omega.{arith}
 use Rattle.definition.specs.Lists.{all, any}
 use Rattle.definition.specs.Names.{same_name, bytes, compare_names}
 use Rattle.definition.specs.Grammar.{words, place_of, sort_of_name}
@@ -10,13 +9,12 @@ use Rattle.parser_lexer.proofs.words.sort_of_fifteen.Goals as goal
 
 pub returns-in-70 : goal.returns-in-70
 unfolding alone all words bytes same_name compare_names place_of sort_of_name
-returns-in-70 c = c.sort_if.ensures ∙ only c.args.text.now c.args.at 15 c.requires (bytes "FRAGMENT_SPREAD") 0 c.args.at (omega arith) refl c.in-70.is
+returns-in-70 c = c.sort_if.ensures ∙ only c.args.name.now 15 c.requires (bytes "FRAGMENT_SPREAD") 0 refl c.in-70.is
 
 pub returns-in-73 : goal.returns-in-73
 unfolding alone all words bytes same_name compare_names place_of sort_of_name
-returns-in-73 c = c.sort_if-in-73.ensures ∙ only c.args.text.now c.args.at 15 c.requires (bytes "INLINE_FRAGMENT") 0
-    c.args.at (omega arith) refl c.in-73.is
+returns-in-73 c = c.sort_if-in-73.ensures ∙ only c.args.name.now 15 c.requires (bytes "INLINE_FRAGMENT") 0 refl c.in-73.is
 
-pub returns : goal.returns
+pub returns-in_default : goal.returns-in_default
 unfolding deciding all any words bytes
-returns c = no_byte c.args.text.now c.args.at 15 c.requires 0 c.args.at (73 ∷ 70 ∷ []) (omega arith) refl (search rules)
+returns-in_default c = no_byte c.args.name.now 15 c.requires 0 (73 ∷ 70 ∷ []) refl (search rules)

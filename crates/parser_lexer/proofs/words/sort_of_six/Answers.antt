@@ -1,8 +1,6 @@
 use borrow.Author.Rules.{rules}
 use mathlib.Core.Path.{refl, ◌∙◌}
 use mathlib.Core.List.{[], ◌∷◌}
-use Prim.Native.Nat.{◌+◌}
-use native.Mathlib.Omega.{arith}
 use Rattle.definition.specs.Lists.{all, any}
 use Rattle.definition.specs.Names.{same_name, bytes, compare_names}
 use Rattle.definition.specs.Grammar.{words, place_of, sort_of_name}
@@ -11,34 +9,28 @@ use Rattle.parser_lexer.proofs.words.sort_of_six.Goals as goal
 
 pub returns-in-104 : goal.returns-in-104
 unfolding alone all words bytes same_name compare_names place_of sort_of_name
-returns-in-104 c = c.sort_if.ensures ∙ only c.args.text.now c.args.at 6 c.requires (bytes "schema") 2 (c.args.at + 2) (omega arith) refl c.in-104.is
+returns-in-104 c = c.sort_if.ensures ∙ only c.args.name.now 6 c.requires (bytes "schema") 2 refl c.in-104.is
 
 pub returns-in-97 : goal.returns-in-97
 unfolding alone all words bytes same_name compare_names place_of sort_of_name
-returns-in-97 c = c.sort_if-in-97.ensures ∙ only c.args.text.now c.args.at 6 c.requires (bytes "scalar") 2
-    (c.args.at + 2) (omega arith) refl c.in-97.is
+returns-in-97 c = c.sort_if-in-97.ensures ∙ only c.args.name.now 6 c.requires (bytes "scalar") 2 refl c.in-97.is
 
 pub returns-in-116 : goal.returns-in-116
 unfolding alone all words bytes same_name compare_names place_of sort_of_name
-returns-in-116 c = c.sort_if-in-116.ensures ∙ only c.args.text.now c.args.at 6 c.requires (bytes "extend") 2
-    (c.args.at + 2) (omega arith) refl c.in-116.is
+returns-in-116 c = c.sort_if-in-116.ensures ∙ only c.args.name.now 6 c.requires (bytes "extend") 2 refl c.in-116.is
 
 pub returns-in-72 : goal.returns-in-72
 unfolding alone all words bytes same_name compare_names place_of sort_of_name
-returns-in-72 c = c.sort_if-in-72.ensures ∙ only c.args.text.now c.args.at 6 c.requires (bytes "SCHEMA") 2
-    (c.args.at + 2) (omega arith) refl c.in-72.is
+returns-in-72 c = c.sort_if-in-72.ensures ∙ only c.args.name.now 6 c.requires (bytes "SCHEMA") 2 refl c.in-72.is
 
 pub returns-in-65 : goal.returns-in-65
 unfolding alone all words bytes same_name compare_names place_of sort_of_name
-returns-in-65 c = c.sort_if-in-65.ensures ∙ only c.args.text.now c.args.at 6 c.requires (bytes "SCALAR") 2
-    (c.args.at + 2) (omega arith) refl c.in-65.is
+returns-in-65 c = c.sort_if-in-65.ensures ∙ only c.args.name.now 6 c.requires (bytes "SCALAR") 2 refl c.in-65.is
 
 pub returns-in-74 : goal.returns-in-74
 unfolding alone all words bytes same_name compare_names place_of sort_of_name
-returns-in-74 c = c.sort_if-in-74.ensures ∙ only c.args.text.now c.args.at 6 c.requires (bytes "OBJECT") 2
-    (c.args.at + 2) (omega arith) refl c.in-74.is
+returns-in-74 c = c.sort_if-in-74.ensures ∙ only c.args.name.now 6 c.requires (bytes "OBJECT") 2 refl c.in-74.is
 
-pub returns : goal.returns
+pub returns-in_default : goal.returns-in_default
 unfolding deciding all any words bytes
-returns c = no_byte c.args.text.now c.args.at 6 c.requires 2
-    (c.args.at + 2) (74 ∷ 65 ∷ 72 ∷ 116 ∷ 97 ∷ 104 ∷ []) (omega arith) refl (search rules)
+returns-in_default c = no_byte c.args.name.now 6 c.requires 2 (74 ∷ 65 ∷ 72 ∷ 116 ∷ 97 ∷ 104 ∷ []) refl (search rules)

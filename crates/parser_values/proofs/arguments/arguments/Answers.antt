@@ -1,38 +1,28 @@
+use mathlib.Core.Path.{refl}
 use native.Mathlib.Omega.{arith}
 use Rattle.definition.specs.Grammar.{Argument, Argument*}
-use Rattle.parser_values.proofs.Readers.{some_of, refused, at_start, some_refused, some_closes, some_next}
+use Rattle.parser_values.proofs.Readers.{some_of, handed, at_start, some_refused, some_closes, some_next, step_falls}
 use Rattle.parser_values.proofs.Parts.{all_arguments, no_arguments, some_arguments}
 use Rattle.parser_values.proofs.arguments.arguments.Goals as goal
 
 pub returns-then-c-ne-PAREN_OPENS : goal.returns-then-c-ne-PAREN_OPENS
-returns-then-c-ne-PAREN_OPENS c = no_arguments c.if-c-ne-PAREN_OPENS.true c.requires
+returns-then-c-ne-PAREN_OPENS c = no_arguments c.if-c-ne-PAREN_OPENS.true refl
 
 pub loop-j-init : goal.loop-j-init
-loop-j-init c = at_start (some_of Argument Argument* 4) c.next_token-k.ensures.1
+loop-j-init c = at_start (some_of Argument Argument* 4) refl
 
-pub argument-one-requires : goal.argument-one-requires
-argument-one-requires c = c.loop-j.invariant.1
-
-pub returns-in_default : goal.returns-in_default
-returns-in_default c =
-    let e = c.argument-one in
-    some_arguments c.if-c-ne-PAREN_OPENS.false c.requires
-    c.next_token-k.ensures (some_refused all_arguments (refused e.result c.in_default.not-At) c.loop-j.invariant e.ensures)
-
-pub next_token-requires : goal.next_token-requires
-next_token-requires c =
-    let m = rw c.in-At.is at c.argument-one.ensures.1 in
-    (omega (arith, m.0), omega (arith, m.0))
+pub returns-in_err-j : goal.returns-in_err-j
+returns-in_err-j c =
+    rw (handed _ _ c.from_residual.ensures)
+    (some_arguments c.if-c-ne-PAREN_OPENS.false refl c.next-k.ensures (some_refused all_arguments c.loop-j.invariant c.in_err-j.ensures))
 
 pub returns-then-j-eq-PAREN_CLOSES : goal.returns-then-j-eq-PAREN_CLOSES
 returns-then-j-eq-PAREN_CLOSES c =
-    some_arguments c.if-c-ne-PAREN_OPENS.false c.requires c.next_token-k.ensures
-    (some_closes all_arguments (omega arith) c.in-At.is c.if-j-eq-PAREN_CLOSES.true c.next_token.ensures c.loop-j.invariant c.argument-one.ensures)
+    some_arguments c.if-c-ne-PAREN_OPENS.false refl c.next-k.ensures
+    (some_closes all_arguments (omega arith) c.if-j-eq-PAREN_CLOSES.true c.next.ensures c.loop-j.invariant c.in_ok-j.ensures)
 
 pub loop-j-smaller : goal.loop-j-smaller
-loop-j-smaller c =
-    let m = rw c.in-At.is at c.argument-one.ensures.1 in
-    omega (arith, m.0, m.1)
+loop-j-smaller c = step_falls c.next-k.result.text.now c.loop-j.k c.in_ok-j.j c.loop-j.invariant.1 c.in_ok-j.ensures.1
 
 pub loop-j-preserved : goal.loop-j-preserved
-loop-j-preserved c = some_next all_arguments c.in-At.is c.if-j-eq-PAREN_CLOSES.false c.loop-j.invariant c.argument-one.ensures
+loop-j-preserved c = some_next all_arguments c.if-j-eq-PAREN_CLOSES.false c.loop-j.invariant c.in_ok-j.ensures

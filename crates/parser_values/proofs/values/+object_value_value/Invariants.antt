@@ -12,13 +12,13 @@ abbrev pub decreases-value : goal.decreases-value
 decreases-value l = 2 * l.depth + 1
 
 abbrev pub invariant-object_value-loop-k : goal.invariant-object_value-loop-k
-invariant-object_value-loop-k l = Mid (any_of ObjectField* 13) l.text l.initial.k (32 - (l.depth - 1)) (any_of ObjectField* 13) l.k
+invariant-object_value-loop-k l = Mid (any_of ObjectField* 13) l.initial.k.text.now l.initial.k (32 - (l.depth - 1)) (any_of ObjectField* 13) l.k
 
 abbrev pub decreases-object_value-loop-k : goal.decreases-object_value-loop-k
-decreases-object_value-loop-k l = length l.text - l.k.last
+decreases-object_value-loop-k l = length l.initial.k.text.now - l.k.last
 
 abbrev pub invariant-value-loop-k : goal.invariant-value-loop-k
-invariant-value-loop-k l = Mid (any_of Value* 10) l.text l.initial.k (32 - (l.depth - 1)) (any_of Value* 10) l.k
+invariant-value-loop-k l = Mid (any_of Value* 10) l.initial.k.text.now l.initial.k (32 - (l.depth - 1)) (any_of Value* 10) l.k
 
 abbrev pub decreases-value-loop-k : goal.decreases-value-loop-k
-decreases-value-loop-k l = length l.text - l.k.last
+decreases-value-loop-k l = length l.initial.k.text.now - l.k.last

@@ -1,19 +1,13 @@
 use mathlib.Core.Path.{◌≡◌}
-use Prim.Native.Nat.{◌+◌, ◌-◌, ◌≤◌}
+use Prim.Native.Nat.{◌+◌, ◌≤◌}
 use lib.ListN.{length, drop}
 use Rattle.definition.specs.Lists.{filter}
-use Rattle.definition.specs.LentRows.{lent_rows}
 use Rattle.definition.specs.Lookups.{is_part_named}
-use Rattle.store_reader.specs.Stored.{stored_parts}
+use Rattle.schema_rows.specs.Rows.{cards_of, rows_of}
 use Rattle.schema.proofs.implementers.count_kind.Given as goal
 
--- The loop's invariant: n of the pairs before i pass.
+-- n of the pairs before i pass.
 abbrev pub invariant-loop-i : goal.invariant-loop-i
 invariant-loop-i l =
-    (l.i ≤ l.count)
-    × (l.n ≤ l.i)
-    × (length (filter (is_part_named (stored_parts l.text l.words) l.kind l.name) (lent_rows l.pairs))
-    ≡ l.n + length (filter (is_part_named (stored_parts l.text l.words) l.kind l.name) (drop l.i (lent_rows l.pairs))))
-
-abbrev pub decreases-loop-i : goal.decreases-loop-i
-decreases-loop-i l = l.count - l.i
+    let test = is_part_named (cards_of l.pairs) l.kind l.name in
+    (l.n ≤ l.i) × (length (filter test (rows_of l.pairs)) ≡ l.n + length (filter test (drop l.i (rows_of l.pairs))))

@@ -1,22 +1,18 @@
-use mathlib.Core.Path.{◌∙◌, sym, refl}
-use native.Mathlib.Omega.{arith}
-use Rattle.schema_rows.proofs.Rows.{found_hit, found_miss, found_end, row_named}
+use mathlib.Core.Bool.{true, false}
+use mathlib.Core.Path.{◌≡◌}
+use borrow.Author.Rules.{rules}
+use borrow.Author.Tests.{tests}
+use Rattle.std.proofs.lemmas.Iterator.{first_from_Range}
+use Rattle.definition.specs.LentRows.{is_row_named}
+use Rattle.schema_rows.specs.Rows.{row_at, cards_of}
+use Rattle.schema_rows.proofs.Rows.{first_found, row_named}
 use Rattle.schema.proofs.implementers.find_interface.Goals as goal
 
-pub loop-i-init : goal.loop-i-init
-loop-i-init c = (omega arith, refl)
-
-pub returns-then-is_named : goal.returns-then-is_named
-returns-then-is_named c =
-    sym (c.loop-i.invariant.1
-    ∙ found_hit _ _ _ c.loop-i-test.true (row_named _ _ _ _ _ _ ∙ sym c.is_named.ensures ∙ c.if-is_named.true))
-
-pub loop-i-preserved : goal.loop-i-preserved
-loop-i-preserved c = (
-  omega arith,
-  c.loop-i.invariant.1
-      ∙ found_miss _ _ _ c.loop-i-test.true (row_named _ _ _ _ _ _ ∙ sym c.is_named.ensures ∙ c.if-is_named.false),
-)
-
 pub returns : goal.returns
-returns c = sym (c.loop-i.invariant.1 ∙ found_end _ _ _ c.loop-i-test.false)
+returns c =
+    let pairs = c.args.pairs.rows.now in
+    let named = is_row_named (cards_of c.args.pairs) c.args.name.now in
+    first_found named pairs _ _ c.row_count.ensures
+    (first_from_Range _ _ _ _ (λ i. named (row_at pairs i) ≡ true) (λ i. named (row_at pairs i) ≡ false) c.find.ensures.ran
+    (λ x q k. search (rules, tests, row_named))
+    (λ x q k. search (rules, tests, row_named)))

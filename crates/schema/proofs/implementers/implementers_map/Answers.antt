@@ -10,13 +10,13 @@ use Rattle.schema.proofs.implementers.implementers_map.Goals as goal
 pub collect-n-requires : goal.collect-n-requires
 collect-n-requires c = let p = c.requires in pairs_fit _ _ _ p.0 p.1
 
-pub slice_bounds-write_groups-end : goal.slice_bounds-write_groups-end
-slice_bounds-write_groups-end c =
+pub slice_bounds-pairs-end : goal.slice_bounds-pairs-end
+slice_bounds-pairs-end c =
     let e = c.args in
     let p = c.requires in
     omega (
       arith,
-      pairs_fit e.text.now e.words.now e.rows.now p.0 p.1,
+      pairs_fit e.schema.text.now e.schema.words.now e.schema.rows.now p.0 p.1,
       c.collect-n.ensures.0,
       c.collect-n.auto.pairs,
     )

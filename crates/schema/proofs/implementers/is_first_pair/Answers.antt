@@ -1,14 +1,11 @@
--- What was found is the pair itself exactly where no pair before has the name.
-use mathlib.Core.Path.{◌∙◌, sym}
-use Rattle.schema.proofs.Groups.{pair_none, pair_some}
+use mathlib.Core.Path.{◌∙◌, ap}
+use Rattle.definition.specs.Catalogue.{Row}
+use Rattle.store_reader.specs.Stored.{card_name}
+use Rattle.schema.proofs.Groups.{pair_told}
 use Rattle.schema.proofs.implementers.is_first_pair.Goals as goal
 
-pub returns-in_default : goal.returns-in_default
-returns-in_default c =
-    pair_none _ _ _ _ _ c.card_name-name.ensures c.requires
-    (sym c.find_interface.ensures ∙ c.in_default.is)
-
+-- What was found is the pair itself exactly where no pair before has the name.
 pub returns : goal.returns
 returns c =
-    pair_some _ _ _ _ _ c.card_name-name.ensures c.requires
-    _ (sym c.find_interface.ensures ∙ c.in-Row.is)
+    let named = λ (r : Row). card_name c.args.pairs.text.now c.args.pairs.words.now r.card in
+    c.eq.ensures ∙ pair_told _ _ _ _ _ (c.card_name-name.ensures ∙ ap named c.row.ensures) c.requires _ c.find_interface.ensures

@@ -1,65 +1,59 @@
 use mathlib.Core.Path.{◌≡◌, ◌∙◌, sym, ap}
-use mathlib.Core.List.{List, ◌∷◌}
-use Prim.Native.Nat.{ℕ, ◌+◌, ◌*◌}
+use mathlib.Core.List.{List}
+use Prim.Native.Nat.{ℕ, ◌+◌}
 use native.Mathlib.Omega.{arith}
 use lib.Dec.{eqb}
-use lib.ListN.{take, drop, get_or}
-use Rattle.definition.specs.Lists.{filter, firsts}
+use lib.ListN.{take, drop, set}
+use Rattle.definition.specs.Cards.{is_type}
+use Rattle.definition.specs.Catalogue.{Row}
 use Rattle.definition.specs.LentRows.{lent_rows}
+use Rattle.definition.specs.Lists.{choose, filter, firsts}
 use Rattle.definition.specs.Lookups.{is_schema_part, origin_list, is_card}
-use Rattle.schema_rows.specs.declared.search.Found.TheVariants.{Row as RowAt}
-use Rattle.schema_rows.specs.Search.{part_from}
 use Rattle.schema_rows.proofs.Listing.{Listing, listing_done, listing_same}
-use Rattle.schema.proofs.OriginsLaws.{origins_none, next_after, next_inside, origins_next, extension_start, extension_capacity}
-use Rattle.schema.proofs.OriginsLaws.{extension_turn, firsts_none}
+use Rattle.schema.specs.Extensions.{is_new}
+use Rattle.schema.proofs.OriginsLaws.{origins_end, origins_stop, origins_here, origins_over, extension_start, extension_capacity, extension_turn, firsts_none}
 use Rattle.schema.proofs.origins.extensions.Goals as goal
+use Rattle.schema.proofs.origins.extensions.Goals.{then-is_schema_part, else-is_schema_part}
 
--- The origin at hand is the first of those left.
-at_hand : (list₀ list rows whole : List ℕ) (n i k : ℕ) →
-    Listing list₀ list n (firsts eqb (take n list) (filter is_card (origin_list (drop i (lent_rows rows))))) whole →
-    part_from is_schema_part i (drop i (lent_rows rows)) ≡ RowAt k →
-    Listing list₀ list n (firsts eqb (take n list) (filter is_card (get_or rows (3 * k + 2) 0 ∷ origin_list (drop (k + 1) (lent_rows rows))))) whole
-at_hand list₀ list rows whole n i k l f =
-    listing_same _ _ _ _ _ _ l
-    (ap (λ (os : List ℕ). firsts eqb (take n list) (filter is_card os)) (origins_next rows i k f))
+pub loop-i-init : goal.loop-i-init
+loop-i-init c = extension_start _ _
 
-pub loop-k-init : goal.loop-k-init
-loop-k-init c = extension_start _ _
+pub returns-then-is_type : goal.returns-then-is_type
+returns-then-is_type c =
+    let type = sym (ap (λ (r : Row). is_type r.what) c.row-row.ensures) ∙ sym c.is_type.ensures ∙ c.if-is_type.true in
+    listing_done _ _ _ _ _ c.loop-i.invariant (firsts_none _ _ (origins_stop _ _ (omega arith) type))
 
-pub shape_of-list-in_default : goal.shape_of-list-in_default
-shape_of-list-in_default c = c.loop-k.invariant.kept
-
-pub returns-in_default : goal.returns-in_default
-returns-in_default c =
-    listing_done _ _ _ _ _ c.loop-k.invariant
-    (firsts_none _ _ (origins_none _ _ (sym c.next_part.ensures ∙ c.in_default.is)))
-
--- The part that was found is one of the rows that are left.
-pub overflow_mul-k : goal.overflow_mul-k
-overflow_mul-k c = let f = sym c.next_part.ensures ∙ c.in-Row.is in omega (arith, next_after _ _ _ f, next_inside _ _ _ f)
-
-pub overflow_add-k : goal.overflow_add-k
-overflow_add-k c = let f = sym c.next_part.ensures ∙ c.in-Row.is in omega (arith, next_after _ _ _ f, next_inside _ _ _ f)
-
-pub offset_bounds-rows-k : goal.offset_bounds-rows-k
-offset_bounds-rows-k c = let f = sym c.next_part.ensures ∙ c.in-Row.is in omega (arith, next_after _ _ _ f, next_inside _ _ _ f)
-
-pub bounds-rows-k : goal.bounds-rows-k
-bounds-rows-k c = let f = sym c.next_part.ensures ∙ c.in-Row.is in omega (arith, next_after _ _ _ f, next_inside _ _ _ f)
+-- The extension at hand is the first of those left.
+at_hand : (list₀ list rows whole : List ℕ) (n i : ℕ) →
+    Listing list₀ list n (firsts eqb (take n list) (filter is_card (origin_list (drop i (lent_rows rows))))) whole → (os : List ℕ) →
+    origin_list (drop i (lent_rows rows)) ≡ os → Listing list₀ list n (firsts eqb (take n list) (filter is_card os)) whole
+at_hand list₀ list rows whole n i l os e = listing_same _ _ _ _ _ _ l (ap (λ (os : List ℕ). firsts eqb (take n list) (filter is_card os)) e)
 
 pub add_extension-n-requires : goal.add_extension-n-requires
 add_extension-n-requires c =
-    let l = at_hand _ _ _ _ _ _ _ c.loop-k.invariant (sym c.next_part.ensures ∙ c.in-Row.is) in
-    (l.within, extension_capacity _ _ _ _ _ _ l c.requires)
+    let type = sym (ap (λ (r : Row). is_type r.what) c.row-row.ensures) ∙ sym c.is_type.ensures ∙ c.if-is_type.false in
+    let part = sym (ap is_schema_part c.row-row.ensures) ∙ sym c.is_schema_part.ensures ∙ c.if-is_schema_part.true in
+    let l = at_hand _ _ _ _ _ _ c.loop-i.invariant _ (origins_here _ _ (omega arith) type part) in
+    let new = ap (λ (r : Row). is_new (take c.loop-i.n c.loop-i.list) r.origin) c.row-row.ensures in
+    (l.within, λ e. extension_capacity _ _ _ _ _ _ l c.requires (sym new ∙ e))
 
-pub overflow_add-i : goal.overflow_add-i
-overflow_add-i c = let f = sym c.next_part.ensures ∙ c.in-Row.is in omega (arith, next_after _ _ _ f, next_inside _ _ _ f)
+pub loop-i-preserved : goal.loop-i-preserved
+loop-i-preserved c =
+    let type = sym (ap (λ (r : Row). is_type r.what) c.row-row.ensures) ∙ sym c.is_type.ensures ∙ c.if-is_type.false in
+    let list = c.loop-i.list in
+    let n = c.loop-i.n in
+    elim c.if-is_schema_part.branch [
+      | then-is_schema_part w ↦
+          let part = sym (ap is_schema_part c.row-row.ensures) ∙ sym c.is_schema_part.ensures ∙ w.if-is_schema_part.true in
+          let l = at_hand _ _ _ _ _ _ c.loop-i.invariant _ (origins_here _ _ (omega arith) type part) in
+          let added = w.add_extension-n.ensures in
+          extension_turn _ _ _ _ _ _ l c.requires _ _
+          (w.n-is ∙ added.0 ∙ ap (λ (r : Row). choose (is_new (take n list) r.origin) (n + 1) n) c.row-row.ensures)
+          (w.list-is ∙ added.1 ∙ ap (λ (r : Row). choose (is_new (take n list) r.origin) (set list n r.origin) list) c.row-row.ensures)
+      | else-is_schema_part w ↦
+          let part = sym (ap is_schema_part c.row-row.ensures) ∙ sym c.is_schema_part.ensures ∙ w.if-is_schema_part.false in
+          rw (w.n-is, w.list-is) (at_hand _ _ _ _ _ _ c.loop-i.invariant _ (origins_over _ _ (omega arith) type part))
+    ]
 
-pub loop-k-smaller : goal.loop-k-smaller
-loop-k-smaller c = let f = sym c.next_part.ensures ∙ c.in-Row.is in omega (arith, next_after _ _ _ f, next_inside _ _ _ f)
-
-pub loop-k-preserved : goal.loop-k-preserved
-loop-k-preserved c =
-    extension_turn _ _ _ _ _ _ (at_hand _ _ _ _ _ _ _ c.loop-k.invariant (sym c.next_part.ensures ∙ c.in-Row.is))
-    c.requires _ _ c.add_extension-n.ensures.0
-    c.add_extension-n.ensures.1
+pub returns : goal.returns
+returns c = listing_done _ _ _ _ _ c.loop-i.invariant (firsts_none _ _ (origins_end _ _ (omega arith)))

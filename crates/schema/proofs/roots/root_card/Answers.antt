@@ -1,53 +1,20 @@
-use mathlib.Core.Path.{◌∙◌, sym}
-use native.Mathlib.Omega.{arith}
-use Rattle.store_reader.specs.Stored.{stored_parts}
-use Rattle.schema.proofs.RootsLaws.{card_own, card_none, card_object, default_inside}
+use mathlib.Core.Path.{◌∙◌, sym, ap}
+use Rattle.definition.specs.Catalogue.{Row}
+use Rattle.schema_rows.specs.Rows.{row_of, cards_of}
+use Rattle.schema.proofs.RootsLaws.{card_own, card_none, card_object}
 use Rattle.schema.proofs.roots.root_card.Goals as goal
 
 -- A root's own card, or that of the first type row of its default name.
-pub returns-then-card : goal.returns-then-card
-returns-then-card c = card_own _ _ _ c.if-card.true
+pub returns-then-root-ne-ABSENT : goal.returns-then-root-ne-ABSENT
+returns-then-root-ne-ABSENT c = card_own (cards_of c.args.schema) c.args.schema.rows.now (row_of c.args.root) c.if-root-ne-ABSENT.true
 
 pub returns-in_default : goal.returns-in_default
-returns-in_default c = card_none _ _ _ c.if-card.false (sym c.find_default_root.ensures ∙ c.in_default.is)
-
-pub overflow_mul-result : goal.overflow_mul-result
-overflow_mul-result c =
-    let e = c.args in
-    omega (
-      arith,
-      default_inside (stored_parts e.text.now e.words.now) e.rows.now e.i c.if-card.false _
-          (sym c.find_default_root.ensures ∙ c.in-Row.is),
-    )
-
-pub overflow_add-result : goal.overflow_add-result
-overflow_add-result c =
-    let e = c.args in
-    omega (
-      arith,
-      default_inside (stored_parts e.text.now e.words.now) e.rows.now e.i c.if-card.false _
-          (sym c.find_default_root.ensures ∙ c.in-Row.is),
-    )
-
-pub offset_bounds-rows-t : goal.offset_bounds-rows-t
-offset_bounds-rows-t c =
-    let e = c.args in
-    omega (
-      arith,
-      default_inside (stored_parts e.text.now e.words.now) e.rows.now e.i c.if-card.false _
-          (sym c.find_default_root.ensures ∙ c.in-Row.is),
-    )
-
-pub bounds-rows-t : goal.bounds-rows-t
-bounds-rows-t c =
-    let e = c.args in
-    omega (
-      arith,
-      default_inside (stored_parts e.text.now e.words.now) e.rows.now e.i c.if-card.false _
-          (sym c.find_default_root.ensures ∙ c.in-Row.is),
-    )
+returns-in_default c =
+    card_none (cards_of c.args.schema) c.args.schema.rows.now (row_of c.args.root) c.if-root-ne-ABSENT.false
+    (sym c.find_default_root.ensures.found ∙ c.in_default.is)
 
 pub returns : goal.returns
 returns c =
-    card_object _ _ _ c.if-card.false _
-    (sym c.find_default_root.ensures ∙ c.in-Row.is)
+    ap (λ (r : Row). r.card) c.row.ensures
+    ∙ card_object (cards_of c.args.schema) c.args.schema.rows.now (row_of c.args.root) c.if-root-ne-ABSENT.false _
+    (sym c.find_default_root.ensures.found ∙ c.in-Some.is)

@@ -3,17 +3,17 @@ use Rattle.definition.specs.Store.{document_count, ignore_word, text_used_of, ca
 use Rattle.store.proofs.Filed.{text_filed, words_filed}
 use Rattle.store.proofs.filing.file.Goals as goal
 
-pub overflow_cast-row : goal.overflow_cast-row
+pub overflow_cast-row_at : goal.overflow_cast-row_at
 unfolding document_count
-overflow_cast-row c = omega (arith, c.requires.few)
+overflow_cast-row_at c = omega (arith, c.requires.few)
 
-pub overflow_mul-row : goal.overflow_mul-row
+pub overflow_mul-row_at : goal.overflow_mul-row_at
 unfolding document_count
-overflow_mul-row c = omega (arith, c.requires.few)
+overflow_mul-row_at c = omega (arith, c.requires.few)
 
-pub overflow_add-row : goal.overflow_add-row
+pub overflow_add-row_at : goal.overflow_add-row_at
 unfolding document_count
-overflow_add-row c = omega (arith, c.requires.few)
+overflow_add-row_at c = omega (arith, c.requires.few)
 
 pub overflow_cast-unused : goal.overflow_cast-unused
 unfolding cards_used_of
@@ -71,7 +71,7 @@ pub returns : goal.returns
 unfolding document_count ignore_word text_used_of cards_used_of
 returns c =
     let e = c.args in record {
-      text_after = text_filed e.text.now e.words.now e.lent.now e.cards.now _ c.append_text.ensures;
-      words_after = words_filed e.text.now e.words.now e.lent.now e.cards.now _ _ _ c.write_counts.ensures c.write_row.ensures
+      text_after = text_filed e.text.now e.words.now e.lent.text.now e.lent.cards.now _ c.append_text.ensures;
+      words_after = words_filed e.text.now e.words.now e.lent.text.now e.lent.cards.now _ _ _ c.write_counts.ensures c.write_row.ensures
           c.append_cards.ensures;
     }

@@ -10,8 +10,8 @@ append_cards-requires c =
 pub returns : goal.returns
 returns c =
     let e = c.args in record {
-      text_after = text_opened e.text.now e.words.now e.lent.now e.cards.now _
+      text_after = text_opened e.text.now e.words.now e.lent.text.now e.lent.cards.now _
           c.append_text.ensures;
-      words_after = words_opened e.text.now e.words.now e.lent.now e.cards.now _ _
+      words_after = words_opened e.text.now e.words.now e.lent.text.now e.lent.cards.now _ _
           c.write_front.ensures c.append_cards.ensures;
     }

@@ -8,6 +8,6 @@ pub returns-then-n-used : goal.returns-then-n-used
 unfolding cards_used_of
 returns-then-n-used c = c.word.ensures ∙ sym (word_here _ _ _ c.word-used.ensures _ c.if-n-used.true)
 
-pub returns : goal.returns
+pub returns-else-n-used : goal.returns-else-n-used
 unfolding cards_used_of
-returns c = sym (word_none _ _ _ c.word-used.ensures _ c.if-n-used.false)
+returns-else-n-used c = sym (word_none _ _ _ c.word-used.ensures _ c.if-n-used.false)

@@ -1,0 +1,7 @@
+use mathlib.Core.Path.{sym}
+use native.Mathlib.Omega.{arith}
+use Rattle.parser_lexer.proofs.NameLaws.{lower}
+use Rattle.parser_lexer.proofs.words.goes_on.Goals as goal
+
+pub returns-in-97-to-122 : goal.returns-in-97-to-122
+returns-in-97-to-122 c = sym (lower _ (omega arith) (omega arith))
