@@ -7,7 +7,7 @@ use lib.Dec.{eqb, ltb}
 use lib.ListN.{length}
 use Rattle.definition.specs.declared.Drawing.{Drawing}
 use Rattle.definition.specs.Lists.{choose}
-use Rattle.definition.specs.Merge.{Merged, merge}
+use Rattle.definition.specs.Merge.{merge}
 use Rattle.definition.specs.Refusals.{rows_capacity, errors_capacity}
 use Rattle.definition.specs.Store.{account_in, store_refusal}
 use Rattle.definition.specs.Outcomes.{BuildOutcome, unbuilt, merged_into, is_short, build_of, build}
@@ -49,19 +49,3 @@ module _ (text words rows errors : List ℕ) where
         left r rows' errors' ≡ build text words rows errors
     unfolding built_from
     build_done z rows' errors' d = outcome_done _ n e _ (unbuilt rows errors) _ build_by _ z d
-
--- Until the drawing below answers with what was drawn: its number is 0.
-pub drawn : (d : Drawing) (rows errors rows₀ errors₀ : List ℕ) (m : Merged) → left d rows errors ≡ merged_into rows₀ errors₀ m →
-    left (record { number = 0; rows = d.rows; reading_errors = d.reading_errors; drawing_errors = d.drawing_errors; tallies = d.tallies }) rows errors
-    ≡ merged_into rows₀ errors₀ m
-unfolding merged_into
-drawn d rows errors rows₀ errors₀ m e = λ i.
-    left
-    (record {
-      number = 0;
-      rows = (e i).drawing.rows;
-      reading_errors = (e i).drawing.reading_errors;
-      drawing_errors = (e i).drawing.drawing_errors;
-      tallies = (e i).drawing.tallies;
-    })
-    (e i).rows (e i).errors

@@ -7,10 +7,7 @@ use lib.Dec.{eqb}
 use lib.ListN.{length}
 use borrow.Author.Tests.{ne_eqb}
 use Rattle.definition.specs.declared.OperationType.{OperationType}
-use Rattle.definition.specs.declared.FieldLookup.{FieldLookup}
-use Rattle.definition.specs.declared.FieldLookup.TheVariants.{Refused}
-use Rattle.definition.specs.declared.SubtypeLookup.{SubtypeLookup}
-use Rattle.definition.specs.declared.SubtypeLookup.TheVariants.{Subtype, NotSubtype, Refused as SubtypeRefused}
+use Rattle.definition.specs.Answers.{FieldLookup, SubtypeLookup, Subtype, NotSubtype}
 use Rattle.definition.specs.Lists.{choose, flat_map}
 use Rattle.definition.specs.Names.{bytes_at}
 use Rattle.definition.specs.Answers.{answer, field_refusal, field_number, field_meta, field_card, subtype_refusal, subtype_number}
@@ -75,17 +72,17 @@ module _ (text words rows : List ℕ) where
   pub type_field_by : (type field : List ℕ) →
       type_field text words rows type field ≡
       choose (eqb (lookup_refusal text words rows) 0) (field_named (held (account_in text words).documents) (lent_rows rows) type field)
-      (Refused (lookup_refusal text words rows))
+      (FieldLookup.Refused (lookup_refusal text words rows))
   unfolding type_field field_of_type lookup_refusal
-  type_field_by type field = one_number (store_refusal text words) (rows_refusal (account_in text words).documents rows) _ Refused
+  type_field_by type field = one_number (store_refusal text words) (rows_refusal (account_in text words).documents rows) _ FieldLookup.Refused
 
   pub is_subtype_by : (general other : List ℕ) →
       is_subtype text words rows general other ≡
       choose (eqb (lookup_refusal text words rows) 0)
       (choose (is_subtype_of (held (account_in text words).documents) (lent_rows rows) general other) Subtype NotSubtype)
-      (SubtypeRefused (lookup_refusal text words rows))
+      (SubtypeLookup.Refused (lookup_refusal text words rows))
   unfolding is_subtype subtype_answer lookup_refusal
-  is_subtype_by general other = one_number (store_refusal text words) (rows_refusal (account_in text words).documents rows) _ SubtypeRefused
+  is_subtype_by general other = one_number (store_refusal text words) (rows_refusal (account_in text words).documents rows) _ SubtypeLookup.Refused
 
   -- The lookups that fill a slice: 7 after the others.
   module _ (lent : List ℕ) where

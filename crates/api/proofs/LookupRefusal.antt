@@ -2,20 +2,17 @@
 use mathlib.Core.Path.{◌≡◌, refl, sym, ◌∙◌}
 use mathlib.Core.List.{List}
 use mathlib.Core.Bool.{Bool, true, false}
-use Prim.Native.Nat.{ℕ, ◌%◌}
+use Prim.Native.Nat.{ℕ}
 use native.Mathlib.Omega.{arith}
 use lib.Dec.{eqb}
-use lib.ListN.{length}
 use borrow.Author.Tests.{eqb-true, eq-eqb, ne_eqb}
-use Rattle.definition.specs.Lists.{choose, all}
-use Rattle.definition.specs.Headings.{Document}
+use Rattle.definition.specs.Lists.{choose}
 use Rattle.definition.specs.Store.{account_in, too_short, sound, store_refusal}
-use Rattle.definition.specs.LentRows.{held, lent_rows, rows_refusal, row_clauses, passes}
+use Rattle.definition.specs.LentRows.{rows_refusal}
 use Rattle.std.specs.Prelude.{Result, Ok, Err}
 use Rattle.definition.specs.declared.refusal.Refusal.{Refusal}
 use Rattle.definition.specs.declared.refusal.Refusal.TheVariants as R
-use Rattle.definition.specs.Numbers.{refusal_number}
-use Rattle.schema_rows.specs.Walk.{told_number}
+use Rattle.definition.specs.Numbers.{refusal_number, told_number}
 use Rattle.store_check.specs.Check.{Checked}
 use Rattle.store_check.proofs.Sound.{accepted}
 use Rattle.api.specs.LookupRefusal.{lookup_refusal}

@@ -2,9 +2,7 @@
 -- plain account answers them. proofs/EntriesAgree.antt proves it.
 use Rattle.std.specs.Prelude.{◌≡◌, List, [], ◌∷◌, ℕ}
 use Rattle.definition.specs.declared.Answer.{Answer}
-use Rattle.definition.specs.declared.FieldLookup.{FieldLookup}
-use Rattle.definition.specs.declared.SubtypeLookup.{SubtypeLookup}
-use Rattle.definition.specs.Answers.{answer}
+use Rattle.definition.specs.Answers.{answer, FieldLookup, SubtypeLookup}
 use Rattle.definition.specs.Outcomes.{BuildOutcome, RootName, ListOutcome}
 use Rattle.definition.specs.Calls.{Call, opening, filing, adopting, ignoring, building, checking, root_asked, field_asked, subtype_asked, origins_asked}
 use Rattle.definition.specs.Calls.{extensions_asked, implementers_asked, parsing, Reply, answered, built, named, fielded, subtyped, listed}

@@ -5,3 +5,5 @@ pub mod Entries
 -- What every lookup refuses first, and what a drawing refuses.
 pub mod LookupRefusal
 pub mod BuildRefusal
+-- The numbers of an answer that is an enum.
+pub mod Answered

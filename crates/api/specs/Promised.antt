@@ -5,9 +5,7 @@ use Rattle.std.specs.Borrow.{Bor}
 use Rattle.definition.specs.declared.Answer.{Answer}
 use Rattle.definition.specs.declared.Drawing.{Drawing}
 use Rattle.definition.specs.declared.OperationType.{OperationType}
-use Rattle.definition.specs.declared.FieldLookup.{FieldLookup}
-use Rattle.definition.specs.declared.SubtypeLookup.{SubtypeLookup}
-use Rattle.definition.specs.Answers.{field_refusal, field_number, field_meta, field_card, subtype_refusal, subtype_number}
+use Rattle.definition.specs.Answers.{field_refusal, field_number, field_meta, field_card, subtype_refusal, subtype_number, FieldLookup, SubtypeLookup}
 use Rattle.definition.specs.Lookups.{span}
 use Rattle.definition.specs.Outcomes.{StoreOutcome, BuildOutcome, RootName, ListOutcome, open_store, add_ast, adopt_orphan_extensions}
 use Rattle.definition.specs.Outcomes.{ignore_builtin_redefinitions, build}

@@ -8,10 +8,7 @@ use Rattle.definition.specs.declared.Drawing.{Drawing}
 use Rattle.definition.specs.declared.OperationType.{OperationType}
 use Rattle.definition.specs.declared.FieldFound.{FieldFound}
 use Rattle.definition.specs.declared.FieldFound.TheVariants.{Explicit, Typename, Schema, «Type» as MetaType}
-use Rattle.definition.specs.declared.FieldLookup.{FieldLookup}
-use Rattle.definition.specs.declared.FieldLookup.TheVariants.{Found, NoSuchType, NoSuchField, Refused}
-use Rattle.definition.specs.declared.SubtypeLookup.{SubtypeLookup}
-use Rattle.definition.specs.declared.SubtypeLookup.TheVariants.{Subtype, NotSubtype, Refused as SubtypeRefused}
+use Rattle.definition.specs.Answers.{FieldLookup, Found, NoSuchType, NoSuchField, Refused, SubtypeLookup, Subtype, NotSubtype}
 use Rattle.definition.specs.Lists.{choose}
 use Rattle.definition.specs.Answers.{meta_number, explicit_card, field_refusal, field_number, field_meta, field_card, subtype_refusal, subtype_number}
 use Rattle.definition.specs.Outcomes.{BuildOutcome, RootName, ListOutcome}
@@ -33,7 +30,7 @@ field_of refusal number meta card =
     (choose (eqb number 1) (Found (found_of meta card)) (choose (eqb number 2) NoSuchType (NoSuchField card)))
 
 abbrev subtype_of : ℕ → ℕ → SubtypeLookup
-subtype_of refusal number = choose (eqb refusal 0) (choose (eqb number 1) Subtype NotSubtype) (SubtypeRefused refusal)
+subtype_of refusal number = choose (eqb refusal 0) (choose (eqb number 1) Subtype NotSubtype) (SubtypeLookup.Refused refusal)
 
 found_told : (f : FieldFound) → found_of (meta_number f) (explicit_card f) ≡ f
 found_told (Explicit c) = refl
@@ -52,12 +49,12 @@ same_field r outcome e = sym (field_told r) ∙ (λ i. field_of (e.0 i) (e.1 i) 
 
 -- Of `is_subtype` a no and a refusal with the number 0 would have the same numbers; 01 has no refusal 0.
 abbrev Numbered : SubtypeLookup → Type 0
-Numbered r = r ≡ SubtypeRefused 0 → ⊥
+Numbered r = r ≡ SubtypeLookup.Refused 0 → ⊥
 
 subtype_told : (r : SubtypeLookup) → Numbered r → subtype_of (subtype_refusal r) (subtype_number r) ≡ r
 subtype_told Subtype h = refl
 subtype_told NotSubtype h = refl
-subtype_told (SubtypeRefused n) h = rw (ne_eqb n 0 (λ e. h (ap SubtypeRefused e)))
+subtype_told (SubtypeLookup.Refused n) h = rw (ne_eqb n 0 (λ e. h (ap SubtypeLookup.Refused e)))
 
 pub same_subtype : (r outcome : SubtypeLookup) → Numbered r → Numbered outcome → SameSubtype r outcome → r ≡ outcome
 same_subtype r outcome h k e = sym (subtype_told r h) ∙ (λ i. subtype_of (e.0 i) (e.1 i)) ∙ subtype_told outcome k

@@ -1,84 +1,93 @@
-// The numbers that 01 gives to an answer, for the entries of C and for the lines of calls.
-ghost use Rattle.std.specs.Prelude.{◌≡◌};
-ghost use Rattle.definition.specs.Answers.{meta_number, explicit_card, field_refusal, field_number, field_meta, field_card, subtype_refusal, subtype_number};
+// The numbers of an answer that is an enum, as C's entries hand them back and the lines of calls have them.
 ghost use Rattle.definition.specs.Numbers.{field_lookup, subtype_lookup};
+ghost use Rattle.api.specs.Answered.{FieldNumbers, SubtypeNumbers};
 
 use definition::refusal::Refusal;
 use definition::{ABSENT, FieldFound, FieldLookupError};
 
-fn meta_number(found: FieldFound) -> u32
-    ensures { result ≡ meta_number found }
-{
-    match found {
-        FieldFound::Explicit(_) => 0,
-        FieldFound::Typename => 1,
-        FieldFound::Schema => 2,
-        FieldFound::Type => 3,
+// The four numbers of `type_field`'s answer: the refusal or 0, what became of the field, which one was found, and the card.
+#[repr(C)]
+#[derive(Clone, Copy)]
+pub struct FieldAnswer {
+    pub refusal: u32,
+    pub number: u32,
+    pub meta: u32,
+    pub card: u32,
+}
+
+// The two numbers of `is_subtype`'s answer: the refusal or 0, and 1 for yes, else 0.
+#[repr(C)]
+#[derive(Clone, Copy)]
+pub struct SubtypeAnswer {
+    pub refusal: u32,
+    pub yes: u32,
+}
+
+// What a refused lookup tells but for its refusal.
+const NOTHING: FieldAnswer = FieldAnswer {
+    refusal: 0,
+    number: 0,
+    meta: ABSENT,
+    card: ABSENT,
+};
+
+impl From<FieldFound> for FieldAnswer {
+    ghost use Rattle.definition.specs.Answers.{Found};
+
+    ghost from_gives = { λ found answer. FieldNumbers (Found found) answer };
+
+    fn from(found: FieldFound) -> FieldAnswer {
+        let (meta, card) = match found {
+            FieldFound::Explicit(card) => (0, card),
+            FieldFound::Typename => (1, ABSENT),
+            FieldFound::Schema => (2, ABSENT),
+            FieldFound::Type => (3, ABSENT),
+        };
+        FieldAnswer {
+            refusal: 0,
+            number: 1,
+            meta,
+            card,
+        }
     }
 }
 
-fn explicit_card(found: FieldFound) -> u32
-    ensures { result ≡ explicit_card found }
-{
-    match found {
-        FieldFound::Explicit(card) => card,
-        _ => ABSENT,
+impl From<Result<FieldFound, FieldLookupError>> for FieldAnswer {
+    ghost from_gives = { λ told answer. FieldNumbers (field_lookup told) answer };
+
+    fn from(told: Result<FieldFound, FieldLookupError>) -> FieldAnswer {
+        match told {
+            Ok(found) => FieldAnswer::from(found),
+            Err(FieldLookupError::NoSuchType) => FieldAnswer {
+                number: 2,
+                ..NOTHING
+            },
+            Err(FieldLookupError::NoSuchField(card)) => FieldAnswer {
+                number: 3,
+                card,
+                ..NOTHING
+            },
+            Err(FieldLookupError::Refused(refusal)) => FieldAnswer {
+                refusal: refusal.number(),
+                ..NOTHING
+            },
+        }
     }
 }
 
-pub fn field_refusal(answer: Result<FieldFound, FieldLookupError>) -> u32
-    ensures { result ≡ field_refusal (field_lookup answer) }
-{
-    match answer {
-        Err(FieldLookupError::Refused(refusal)) => refusal.number(),
-        _ => 0,
-    }
-}
+impl From<Result<bool, Refusal>> for SubtypeAnswer {
+    ghost from_gives = { λ told answer. SubtypeNumbers (subtype_lookup told) answer };
 
-pub fn field_number(answer: Result<FieldFound, FieldLookupError>) -> u32
-    ensures { result ≡ field_number (field_lookup answer) }
-{
-    match answer {
-        Err(FieldLookupError::Refused(_)) => 0,
-        Ok(_) => 1,
-        Err(FieldLookupError::NoSuchType) => 2,
-        Err(FieldLookupError::NoSuchField(_)) => 3,
-    }
-}
-
-pub fn field_meta(answer: Result<FieldFound, FieldLookupError>) -> u32
-    ensures { result ≡ field_meta (field_lookup answer) }
-{
-    match answer {
-        Ok(found) => meta_number(found),
-        Err(_) => ABSENT,
-    }
-}
-
-pub fn field_card(answer: Result<FieldFound, FieldLookupError>) -> u32
-    ensures { result ≡ field_card (field_lookup answer) }
-{
-    match answer {
-        Ok(found) => explicit_card(found),
-        Err(FieldLookupError::NoSuchField(card)) => card,
-        Err(_) => ABSENT,
-    }
-}
-
-pub fn subtype_refusal(answer: Result<bool, Refusal>) -> u32
-    ensures { result ≡ subtype_refusal (subtype_lookup answer) }
-{
-    match answer {
-        Ok(_) => 0,
-        Err(refusal) => refusal.number(),
-    }
-}
-
-pub fn subtype_number(answer: Result<bool, Refusal>) -> u32
-    ensures { result ≡ subtype_number (subtype_lookup answer) }
-{
-    match answer {
-        Ok(true) => 1,
-        _ => 0,
+    fn from(told: Result<bool, Refusal>) -> SubtypeAnswer {
+        match told {
+            Ok(yes) => SubtypeAnswer {
+                refusal: 0,
+                yes: u32::from(yes),
+            },
+            Err(refusal) => SubtypeAnswer {
+                refusal: refusal.number(),
+                yes: 0,
+            },
+        }
     }
 }

@@ -1,5 +1,6 @@
 // The public entries: SchemaBuilder's calls and the schema's lookups over a store that the caller lends. Each refuses in the fixed order and else does
 // what the crates below do; none asks anything of its caller.
+// Stays: an entry takes each slice by itself, as C lends it, and makes one value of those that go together before it calls.
 #![tactic(auto)]
 
 ghost use Rattle.definition.specs.Numbers.{done_answer, count_answer, drawing_answer, field_lookup, subtype_lookup};
@@ -7,6 +8,7 @@ ghost use Rattle.api.specs.Promised.{Opens, Files, Adopts, Ignores, Builds};
 ghost use Rattle.api.specs.Promised.{ChecksRows, part_in, LiesIn, NamesRoot, FindsField, TellsSubtype, ListsOrigins, ListsExtensions, MapsImplementers};
 ghost use Rattle.api.specs.Promised.{Parses};
 
+use ast_check::Document;
 use definition::layout::{GROUPS_CAPACITY, ORIGINS_CAPACITY};
 use definition::refusal::{Refusal, Refused};
 use definition::{Drawn, FieldFound, FieldLookupError, OperationType};
@@ -20,7 +22,7 @@ pub fn open(text: &mut [u8], words: &mut [u32], lent: &[u8], cards: &[u32]) -> R
     ensures { Opens text.old words.old lent.now cards.now (done_answer result) text.new
         words.new }
 {
-    store::open(text, words, lent, cards)
+    store::open(text, words, Document { text: lent, cards })
 }
 
 // Files a document after those held.
@@ -33,7 +35,7 @@ pub fn add_ast(
     ensures { Files text.old words.old lent.now cards.now (done_answer result) text.new
         words.new }
 {
-    store::add_ast(text, words, lent, cards)
+    store::add_ast(text, words, Document { text: lent, cards })
 }
 
 // Extensions without a definition are adopted from now on.
@@ -51,6 +53,7 @@ pub fn ignore_builtin_redefinitions(text: &[u8], words: &mut [u32]) -> Result<()
 }
 
 // Draws the store's documents: rows and errors, with their counts and tallies.
+#[tactic(auto, using(std::proofs::lemmas::Result::err_from_is_err_and, store_check::proofs::Sound::long, crate::proofs::LookupRefusal::numbered, crate::proofs::BuildRefusal::drawable, crate::proofs::BuildOutcomes::build_refused), unfolding(definition::specs::Outcomes::unbuilt))]
 pub fn build(
     text: &[u8],
     words: &[u32],
@@ -61,16 +64,11 @@ pub fn build(
         errors.new }
 {
     crate::refusals::check_build(text, words, rows.len(), errors.len())?;
-    let drawing = from_ast::build_inner(text, words, rows, errors);
-    Ok(Drawn {
-        rows: drawing.rows,
-        reading_errors: drawing.reading_errors,
-        drawing_errors: drawing.drawing_errors,
-        tallies: drawing.tallies,
-    })
+    Ok(from_ast::build_inner(text, words, rows, errors))
 }
 
 // What a lookup over this store and these rows is refused with, which tells a refused `root_operation` from one that found no root.
+#[tactic(auto, using(std::proofs::lemmas::Result::err_from_is_err_and, crate::proofs::LookupOutcomes::check_rows_by))]
 pub fn check_rows(text: &[u8], words: &[u32], rows: &[u32]) -> Result<(), Refused>
     ensures { ChecksRows text.now words.now rows.now (done_answer result) }
 {
@@ -79,6 +77,7 @@ pub fn check_rows(text: &[u8], words: &[u32], rows: &[u32]) -> Result<(), Refuse
 }
 
 // The name of a root operation's type, as a part of the store's text; empty where there is none or the call is refused.
+#[tactic(auto, using(crate::proofs::LookupRefusal::unrefused, crate::proofs::RootOutcomes::root_done))]
 pub fn root_operation<'a>(
     text: &'a [u8],
     words: &[u32],
@@ -95,6 +94,7 @@ pub fn root_operation<'a>(
 }
 
 // The field of a type, by both names.
+#[tactic(auto, using(std::proofs::lemmas::Result::err_from_is_err_and, crate::proofs::LookupRefusal::unrefused, crate::proofs::LookupRefusal::numbered, crate::proofs::LookupOutcomes::type_field_by, crate::proofs::LookupOutcomes::finds_field, crate::proofs::LookupOutcomes::outcome_refused, crate::proofs::LookupOutcomes::outcome_done))]
 pub fn type_field(
     text: &[u8],
     words: &[u32],
@@ -109,6 +109,7 @@ pub fn type_field(
 }
 
 // Whether the type of the other name implements the interface or is a member of the union of the general name.
+#[tactic(auto, using(std::proofs::lemmas::Result::err_from_is_err_and, crate::proofs::LookupRefusal::unrefused, crate::proofs::LookupRefusal::numbered, crate::proofs::LookupOutcomes::is_subtype_by, crate::proofs::LookupOutcomes::tells_subtype, crate::proofs::LookupOutcomes::subtype_told, crate::proofs::LookupOutcomes::outcome_refused, crate::proofs::LookupOutcomes::outcome_done))]
 pub fn is_subtype(
     text: &[u8],
     words: &[u32],
@@ -124,6 +125,7 @@ pub fn is_subtype(
 }
 
 // Writes the origin of each part of the schema definition.
+#[tactic(auto, using(std::proofs::lemmas::Result::err_from_is_err_and, schema::proofs::OriginsFit::origins_fit, crate::proofs::ListRefusal::list_unrefused, crate::proofs::ListRefusal::list_capacity, crate::proofs::LookupRefusal::numbered, crate::proofs::ListOutcomes::iter_origins_listed, crate::proofs::ListOutcomes::list_refused))]
 pub fn iter_origins(
     text: &[u8],
     words: &[u32],
@@ -138,6 +140,7 @@ pub fn iter_origins(
 }
 
 // Writes the extensions that added to the schema definition, each once.
+#[tactic(auto, using(std::proofs::lemmas::Result::err_from_is_err_and, schema::proofs::OriginsFit::extensions_fit, crate::proofs::ListRefusal::list_unrefused, crate::proofs::ListRefusal::list_capacity, crate::proofs::LookupRefusal::numbered, crate::proofs::ListOutcomes::extensions_listed, crate::proofs::ListOutcomes::list_refused))]
 pub fn extensions(
     text: &[u8],
     words: &[u32],
@@ -152,6 +155,7 @@ pub fn extensions(
 }
 
 // The types that implement each interface, group by group. How many groups there are is answered.
+#[tactic(auto, using(std::proofs::lemmas::Result::err_from_is_err_and, crate::proofs::ListRefusal::list_unrefused, crate::proofs::ListRefusal::list_capacity, crate::proofs::LookupRefusal::numbered, crate::proofs::ListOutcomes::implementers_map_listed, crate::proofs::ListOutcomes::list_refused))]
 pub fn implementers_map(
     text: &[u8],
     words: &[u32],

@@ -1,7 +1,6 @@
 // What the entries refuse before they draw or look up, in the fixed order.
 ghost use Rattle.std.specs.Prelude.{◌≡◌, MatchResult};
-ghost use Rattle.definition.specs.Numbers.{refusal_number};
-ghost use Rattle.schema_rows.specs.Walk.{told_number};
+ghost use Rattle.definition.specs.Numbers.{refusal_number, told_number};
 ghost use Rattle.api.specs.LookupRefusal.{lookup_refusal, list_refusal};
 ghost use Rattle.api.specs.BuildRefusal.{build_refusal};
 
@@ -22,6 +21,7 @@ pub fn check_build(text: &[u8], words: &[u32], rows: usize, errors: usize) -> Re
 }
 
 // 21, 22 and 26: what every lookup asks first.
+// Stays: here the slices that C lends one by one become the one value that the lookups take.
 #[tactic(auto, using(crate::proofs::LookupRefusal::store_number, crate::proofs::LookupRefusal::store_refused, crate::proofs::LookupRefusal::rows_told, store_check::proofs::Sound::accepted))]
 pub fn checked<'text, 'lent>(
     text: &'text [u8],

@@ -115,6 +115,7 @@ pub fn is_extension_of(kind: u32, definition: u32) -> bool
 }
 
 // The definition's kind of what a heading defines or extends; 0 for operations, fragments and directives.
+// Stays: 0 is no kind, here and in specs/; of six callers two match all kinds and four ask of what has one, which would take an Option apart again by `unwrap_or(0)`.
 #[tactic(auto, unfolding(definition::specs::Cards::definition_of))]
 pub fn definition_of(kind: u32) -> u32
     ensures { result ≡ definition_of kind }

@@ -2,9 +2,8 @@
 use Rattle.std.proofs.Math.Option.{Option, none, some}
 use Rattle.std.specs.Prelude.{List, ℕ, Some, None, Result, Ok, Err}
 use Rattle.definition.specs.declared.Answer.{Answer}
-use Rattle.definition.specs.declared.refusal.Refusal.{Refusal}
 use Rattle.definition.specs.declared.refusal.Refused.{Refused}
-use Rattle.definition.specs.Numbers.{refusal_number, refused_answer}
+use Rattle.definition.specs.Numbers.{refused_answer}
 use Rattle.definition.specs.Lists.{choose}
 use Rattle.definition.specs.Cards.{Place, is_part, place_after}
 use Rattle.ast.specs.declared.Card.{Card}
@@ -26,11 +25,6 @@ judged_of n c = choose (is_part c.kind) n (record { heading = None; sibling = n.
 
 unfoldable pub next_of : Neighbours → Card → Neighbours
 next_of n c = choose (is_part c.kind) (record { heading = n.heading; sibling = Some c }) (record { heading = Some c; sibling = None })
-
--- The number of the refusal that is told, 0 where there is none.
-abbrev pub told_number : Result Unit Refusal → ℕ
-told_number (Ok _) = 0
-told_number (Err r) = refusal_number r
 
 -- The refusal that a check answers.
 abbrev pub check_option : Result Unit Refused → Option Answer

@@ -4,7 +4,8 @@
 ghost use Rattle.std.specs.Prelude.{◌≡◌};
 ghost use Rattle.definition.specs.Cards.{faults, fault_among, cards_of, card_fault, document_fault};
 ghost use Rattle.ast.specs.Cards.{card_of};
-ghost use Rattle.ast_check.specs.Checks.{place_of, place_with, judged_of, next_of, told_number, check_option};
+ghost use Rattle.definition.specs.Numbers.{told_number};
+ghost use Rattle.ast_check.specs.Checks.{place_of, place_with, judged_of, next_of, check_option};
 
 use crate::faults::{DocumentText, Neighbours};
 use ast::{Card, kinds};
@@ -94,6 +95,7 @@ fn fault_after(document: DocumentText, before: Neighbours, card: Card) -> Result
 }
 
 // The first faulty card among the cards of a document, with the first of its faults. Words past the last whole card are not looked at.
+#[tactic(auto, using(crate::proofs::Walk::faults_all, crate::proofs::Walk::faults_end, crate::proofs::Walk::faults_next))]
 pub fn check_cards(document: DocumentText, cards: &[u32]) -> Result<(), Refused>
     ensures { check_option result ≡ card_fault document.entry.text.now document.entry.base document.entry.size (cards_of cards.now) }
 {

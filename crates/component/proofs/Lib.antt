@@ -7,3 +7,4 @@ pub mod Matching
 pub mod Blocks
 pub mod Directives
 pub mod SchemaLists
+pub mod Loops

@@ -2,13 +2,11 @@
 use mathlib.Core.Path.{◌≡◌, sym, ap, ◌∙◌}
 use mathlib.Core.Bool.{Bool, true, false}
 use mathlib.Core.List.{List, [], ◌∷◌, ◌++◌, append_assoc, append-nil}
-use Prim.Native.Nat.{ℕ, suc, ◌+◌, ◌-◌, ◌≤◌, ◌<◌}
-use native.Mathlib.Nat.{sub-zero}
+use Prim.Native.Nat.{ℕ, ◌+◌, ◌-◌, ◌≤◌, ◌<◌}
 use native.Mathlib.Omega.{arith}
 use borrow.Author.Tests.{eq-eqb, ne_eqb, le-leb, lt-leb}
 use lib.Dec.{eqb}
-use lib.ListN.{length, get_or, take, drop, set}
-use lib.Seq.{take-suc-set}
+use lib.ListN.{length, get_or, drop}
 use Rattle.definition.specs.Lists.{filter}
 use Rattle.definition.specs.Cards.{definition_of}
 use Rattle.definition.specs.Headings.{is_of, is_kind, is_named}

@@ -3,7 +3,8 @@ use mathlib.Core.Path.{◌≡◌, refl, sym, ap, ◌∙◌}
 use mathlib.Core.Bool.{Bool, true, false, ◌&&◌}
 use mathlib.Core.List.{List, [], ◌∷◌, ◌++◌, map}
 use Rattle.std.specs.Prelude.{Option, Some, None}
-use Rattle.std.specs.Option.{is_some}
+use Rattle.std.specs.Option.{is_some, unwrap_or}
+use Rattle.std.specs.Bool.{then_some}
 use Prim.Native.Nat.{ℕ, suc, ◌+◌, ◌-◌, ◌*◌, ◌≤◌, ◌<◌}
 use native.Mathlib.Omega.{arith}
 use borrow.Author.Tests.{eq-eqb, ne_eqb, lt-ltb, le-ltb}
@@ -13,7 +14,7 @@ use Rattle.definition.specs.Lists.{choose, filter, any, flat_map}
 use Rattle.definition.specs.Answers.{absent}
 use Rattle.definition.specs.Cards.{is_root, is_part, definition_of}
 use Rattle.definition.specs.Headings.{NamedCard, is_of, is_kind, is_named}
-use Rattle.definition.specs.Catalogue.{component, components, Row, row, component_row, is_component_of, under_type}
+use Rattle.definition.specs.Catalogue.{component, components, Row, row, component_row, is_component_of}
 use Rattle.definition.specs.Store.{cards_used_of}
 use Rattle.definition.proofs.Lists.{filter_yes, filter_no}
 use Rattle.from_ast_index.specs.Index.{same_cards, is_type_extension_kind}
@@ -21,9 +22,8 @@ use Rattle.from_ast_index.proofs.Lists.{never, drop_next, drop_end}
 use Rattle.store_reader.specs.Stored.{card_kind, card_at, built_in_count, built_in_at, parts_from, stored_parts}
 use Rattle.store_reader.proofs.Words.{parts_next, parts_stop, parts_end}
 use Rattle.component.specs.Pushed.{Filled, Fits, row_in, rows_from, used_from, place_of, alike_rows, pushed, extend_sticky, rows_of_kind}
-use Rattle.component.specs.RowsByCards.{same_stored, head_rows, extend_by_card, extend_by_heading, extension_rows, list_rows, list_at, lists_at}
+use Rattle.component.specs.RowsByCards.{same_stored, head_rows, extend_by_card, extend_by_heading, extension_rows, list_rows, list_at}
 use Rattle.component.specs.RowsByCards.{type_row_at, standing_card, names_directive, standing_at, directive_rows_of, directive_rows_at}
-use Rattle.component.proofs.Pushing.{Left, rest_begin}
 use Rattle.component.proofs.Sticky.{extended_none, extended_old, extended_new, capacity_new, Growing, Extending, grow_fresh, grow_begin, grow_end, grow_capacity, grow_next}
 use Rattle.component.proofs.Listed.{kind_append}
 
@@ -234,22 +234,18 @@ module _ (text words ns : List ℕ) (card k : ℕ) where
   unfolding list_at
   list_begin s f = grow_fresh (same_stored text words) s.used (list_rows text words ns card k) s refl f
 
--- all lists, one a kind
-pub lists_begin : (text words ns : List ℕ) (card : ℕ) (s : Filled) → Fits s.rows (pushed (lists_at text words ns card) s) →
-    Left (list_at text words ns card) (21 ∷ 20 ∷ 22 ∷ 23 ∷ 24 ∷ 25 ∷ []) s (pushed (lists_at text words ns card) s)
-unfolding under_type
-lists_begin text words ns card s f = rest_begin _ s _ refl f
-
 -- ---- A type.
 
-module _ (words : List ℕ) (card what : ℕ) (is : what ≡ definition_of (card_kind words card)) (s : Filled) where
-  pub row_adopted : is_type_extension_kind (card_kind words card) ≡ true → pushed (row what card card ∷ []) s ≡ pushed (type_row_at words card ∷ []) s
-  unfolding type_row_at
-  row_adopted h = rw h (λ i. pushed (row (is i) card card ∷ []) s)
-
-  pub row_defined : is_type_extension_kind (card_kind words card) ≡ false → pushed (row what card absent ∷ []) s ≡ pushed (type_row_at words card ∷ []) s
-  unfolding type_row_at
-  row_defined h = rw h (λ i. pushed (row (is i) card absent ∷ []) s)
+-- The row of a type whose extension is told as its origin, if it is one.
+pub type_row : (words : List ℕ) (card what : ℕ) (adopted : Bool) (origin : Option ℕ) → what ≡ definition_of (card_kind words card) →
+    adopted ≡ is_type_extension_kind (card_kind words card) → origin ≡ then_some adopted card → row what card (unwrap_or origin absent) ≡ type_row_at words card
+unfolding type_row_at
+type_row words card what adopted origin is h o = rw (o, is, h) (go (is_type_extension_kind (card_kind words card)))
+  where
+    go : (b : Bool) → row (definition_of (card_kind words card)) card (unwrap_or (then_some b card) absent)
+        ≡ row (definition_of (card_kind words card)) card (choose b card absent)
+    go true = refl
+    go false = refl
 
 pub one_capacity : (r : Row) (s : Filled) (n : ℕ) → 3 * (pushed (r ∷ []) s).used ≤ n → 3 * (s.used + 1) ≤ n
 unfolding pushed

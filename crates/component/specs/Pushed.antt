@@ -1,5 +1,7 @@
 -- Rows pushed one after another into a lent slice: what stands in it so far, and how many of its rows are used.
 use Rattle.std.specs.Prelude.{◌≡◌, Option, Some, None, List, [], ◌∷◌, map, Bool, ◌&&◌, ◌||◌, not, ℕ, zero, suc, ◌+◌, ◌-◌, ◌*◌, ◌≤◌, eqb, length, get_or}
+use Rattle.std.specs.Option.{unwrap_or}
+use Rattle.definition.specs.Answers.{absent}
 use Rattle.definition.specs.Lists.{choose, filter, flat_map, firsts, written}
 use Rattle.definition.specs.Cards.{is_root}
 use Rattle.definition.specs.Catalogue.{Component, Row, row, component_row, is_component_of}
@@ -25,7 +27,7 @@ pushed rs s = filled (written s.rows (3 * s.used) (flat_map words_of_row rs)) (s
 -- ---- The code's rows: what they hold, whether a step has room, and what a step makes of them, in the slice that was lent.
 
 abbrev pub row_of : CodeRow → Row
-row_of r = row r.what r.card r.origin
+row_of r = row r.what (unwrap_or r.card absent) (unwrap_or r.origin absent)
 
 abbrev pub filled_of : Rows → Filled
 filled_of r = filled r.words.now r.used

@@ -2,7 +2,7 @@
 -- with their parts; the code has arrays of card numbers (from_ast_index/specs/Index) and reads kinds and names at them. This file says which rows come
 -- of those numbers, in the steps that the code takes, and the contracts of `component` and `from_ast_rows` cite it. That all the rows are those of the
 -- definitions is shown by proofs/Blocks, Directives and SchemaLists, and for the whole catalogue by proofs/Catalogue of `from_ast_rows`.
-use Rattle.std.specs.Prelude.{◌≡◌, List, [], ◌∷◌, ◌++◌, Bool, true, false, ◌&&◌, not, ℕ, ◌+◌, ◌<◌, ◌≤◌, eqb, ltb, length, take, drop, get_or}
+use Rattle.std.specs.Prelude.{List, [], ◌∷◌, ◌++◌, Bool, true, false, ◌&&◌, not, ℕ, ◌+◌, ◌<◌, eqb, ltb, length, drop, get_or}
 use Rattle.definition.specs.Lists.{choose, found, filter, any, find, take_until, flat_map, firsts}
 use Rattle.definition.specs.Answers.{absent}
 use Rattle.definition.specs.Cards.{Card, is_root, is_type, definition_of}

@@ -2,20 +2,23 @@
 #![tactic(auto)]
 
 ghost use Rattle.std.specs.Prelude.{◌≡◌, ◌∷◌, [], ◌+◌, ◌*◌, ◌≤◌, ◌<◌, length};
+ghost use Rattle.std.specs.Option.{unwrap_or};
+ghost use Rattle.definition.specs.Answers.{absent};
 ghost use Rattle.definition.specs.Store.{cards_used_of};
 ghost use Rattle.component.specs.Pushed.{filled_of, row_of, HasRoom, Becomes, pushed, used_from, place_of, alike_rows, row_in};
 ghost use Rattle.component.specs.RowsByCards.{same_stored, extend_by_row, extend_by_card, extend_by_heading};
 
 use ast::kinds;
+use definition::ABSENT;
 use definition::layout::ROW_WORDS;
 use from_ast_index::Collection;
 
-// One row: what it is, whose card it has, and the extension that brought it, or `-`.
+// One row: what it is, whose card it has, which a default root's has not, and the extension that brought it, if one did.
 #[derive(Clone, Copy)]
 pub struct Row {
     pub what: u32,
-    pub card: u32,
-    pub origin: u32,
+    pub card: Option<u32>,
+    pub origin: Option<u32>,
 }
 
 // Rows in a lent slice, of which the first ones are used.
@@ -34,38 +37,35 @@ fn same_stored(collection: &Collection, a: u32, b: u32) -> bool
     (a as usize) < used && (b as usize) < used && collection.same_name(a, b)
 }
 
-// Whether the second row is like the first, which is no directive use: a root of its kind, or a part of its kind and name.
-#[tactic(auto, using(crate::proofs::Turns::alike_root, crate::proofs::Turns::alike_part, crate::proofs::Turns::alike_other))]
-fn is_alike(collection: &Collection, a: Row, b: Row) -> bool
-    requires { a.what ≡ 20 → ⊥ }
-    ensures { result
-        ≡ alike_rows (same_stored collection.now.text.now collection.now.words.now) (row_of a) (row_of b) }
-{
-    a.what == b.what && (kinds::is_root(a.what) || same_stored(collection, a.card, b.card))
-}
-
 impl<'a> Rows<'a> {
-    // Pushes a row after those used.
+    // Pushes a row after those used. A card and an origin that it has not are written as `-`.
+    #[tactic(auto, using(crate::proofs::Pushing::row_pushed), unfolding(definition::specs::Outcomes::words_of_row))]
     pub fn push(&mut self, row: Row)
         requires { 3 * (self.old.used + 1) ≤ length self.old.words.now }
         ensures { Becomes self.old self.new (pushed (row_of row ∷ [])) }
     {
         let at = ROW_WORDS * self.used;
-        self.words[at..at + ROW_WORDS].copy_from_slice(&[row.what, row.card, row.origin]);
+        self.words[at..at + ROW_WORDS].copy_from_slice(&[
+            row.what,
+            row.card.unwrap_or(ABSENT),
+            row.origin.unwrap_or(ABSENT),
+        ]);
         self.used += 1;
     }
 
-    #[tactic(auto, unfolding(crate::specs::Pushed::row_in))]
-    fn row(&self, place: usize) -> Row
-        requires { 3 * (place + 1) ≤ length self.now.words.now }
-        ensures { row_of result ≡ row_in self.now.words.now place }
+    // Whether the row at a place is like a row that is no directive use: a root of its kind, or a part of its kind and name.
+    #[tactic(auto, using(crate::proofs::Turns::alike_root, crate::proofs::Turns::alike_part, crate::proofs::Turns::alike_other), unfolding(crate::specs::Pushed::row_in))]
+    fn is_alike(&self, collection: &Collection, row: Row, place: usize) -> bool
+        requires part { row.what ≡ 20 → ⊥ }
+        requires inside { 3 * (place + 1) ≤ length self.now.words.now }
+        ensures { result
+            ≡ alike_rows (same_stored collection.now.text.now collection.now.words.now) (row_of row)
+            (row_in self.now.words.now place) }
     {
         let at = ROW_WORDS * place;
-        Row {
-            what: self.words[at],
-            card: self.words[at + 1],
-            origin: self.words[at + 2],
-        }
+        row.what == self.words[at]
+            && (kinds::is_root(row.what)
+                || same_stored(collection, row.card.unwrap_or(ABSENT), self.words[at + 1]))
     }
 
     // The place of the first row that a row is like, in the list from `start` on. Directive uses all stay.
@@ -80,14 +80,15 @@ impl<'a> Rows<'a> {
             return None;
         }
         for place in start..self.used {
-            if is_alike(collection, row, self.row(place)) {
+            if self.is_alike(collection, row, place) {
                 return Some(place);
             }
         }
         None
     }
 
-    // Pushes a part unless the list from `start` on has one like it: the first stays.
+    // Pushes a part unless the list from `start` on has one like it: the first stays. Out of line, for most headings have no part of most kinds.
+    #[inline(never)]
     pub fn extend_sticky(&mut self, collection: &Collection, start: usize, row: Row)
         requires { HasRoom self.old
             (extend_by_row collection.now.text.now collection.now.words.now (row_of row) start) }
@@ -102,13 +103,26 @@ impl<'a> Rows<'a> {
     }
 
     // Extends a list of parts of one kind by a card, if the card is of that kind.
-    fn extend_part(&mut self, collection: &Collection, start: usize, row: Row)
+    #[tactic(auto, using(crate::proofs::Turns::part_take, crate::proofs::Turns::part_skip))]
+    fn extend_part(
+        &mut self,
+        collection: &Collection,
+        start: usize,
+        kind: u32,
+        card: u32,
+        origin: Option<u32>,
+    )
         requires { HasRoom self.old
-            (extend_by_card collection.now.text.now collection.now.words.now row.origin row.what row.card start) }
+            (extend_by_card collection.now.text.now collection.now.words.now (unwrap_or origin absent) kind card start) }
         ensures { Becomes self.old self.new
-            (extend_by_card collection.now.text.now collection.now.words.now row.origin row.what row.card start) }
+            (extend_by_card collection.now.text.now collection.now.words.now (unwrap_or origin absent) kind card start) }
     {
-        if collection.kind(row.card) == row.what {
+        if collection.kind(card) == kind {
+            let row = Row {
+                what: kind,
+                card: Some(card),
+                origin,
+            };
             self.extend_sticky(collection, start, row);
         }
     }
@@ -120,25 +134,20 @@ impl<'a> Rows<'a> {
         start: usize,
         kind: u32,
         heading: u32,
-        origin: u32,
+        origin: Option<u32>,
     )
         requires stored { heading < cards_used_of collection.now.words.now }
         requires begun { start ≤ self.old.used }
         requires room { HasRoom self.old
-            (extend_by_heading collection.now.text.now collection.now.words.now origin kind heading start) }
+            (extend_by_heading collection.now.text.now collection.now.words.now (unwrap_or origin absent) kind heading start) }
         ensures { Becomes self.old self.new
-            (extend_by_heading collection.now.text.now collection.now.words.now origin kind heading start) }
+            (extend_by_heading collection.now.text.now collection.now.words.now (unwrap_or origin absent) kind heading start) }
     {
         for card in heading + 1..collection.cards_used() as u32 {
             if !kinds::is_part(collection.kind(card)) {
                 return;
             }
-            let row = Row {
-                what: kind,
-                card,
-                origin,
-            };
-            self.extend_part(collection, start, row);
+            self.extend_part(collection, start, kind, card, origin);
         }
     }
 }

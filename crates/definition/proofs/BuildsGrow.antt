@@ -10,7 +10,7 @@ use Rattle.definition.specs.Catalogue.{type_row}
 use Rattle.definition.specs.Errors.{reading_errors}
 use Rattle.definition.specs.Merge.{merge}
 use Rattle.definition.specs.declared.FieldFound.TheVariants.{Explicit}
-use Rattle.definition.specs.declared.FieldLookup.TheVariants.{Found}
+use Rattle.definition.specs.Answers.{Found}
 use Rattle.definition.specs.LentRows.{held}
 use Rattle.definition.specs.Lookups.{Block, type_named, is_row_of, field_named, is_subtype_of}
 use Rattle.definition.specs.Growth.{Brings, place_of, list_of}

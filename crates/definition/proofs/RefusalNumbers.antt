@@ -10,8 +10,7 @@ use native.Mathlib.Omega.{arith}
 use borrow.Author.Tests.{eqb-true, eqb-false}
 use Rattle.definition.specs.declared.Answer.{Answer}
 use Rattle.definition.specs.declared.FieldFound.{FieldFound}
-use Rattle.definition.specs.declared.FieldLookup.TheVariants.{Found, NoSuchType, NoSuchField, Refused}
-use Rattle.definition.specs.declared.SubtypeLookup.TheVariants.{Subtype, NotSubtype, Refused as SubtypeRefused}
+use Rattle.definition.specs.Answers.{Found, NoSuchType, NoSuchField, Refused, SubtypeLookup, Subtype, NotSubtype}
 use Rattle.definition.specs.Lists.{All, choose, found, first, all, find, or_else}
 use Rattle.definition.specs.Answers.{answer, field_refusal, subtype_refusal}
 use Rattle.definition.specs.Cards.{Card, Place, Fault, is_part, fault, faults, fault_among, place_after, fault_from, card_fault, cards_of, broken_cards}
@@ -228,7 +227,7 @@ subtype_own : (a : Account) (rows general other : List ℕ) → is_of_store (sub
 unfolding subtype_answer
 subtype_own a rows general other = go (eqb (rows_refusal a.documents rows) 0) (is_subtype_of (held a.documents) (lent_rows rows) general other)
   where
-    go : (b c : Bool) → is_of_store (subtype_refusal (choose b (choose c Subtype NotSubtype) (SubtypeRefused (rows_refusal a.documents rows)))) ≡ false
+    go : (b c : Bool) → is_of_store (subtype_refusal (choose b (choose c Subtype NotSubtype) (SubtypeLookup.Refused (rows_refusal a.documents rows)))) ≡ false
     go true true = refl
     go true false = refl
     go false c = rows_number a.documents rows

@@ -10,10 +10,9 @@ use lib.Dec.{eqb}
 use lib.ListN.{length, replicate, take, get_elem?}
 use borrow.Author.Tests.{le-ltb, eqb-true, eqb-false}
 use Rattle.definition.specs.declared.FieldFound.TheVariants.{Explicit}
-use Rattle.definition.specs.declared.FieldLookup.TheVariants.{Found}
 use Rattle.definition.specs.Lists.{here, there, done, skip, keep}
 use Rattle.definition.specs.Names.{bytes}
-use Rattle.definition.specs.Answers.{answer}
+use Rattle.definition.specs.Answers.{answer, Found}
 use Rattle.definition.specs.Headings.{Heading}
 use Rattle.definition.specs.Account.{Account}
 use Rattle.definition.specs.Refusals.{opening_refusal, text_capacity, rows_capacity, errors_capacity}

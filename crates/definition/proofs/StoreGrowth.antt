@@ -7,10 +7,8 @@ use Prim.Native.Nat.{ℕ}
 use native.Mathlib.Omega.{arith}
 use borrow.Author.Tests.{ne_eqb}
 use Rattle.definition.specs.declared.FieldFound.TheVariants.{Explicit}
-use Rattle.definition.specs.declared.FieldLookup.TheVariants.{Found}
-use Rattle.definition.specs.declared.SubtypeLookup.TheVariants.{Subtype, NotSubtype}
 use Rattle.definition.specs.Lists.{Prefix, choose, flat_map}
-use Rattle.definition.specs.Answers.{answer}
+use Rattle.definition.specs.Answers.{answer, Found, Subtype, NotSubtype}
 use Rattle.definition.specs.Headings.{Heading}
 use Rattle.definition.specs.Catalogue.{type_row}
 use Rattle.definition.specs.Merge.{merge}

@@ -10,13 +10,12 @@ use lib.Dec.{leb}
 use lib.ListN.{length, length-map}
 use Rattle.definition.specs.Lists.{All, Prefix, choose, found, filter, any, find, take_until, flat_map, firsts}
 use Rattle.definition.specs.Names.{same_name, bytes}
-use Rattle.definition.specs.Answers.{absent}
+use Rattle.definition.specs.Answers.{absent, Found, NoSuchField}
 use Rattle.definition.specs.Headings.{Heading, NamedCard, is_type_definition, is_named, same_named, extensions_of, is_of, definition, defines_type, defined_types}
 use Rattle.definition.specs.Catalogue.{Component, Row, alike_components, component, components, own_components, of_extensions, kept, list_of_kind}
 use Rattle.definition.specs.Catalogue.{component_row, is_component_of, under_type, type_row, type_components, adopted_row, rows}
 use Rattle.definition.specs.declared.FieldFound.{FieldFound}
 use Rattle.definition.specs.declared.FieldFound.TheVariants.{Explicit, Typename, Schema, «Type» as MetaType}
-use Rattle.definition.specs.declared.FieldLookup.TheVariants.{Found, NoSuchField}
 use Rattle.definition.specs.LentRows.{is_type_row, is_row_named, is_type_row_named, name_numbered}
 use Rattle.definition.specs.Lookups.{Block, is_block_named, type_named, is_row_of, is_part_named, is_query_root, meta_field, field_of, field_named, lists, subtype_of}
 use Rattle.definition.specs.Lookups.{is_subtype_of}

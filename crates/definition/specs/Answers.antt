@@ -7,14 +7,23 @@ use Rattle.definition.specs.declared.OperationType.{OperationType}
 use Rattle.definition.specs.declared.OperationType.TheVariants.{Query, Mutation, Subscription}
 use Rattle.definition.specs.declared.FieldFound.{FieldFound}
 use Rattle.definition.specs.declared.FieldFound.TheVariants.{Explicit, Typename, Schema, «Type» as MetaType}
-use Rattle.definition.specs.declared.FieldLookup.{FieldLookup}
-use Rattle.definition.specs.declared.FieldLookup.TheVariants.{Found, NoSuchType, NoSuchField, Refused}
-use Rattle.definition.specs.declared.SubtypeLookup.{SubtypeLookup}
-use Rattle.definition.specs.declared.SubtypeLookup.TheVariants.{Subtype, NotSubtype, Refused as SubtypeRefused}
 
 -- The word that 01 writes `-`.
 abbrev pub absent : ℕ
 absent = 4294967295
+
+-- What `type_field` answers. `NoSuchField` has the card of the type's row, `Refused` the refusal's number.
+pub data FieldLookup : Type 0 where
+  Found : FieldFound → FieldLookup
+  NoSuchType : FieldLookup
+  NoSuchField : ℕ → FieldLookup
+  Refused : ℕ → FieldLookup
+
+-- What `is_subtype` answers.
+pub data SubtypeLookup : Type 0 where
+  Subtype : SubtypeLookup
+  NotSubtype : SubtypeLookup
+  Refused : ℕ → SubtypeLookup
 
 -- A refusal's number, or 0, and a card's number or a count.
 abbrev pub answer : ℕ → ℕ → Answer
@@ -76,9 +85,9 @@ field_card (Refused n) = absent
 abbrev pub subtype_refusal : SubtypeLookup → ℕ
 subtype_refusal Subtype = 0
 subtype_refusal NotSubtype = 0
-subtype_refusal (SubtypeRefused n) = n
+subtype_refusal (Refused n) = n
 
 abbrev pub subtype_number : SubtypeLookup → ℕ
 subtype_number Subtype = 1
 subtype_number NotSubtype = 0
-subtype_number (SubtypeRefused n) = 0
+subtype_number (Refused n) = 0

@@ -3,10 +3,8 @@ use Rattle.std.specs.Prelude.{List, [], ◌∷◌, ◌++◌, Bool, true, false, 
 use Rattle.std.proofs.Math.Option.{Option, none}
 use Rattle.definition.specs.declared.Answer.{Answer}
 use Rattle.definition.specs.declared.OperationType.{OperationType}
-use Rattle.definition.specs.declared.FieldLookup.{FieldLookup}
-use Rattle.definition.specs.declared.SubtypeLookup.{SubtypeLookup}
 use Rattle.definition.specs.Lists.{found}
-use Rattle.definition.specs.Answers.{answer}
+use Rattle.definition.specs.Answers.{answer, FieldLookup, SubtypeLookup}
 use Rattle.definition.specs.Account.{Account}
 use Rattle.definition.specs.Refusals.{document, opening_refusal, filing_refusal}
 use Rattle.definition.specs.Outcomes.{StoreOutcome, BuildOutcome, RootName, ListOutcome, open_store, add_ast, adopt_orphan_extensions}

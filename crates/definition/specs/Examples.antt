@@ -3,10 +3,8 @@ use Rattle.std.specs.Prelude.{◌≡◌, refl, List, [], ◌∷◌, true, false,
 use Rattle.std.proofs.Math.Option.{Option, none, some}
 use Rattle.definition.specs.declared.OperationType.TheVariants.{Query, Subscription}
 use Rattle.definition.specs.declared.FieldFound.TheVariants.{Explicit, Typename, Schema}
-use Rattle.definition.specs.declared.FieldLookup.TheVariants.{Found, NoSuchType, NoSuchField}
-use Rattle.definition.specs.declared.SubtypeLookup.TheVariants.{Subtype, NotSubtype}
 use Rattle.definition.specs.Names.{bytes}
-use Rattle.definition.specs.Answers.{answer}
+use Rattle.definition.specs.Answers.{answer, Found, NoSuchType, NoSuchField, Subtype, NotSubtype}
 use Rattle.definition.specs.Cards.{document_fault}
 use Rattle.definition.specs.Headings.{Document}
 use Rattle.definition.specs.Catalogue.{row}

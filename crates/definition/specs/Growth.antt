@@ -2,8 +2,7 @@
 use Rattle.std.specs.Prelude.{◌≡◌, List, [], ◌∷◌, map, ℕ, ◌*◌, length, take}
 use Rattle.std.proofs.Math.Option.{Option, none, some}
 use Rattle.definition.specs.declared.FieldFound.TheVariants.{Explicit}
-use Rattle.definition.specs.declared.FieldLookup.TheVariants.{Found}
-use Rattle.definition.specs.declared.SubtypeLookup.TheVariants.{Subtype}
+use Rattle.definition.specs.Answers.{Found, Subtype}
 use Rattle.definition.specs.Lists.{Prefix, Among, Within, found, filter, take_until}
 use Rattle.definition.specs.Headings.{Document, NamedCard, Heading, headings, definition}
 use Rattle.definition.specs.Catalogue.{Row}

@@ -7,11 +7,9 @@ use Rattle.definition.specs.declared.OperationType.{OperationType}
 use Rattle.definition.specs.declared.OperationType.TheVariants.{Query}
 use Rattle.definition.specs.declared.FieldFound.{FieldFound}
 use Rattle.definition.specs.declared.FieldFound.TheVariants.{Explicit, Typename, Schema, «Type» as MetaType}
-use Rattle.definition.specs.declared.FieldLookup.{FieldLookup}
-use Rattle.definition.specs.declared.FieldLookup.TheVariants.{Found, NoSuchType, NoSuchField}
 use Rattle.definition.specs.Lists.{choose, found, filter, any, find, flat_map, firsts}
 use Rattle.definition.specs.Names.{same_name, bytes}
-use Rattle.definition.specs.Answers.{absent, root_kind}
+use Rattle.definition.specs.Answers.{absent, root_kind, FieldLookup, Found, NoSuchType, NoSuchField}
 use Rattle.definition.specs.Cards.{is_root}
 use Rattle.definition.specs.Headings.{Document, NamedCard}
 use Rattle.definition.specs.Catalogue.{Row, default_name}

@@ -4,18 +4,14 @@ use Rattle.definition.specs.declared.Answer.{Answer}
 use Rattle.definition.specs.declared.Drawing.{Drawing}
 use Rattle.definition.specs.declared.Drawn.{Drawn}
 use Rattle.definition.specs.declared.FieldFound.{FieldFound}
-use Rattle.definition.specs.declared.FieldLookup.{FieldLookup}
-use Rattle.definition.specs.declared.FieldLookup.TheVariants as F
 use Rattle.definition.specs.declared.FieldLookupError.{FieldLookupError}
 use Rattle.definition.specs.declared.FieldLookupError.TheVariants as X
-use Rattle.definition.specs.declared.SubtypeLookup.{SubtypeLookup}
-use Rattle.definition.specs.declared.SubtypeLookup.TheVariants as S
 use Rattle.definition.specs.declared.refusal.Refusal.{Refusal}
 use Rattle.definition.specs.declared.refusal.Refusal.TheVariants as R
 use Rattle.definition.specs.declared.refusal.Refused.{Refused}
 use Rattle.definition.specs.declared.build_error.BuildError.{BuildError}
 use Rattle.definition.specs.declared.build_error.BuildError.TheVariants as E
-use Rattle.definition.specs.Answers.{answer}
+use Rattle.definition.specs.Answers.{answer, FieldLookup, SubtypeLookup, Found, NoSuchType, NoSuchField, Subtype, NotSubtype}
 use Rattle.definition.specs.Errors as errors
 use Rattle.definition.specs.Merge.{error_numbers}
 
@@ -70,6 +66,11 @@ abbrev pub count_answer : Result ℕ Refused → Answer
 count_answer (Ok n) = answer 0 n
 count_answer (Err r) = refused_answer r
 
+-- The refusal's number, 0 where nothing is refused.
+abbrev pub told_number : Result Unit Refusal → ℕ
+told_number (Ok _) = 0
+told_number (Err r) = refusal_number r
+
 -- Drawn: 0 and the counts; refused: the number, and all counts 0.
 abbrev pub drawing_answer : Result Drawn Refusal → Drawing
 drawing_answer (Ok d) =
@@ -84,12 +85,12 @@ drawing_answer (Err r) = record {
 
 -- The lookups that answer with more than a number.
 abbrev pub field_lookup : Result FieldFound FieldLookupError → FieldLookup
-field_lookup (Ok f) = F.Found f
-field_lookup (Err X.NoSuchType) = F.NoSuchType
-field_lookup (Err (X.NoSuchField c)) = F.NoSuchField c
-field_lookup (Err (X.Refused r)) = F.Refused (refusal_number r)
+field_lookup (Ok f) = Found f
+field_lookup (Err X.NoSuchType) = NoSuchType
+field_lookup (Err (X.NoSuchField c)) = NoSuchField c
+field_lookup (Err (X.Refused r)) = FieldLookup.Refused (refusal_number r)
 
 abbrev pub subtype_lookup : Result Bool Refusal → SubtypeLookup
-subtype_lookup (Ok true) = S.Subtype
-subtype_lookup (Ok false) = S.NotSubtype
-subtype_lookup (Err r) = S.Refused (refusal_number r)
+subtype_lookup (Ok true) = Subtype
+subtype_lookup (Ok false) = NotSubtype
+subtype_lookup (Err r) = SubtypeLookup.Refused (refusal_number r)

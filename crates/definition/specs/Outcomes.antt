@@ -7,13 +7,9 @@ use Rattle.std.specs.Prelude.{List, [], ◌∷◌, ◌++◌, Bool, false, ◌||�
 use Rattle.definition.specs.declared.Answer.{Answer}
 use Rattle.definition.specs.declared.Drawing.{Drawing}
 use Rattle.definition.specs.declared.OperationType.{OperationType}
-use Rattle.definition.specs.declared.FieldLookup.{FieldLookup}
-use Rattle.definition.specs.declared.FieldLookup.TheVariants.{Refused}
-use Rattle.definition.specs.declared.SubtypeLookup.{SubtypeLookup}
-use Rattle.definition.specs.declared.SubtypeLookup.TheVariants.{Subtype, NotSubtype, Refused as SubtypeRefused}
 use Rattle.definition.specs.Lists.{choose, found, flat_map, written}
 use Rattle.definition.specs.Names.{bytes_at}
-use Rattle.definition.specs.Answers.{answer}
+use Rattle.definition.specs.Answers.{answer, FieldLookup, Refused, SubtypeLookup, Subtype, NotSubtype}
 use Rattle.definition.specs.Cards.{words_of_card}
 use Rattle.definition.specs.ItemCards.{cards_read}
 use Rattle.definition.specs.Reading.{Reading, accepted as accepted_by, refused, reading}
@@ -190,13 +186,13 @@ unfoldable pub subtype_answer : Account → List ℕ → List ℕ → List ℕ �
 subtype_answer a rows general other =
     let n = rows_refusal a.documents rows in
     let done = choose (is_subtype_of (held a.documents) (lent_rows rows) general other) Subtype NotSubtype in
-    choose (eqb n 0) done (SubtypeRefused n)
+    choose (eqb n 0) done (SubtypeLookup.Refused n)
 
 unfoldable pub is_subtype : List ℕ → List ℕ → List ℕ → List ℕ → List ℕ → SubtypeLookup
 is_subtype text words rows general other =
     let n = store_refusal text words in
     let done = subtype_answer (account_in text words) rows general other in
-    choose (eqb n 0) done (SubtypeRefused n)
+    choose (eqb n 0) done (SubtypeLookup.Refused n)
 
 -- ---- Calls that fill a slice.
 

@@ -128,15 +128,6 @@ pub enum FieldFound {
     Type,
 }
 
-// What `type_field` answers. `NoSuchField` has the card of the type's row.
-#[derive(Clone, Copy)]
-pub enum FieldLookup {
-    Found(FieldFound),
-    NoSuchType,
-    NoSuchField(u32),
-    Refused(u32),
-}
-
 // Why `type_field` finds no field. `NoSuchField` has the card of the type's row.
 #[derive(Clone, Copy, PartialEq, Eq)]
 pub enum FieldLookupError {
@@ -154,12 +145,4 @@ impl From<Refusal> for FieldLookupError {
     fn from(refusal: Refusal) -> FieldLookupError {
         FieldLookupError::Refused(refusal)
     }
-}
-
-// What `is_subtype` answers.
-#[derive(Clone, Copy)]
-pub enum SubtypeLookup {
-    Subtype,
-    NotSubtype,
-    Refused(u32),
 }

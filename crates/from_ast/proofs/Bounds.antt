@@ -42,6 +42,10 @@ module _ (text words : List ℕ) (ok : sound text words ≡ true) where
   pub rows_capacity_lem : (a : Bool) (out : List ℕ) → rows_capacity ≤ length out → 3 * length (rows a (stored_headings text words)) ≤ length out
   rows_capacity_lem a out l = let f = rows_fit_lem text words ok a in omega arith
 
+  -- They are few.
+  pub rows_few : (a : Bool) (n : ℕ) → n ≡ length (rows a (stored_headings text words)) → 3 * n ≤ rows_capacity
+  rows_few a n e = let f = rows_fit_lem text words ok a in omega arith
+
   pub errors_capacity_lem : (a : Bool) (out : List ℕ) → errors_capacity ≤ length out → 3 * length (all_errors a (stored_headings text words)) ≤ length out
   errors_capacity_lem a out l = let f = errors_fit_lem text words ok a in omega arith
 

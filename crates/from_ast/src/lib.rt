@@ -1,34 +1,29 @@
 // `SchemaBuilder::build_inner` of schema/from_ast.rs: a store is indexed and built over local arrays of one of three sizes.
 #![tactic(auto)]
 
-ghost use Rattle.std.specs.Prelude.{◌≡◌, ◌≤◌, ◌<◌, length, take};
+ghost use Rattle.std.specs.Prelude.{◌≤◌, ◌<◌, length};
 ghost use Rattle.definition.specs.Store.{cards_used_of};
-ghost use Rattle.from_ast_index.specs.Index.{Indexed, Spanned};
 ghost use Rattle.from_ast.specs.Built.{BuildAsked, Built};
 
 use definition::layout::CARD_CAPACITY;
 use definition::{ABSENT, Drawn, layout};
-use from_ast_index::{Collection, Counts, Index};
+use from_ast_index::Index;
+use from_ast_indexing::Arrays;
 
 // Most stores are small, and to make arrays for all cards that a store can hold takes longer than to build those. There are more buckets than cards, so
 // that few names share one.
 const SMALL_CARDS: usize = 64;
 
-const SMALL_HEADINGS: usize = SMALL_CARDS + 1;
-
 const SMALL_BUCKETS: usize = 128;
 
 const MEDIUM_CARDS: usize = 512;
 
-const MEDIUM_HEADINGS: usize = MEDIUM_CARDS + 1;
-
 const MEDIUM_BUCKETS: usize = 1024;
-
-const LARGE_HEADINGS: usize = CARD_CAPACITY + 1;
 
 const LARGE_BUCKETS: usize = 8192;
 
 // Builds an indexed store: rows first, then errors by the rows. The scratch serves the rows and then the errors.
+#[tactic(auto, using(crate::proofs::Bounds::rows_capacity_lem, crate::proofs::Bounds::rows_within, crate::proofs::Bounds::rows_few))]
 fn build_indexed(index: &Index, scratch: &mut [u32], rows: &mut [u32], errors: &mut [u32]) -> Drawn
     requires asked { BuildAsked index.now.collection.text.now index.now.collection.words.now rows.old errors.old }
     requires scratch { cards_used_of index.now.collection.words.now ≤ length scratch.old }
@@ -47,46 +42,9 @@ fn build_indexed(index: &Index, scratch: &mut [u32], rows: &mut [u32], errors: &
     }
 }
 
-// What the arrays hold, of each what is used of it.
-fn indexed<'a>(
-    text: &'a [u8],
-    words: &'a [u32],
-    headings: &'a [u32],
-    hashes: &'a [u32],
-    owners: &'a [u32],
-    types: &'a [u32],
-    orphans: &'a [u32],
-    extensions: &'a [u32],
-    starts: &'a [u32],
-    ends: &'a [u32],
-    counts: Counts,
-) -> Index<'a>
-    requires filled { Indexed text.now words.now headings.now hashes.now owners.now types.now orphans.now extensions.now
-        counts.headings counts.types counts.orphans counts.extensions }
-    requires spanned { Spanned words.now owners.now (take counts.extensions extensions.now) starts.now ends.now }
-    ensures text { result.collection.text.now ≡ text.now }
-    ensures words { result.collection.words.now ≡ words.now }
-{
-    let collection = Collection {
-        text,
-        words,
-        hashes,
-    };
-    Index {
-        collection,
-        headings: &headings[..counts.headings],
-        owners,
-        types: &types[..counts.types],
-        orphans: &orphans[..counts.orphans],
-        extensions: &extensions[..counts.extensions],
-        starts,
-        ends,
-    }
-}
-
-// Builds a sound store over arrays that have a word for each of its cards; one more heading marks the end. With more words in `buckets` than
-// types, each larger than any place, a type's name is seldom sought among others; `build_indexed` then uses them as its scratch.
-fn build_over<const CARDS: usize, const HEADINGS: usize, const BUCKETS: usize>(
+// Builds a sound store over arrays that have a word for each of its cards. With more words in `buckets` than types, each larger than any place, a
+// type's name is seldom sought among others; `build_indexed` then uses them as its scratch.
+fn build_over<const CARDS: usize, const BUCKETS: usize>(
     text: &[u8],
     words: &[u32],
     rows: &mut [u32],
@@ -94,14 +52,12 @@ fn build_over<const CARDS: usize, const HEADINGS: usize, const BUCKETS: usize>(
 ) -> Drawn
     requires asked { BuildAsked text.now words.now rows.old errors.old }
     requires cards { cards_used_of words.now ≤ CARDS }
-    requires headings { CARDS < HEADINGS }
-    requires few_headings { HEADINGS < 65536 }
     requires buckets { CARDS < BUCKETS }
     requires few_buckets { BUCKETS < 65536 }
     ensures { Built text.now words.now rows.old errors.old result
         rows.new errors.new }
 {
-    let mut headings = [0; HEADINGS];
+    let mut headings = [0; CARDS];
     let mut hashes = [0; CARDS];
     let mut owners = [0; CARDS];
     let mut types = [0; CARDS];
@@ -110,36 +66,22 @@ fn build_over<const CARDS: usize, const HEADINGS: usize, const BUCKETS: usize>(
     let mut starts = [0; CARDS];
     let mut ends = [0; CARDS];
     let mut buckets = [ABSENT; BUCKETS];
-    let counts = from_ast_indexing::index(
-        text,
-        words,
-        &mut headings,
-        &mut hashes,
-        &mut owners,
-        &mut types,
-        &mut orphans,
-        &mut extensions,
-        &mut starts,
-        &mut ends,
-        &mut buckets,
-    );
-    let index = indexed(
-        text,
-        words,
-        &headings,
-        &hashes,
-        &owners,
-        &types,
-        &orphans,
-        &extensions,
-        &starts,
-        &ends,
-        counts,
-    );
+    let arrays = Arrays {
+        headings: &mut headings,
+        hashes: &mut hashes,
+        owners: &mut owners,
+        types: &mut types,
+        orphans: &mut orphans,
+        extensions: &mut extensions,
+        starts: &mut starts,
+        ends: &mut ends,
+    };
+    let index = from_ast_indexing::index(text, words, arrays, &mut buckets);
     build_indexed(&index, &mut buckets, rows, errors)
 }
 
 // Builds a sound store, over arrays of the size that it needs.
+#[tactic(auto, using(store_reader::proofs::Laws::cards_fit_lem))]
 pub fn build_inner(text: &[u8], words: &[u32], rows: &mut [u32], errors: &mut [u32]) -> Drawn
     requires { BuildAsked text.now words.now rows.old errors.old }
     ensures { Built text.now words.now rows.old errors.old result
@@ -147,10 +89,10 @@ pub fn build_inner(text: &[u8], words: &[u32], rows: &mut [u32], errors: &mut [u
 {
     let cards = store_reader::cards_used(words);
     if cards <= SMALL_CARDS {
-        build_over::<SMALL_CARDS, SMALL_HEADINGS, SMALL_BUCKETS>(text, words, rows, errors)
+        build_over::<SMALL_CARDS, SMALL_BUCKETS>(text, words, rows, errors)
     } else if cards <= MEDIUM_CARDS {
-        build_over::<MEDIUM_CARDS, MEDIUM_HEADINGS, MEDIUM_BUCKETS>(text, words, rows, errors)
+        build_over::<MEDIUM_CARDS, MEDIUM_BUCKETS>(text, words, rows, errors)
     } else {
-        build_over::<CARD_CAPACITY, LARGE_HEADINGS, LARGE_BUCKETS>(text, words, rows, errors)
+        build_over::<CARD_CAPACITY, LARGE_BUCKETS>(text, words, rows, errors)
     }
 }

@@ -1,4 +1,5 @@
 // Parts that are merged into a type or the schema: a part collides where the finished rows have another card that stands for its name.
+// Stays: that a card is a stored one is asked of each function that reads its name: numbers are words of arrays, and a struct for a number would be made, and its fact proved, at the same calls.
 ghost use Rattle.std.specs.Prelude.{◌≡◌, true, ◌≤◌, ◌<◌, [], ◌∷◌};
 ghost use Rattle.definition.specs.Lists.{flat_map};
 ghost use Rattle.definition.specs.Cards.{is_part};
@@ -20,6 +21,7 @@ use from_ast_index::Collection;
 
 // The error of a part that comes again under a heading of the kind. No interface has the parts of the last three cases: there the definition has the numbers
 // that follow those of the same parts elsewhere.
+#[tactic(auto, using(crate::proofs::Turns::collision_interface, crate::proofs::Turns::collision_other, crate::proofs::Turns::collision_root))]
 fn collision_error(kind: u32, part: u32) -> BuildError
     requires least { 21 ≤ part }
     requires most { part ≤ 28 }
@@ -42,6 +44,7 @@ fn collision_error(kind: u32, part: u32) -> BuildError
 }
 
 // Whether the row of what and card stands for the part. Roots are told by their kind alone.
+#[tactic(auto, using(crate::proofs::Turns::stands_other, crate::proofs::Turns::stands_root, crate::proofs::Turns::stands_past, crate::proofs::Turns::stands_named), unfolding(from_ast_index::specs::Index::same_cards))]
 fn stands_for(collection: &Collection, part: u32, what: u32, card: u32) -> bool
     requires { part < cards_used_of collection.now.words.now }
     ensures { result ≡ stands_for (cards collection.now)
@@ -54,6 +57,7 @@ fn stands_for(collection: &Collection, part: u32, what: u32, card: u32) -> bool
 }
 
 // The card that stands for the part, among the rows under that of its owner.
+#[tactic(auto, using(crate::proofs::Turns::in_stop, crate::proofs::Turns::in_hit, crate::proofs::Turns::in_miss, crate::proofs::Turns::in_end))]
 fn find_earlier(collection: &Collection, under: &[u32], part: u32) -> Option<u32>
     requires { part < cards_used_of collection.now.words.now }
     ensures { result ≡ earlier_in
@@ -72,6 +76,7 @@ fn find_earlier(collection: &Collection, under: &[u32], part: u32) -> Option<u32
 }
 
 // The error of a part that is merged into the row of its owner, where another card stands for it. Directive uses all stay.
+#[tactic(auto, using(crate::proofs::Push::same_pushed, crate::proofs::Push::same_capacity, crate::proofs::Push::none_pushed, crate::proofs::Merge::collision_use, crate::proofs::Merge::collision_nothing, crate::proofs::Merge::collision_own, crate::proofs::Merge::collision_other, crate::proofs::Merge::collision_kind, crate::proofs::Merge::number_most))]
 fn push_collision(collection: &Collection, owner: &Owner, part: u32, errors: &mut Errors)
     requires stored { part < cards_used_of collection.now.words.now }
     requires is_part { is_part (card_kind collection.now.words.now part) ≡ true }
@@ -84,12 +89,13 @@ fn push_collision(collection: &Collection, owner: &Owner, part: u32, errors: &mu
     }
     if let Some(card) = find_earlier(collection, owner.under, part) {
         if card != part {
-            errors.push(collision_error(owner.kind, what), part, card);
+            errors.push(collision_error(owner.kind, what), part, Some(card));
         }
     }
 }
 
 // The errors of the parts of a heading that are merged into the row of their owner.
+#[tactic(auto, using(crate::proofs::Push::going_start, crate::proofs::Push::going_as, crate::proofs::Push::next_capacity, crate::proofs::Push::next_on, crate::proofs::Push::going_end, crate::proofs::Merge::merge_all, crate::proofs::Merge::merge_next, crate::proofs::Merge::merge_stop, crate::proofs::Merge::merge_end))]
 pub fn merge_errors(collection: &Collection, owner: &Owner, heading: u32, errors: &mut Errors)
     requires { Capacity errors.old (merged (cards collection.now) owner.now heading) }
     ensures { errors.new ≡ push_all errors.old (merged (cards collection.now) owner.now heading) }
@@ -103,6 +109,7 @@ pub fn merge_errors(collection: &Collection, owner: &Owner, heading: u32, errors
 }
 
 // The errors of a schema extension that is merged; other headings give none.
+#[tactic(auto, using(crate::proofs::Push::same_pushed, crate::proofs::Push::same_capacity, crate::proofs::Push::none_pushed, crate::proofs::Branches::schema_merge_other, crate::proofs::Branches::schema_merged_is))]
 fn merge_schema_extension(
     collection: &Collection,
     schema: &Owner,

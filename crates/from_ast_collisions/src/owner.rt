@@ -16,6 +16,7 @@ pub struct Owner<'a> {
 }
 
 // The rows under that of what and card.
+#[tactic(auto, using(crate::proofs::Turns::under_hit, crate::proofs::Turns::under_no_what, crate::proofs::Turns::under_no_card, crate::proofs::Turns::under_end, crate::proofs::Turns::row_after))]
 fn rows_under(rows: &[u32], what: u32, card: u32) -> &[u32]
     ensures { result.now ≡ rows_under what card rows.now }
 {

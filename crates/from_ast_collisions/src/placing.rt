@@ -20,6 +20,7 @@ fn place_row(rows: &[u32], i: usize, places: &mut [u32])
 }
 
 // Gives each card its place, from the last row to the first: of several rows of a card the first stays.
+#[tactic(auto, using(crate::proofs::Places::placed_all, crate::proofs::Places::no_place))]
 pub fn place_rows(rows: &[u32], places: &mut [u32])
     requires { length rows.now < word_values }
     ensures { Placed rows.now places.new }

@@ -12,17 +12,17 @@ use ast::kinds;
 use definition::build_error::BuildError;
 use definition::{ABSENT, layout};
 use from_ast_collisions::merging::merge_schema_extensions;
-use from_ast_collisions::owner::Owner;
 use from_ast_collisions::pushing::Errors;
-use from_ast_index::{Collection, Index};
+use from_ast_index::Collection;
 
 // A schema extension that met no schema; other headings give nothing.
+#[tactic(auto, using(from_ast_collisions::proofs::Push::same_pushed, from_ast_collisions::proofs::Push::same_capacity, from_ast_collisions::proofs::Push::none_pushed, from_ast_collisions::proofs::Branches::unmet_other, from_ast_collisions::proofs::Branches::unmet_is))]
 fn unmet_extension(collection: &Collection, heading: u32, errors: &mut Errors)
     requires { Capacity errors.old (unmet_errors (cards collection.now) heading) }
     ensures { errors.new ≡ push_all errors.old (unmet_errors (cards collection.now) heading) }
 {
     if collection.kind(heading) == kinds::SCHEMA_EXTENSION {
-        errors.push(BuildError::OrphanSchemaExtension, heading, ABSENT);
+        errors.push(BuildError::OrphanSchemaExtension, heading, None);
     }
 }
 
@@ -38,6 +38,7 @@ fn unmet_errors(collection: &Collection, headings: &[u32], errors: &mut Errors)
 }
 
 // Whether no part stands under the row 4, which is the first.
+#[tactic(auto, using(from_ast_collisions::proofs::Branches::bare_short, from_ast_collisions::proofs::Branches::bare_long))]
 fn is_bare(rows: &[u32]) -> bool
     ensures { result ≡ is_bare rows.now }
 {
@@ -45,35 +46,35 @@ fn is_bare(rows: &[u32]) -> bool
 }
 
 // Without a schema definition: adopting, or where default roots are set, the extensions are merged; else each is an error.
-fn no_schema_errors(index: &Index, adopt: bool, schema: &Owner, errors: &mut Errors)
-    requires is_schema { schema.now.kind ≡ 4 }
-    requires is_absent { schema.now.card ≡ absent }
+#[tactic(auto, using(from_ast_collisions::proofs::Push::same_pushed, from_ast_collisions::proofs::Push::same_capacity, from_ast_collisions::proofs::Branches::no_schema_adopted, from_ast_collisions::proofs::Branches::no_schema_unmet, from_ast_collisions::proofs::Branches::no_schema_met))]
+fn no_schema_errors(finished: &Finished, adopt: bool, errors: &mut Errors)
+    requires is_absent { finished.now.schema.card ≡ absent }
     requires capacity { Capacity errors.old
-        (no_schema_errors_at adopt (cards index.now.collection) schema.now.rows.now index.now.headings.now) }
+        (no_schema_errors_at adopt (cards finished.now.index.collection) finished.now.schema.rows.now finished.now.index.headings.now) }
     ensures { errors.new ≡ push_all errors.old
-        (no_schema_errors_at adopt (cards index.now.collection) schema.now.rows.now index.now.headings.now) }
+        (no_schema_errors_at adopt (cards finished.now.index.collection) finished.now.schema.rows.now finished.now.index.headings.now) }
 {
+    let index = &finished.index;
     let collection = &index.collection;
-    if !adopt && is_bare(schema.rows) {
+    if !adopt && is_bare(finished.schema.rows) {
         unmet_errors(collection, index.headings, errors);
     } else {
-        merge_schema_extensions(collection, index.headings, schema, errors);
+        merge_schema_extensions(collection, index.headings, &finished.schema, errors);
     }
 }
 
 // All of them.
-pub fn drawing_errors(finished: &Finished, adopt: bool, schema: &Owner, errors: &mut Errors)
-    requires same_rows { schema.now.rows.now ≡ finished.now.rows.rows.now }
-    requires is_schema { schema.now.kind ≡ 4 }
-    requires capacity { Capacity errors.old
-        (drawing_errors_at adopt (view finished.now.index) finished.now.rows.rows.now schema.now.card finished.now.index.extensions.now
+#[tactic(auto, using(from_ast_collisions::proofs::Push::first_capacity, from_ast_collisions::proofs::Push::second_capacity, from_ast_collisions::proofs::Push::both_pushed, from_ast_collisions::proofs::Push::same_pushed, from_ast_collisions::proofs::Branches::drawing_defined, from_ast_collisions::proofs::Branches::drawing_both, from_ast_collisions::proofs::Branches::drawing_parts))]
+pub fn drawing_errors(finished: &Finished, adopt: bool, errors: &mut Errors)
+    requires { Capacity errors.old
+        (drawing_errors_at adopt (view finished.now.index) finished.now.rows.rows.now finished.now.schema.card finished.now.index.extensions.now
         finished.now.index.orphans.now finished.now.index.headings.now) }
     ensures { errors.new ≡ push_all errors.old
-        (drawing_errors_at adopt (view finished.now.index) finished.now.rows.rows.now schema.now.card finished.now.index.extensions.now
+        (drawing_errors_at adopt (view finished.now.index) finished.now.rows.rows.now finished.now.schema.card finished.now.index.extensions.now
         finished.now.index.orphans.now finished.now.index.headings.now) }
 {
     all_orphan_errors(finished, adopt, errors);
-    if schema.card == ABSENT {
-        no_schema_errors(&finished.index, adopt, schema, errors);
+    if finished.schema.card == ABSENT {
+        no_schema_errors(finished, adopt, errors);
     }
 }

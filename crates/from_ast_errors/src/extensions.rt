@@ -12,21 +12,23 @@ use definition::build_error::BuildError;
 use from_ast_collisions::merging::merge_errors;
 use from_ast_collisions::owner::Owner;
 use from_ast_collisions::pushing::Errors;
-use from_ast_index::{Collection, Index};
+use from_ast_index::Index;
 
 // A schema extension before any definition waits.
-pub fn schema_extension_errors(collection: &Collection, schema: &Owner, h: u32, errors: &mut Errors)
-    requires is_schema { schema.now.kind ≡ 4 }
-    requires capacity { Capacity errors.old (schema_extension_errors_at (cards collection.now) schema.now.rows.now schema.now.card h) }
-    ensures { errors.new
-        ≡ push_all errors.old (schema_extension_errors_at (cards collection.now) schema.now.rows.now schema.now.card h) }
+#[tactic(auto, using(from_ast_collisions::proofs::Push::same_pushed, from_ast_collisions::proofs::Push::same_capacity, from_ast_collisions::proofs::Push::none_pushed, from_ast_collisions::proofs::Branches::extension_waits, from_ast_collisions::proofs::Branches::schema_extended))]
+pub fn schema_extension_errors(finished: &Finished, h: u32, errors: &mut Errors)
+    requires { Capacity errors.old
+        (schema_extension_errors_at (cards finished.now.index.collection) finished.now.schema.rows.now finished.now.schema.card h) }
+    ensures { errors.new ≡ push_all errors.old
+        (schema_extension_errors_at (cards finished.now.index.collection) finished.now.schema.rows.now finished.now.schema.card h) }
 {
-    if schema.card < h {
-        merge_errors(collection, schema, h, errors);
+    if finished.schema.card < h {
+        merge_errors(&finished.index.collection, &finished.schema, h, errors);
     }
 }
 
 // The errors of an extension before the definition that the owner is of; one of another kind is dropped, as the Rust does.
+#[tactic(auto, using(from_ast_collisions::proofs::Push::same_pushed, from_ast_collisions::proofs::Push::same_capacity, from_ast_collisions::proofs::Push::none_pushed, from_ast_collisions::proofs::Branches::early_other_kind, from_ast_collisions::proofs::Branches::early_other_owner, from_ast_collisions::proofs::Branches::early_own))]
 fn early_extension_errors(index: &Index, owner: &Owner, card: u32, errors: &mut Errors)
     requires own_kind { owner.now.kind ≡ card_kind index.now.collection.words.now owner.now.card }
     requires before { card < owner.now.card }
@@ -41,7 +43,7 @@ fn early_extension_errors(index: &Index, owner: &Owner, card: u32, errors: &mut 
 }
 
 // Those of all extensions before it: they come first.
-#[tactic(auto, using(from_ast_collisions::proofs::Push::turn_first, from_ast_collisions::proofs::Push::turn_fits, from_ast_collisions::proofs::Push::turn_last))]
+#[tactic(auto, using(from_ast_collisions::proofs::Push::turn_first, from_ast_collisions::proofs::Push::turn_fits, from_ast_collisions::proofs::Push::turn_last, from_ast_collisions::proofs::Push::turn_next, from_ast_collisions::proofs::Push::turn_left, from_ast_collisions::proofs::Branches::none_early))]
 pub fn early_errors(index: &Index, owner: &Owner, extensions: &[u32], errors: &mut Errors)
     requires own_kind { owner.now.kind ≡ card_kind index.now.collection.words.now owner.now.card }
     requires ascending { Ascending extensions.now }
@@ -59,7 +61,7 @@ pub fn early_errors(index: &Index, owner: &Owner, extensions: &[u32], errors: &m
 }
 
 // A type extension before its definition waits; after one of another kind it is an error.
-#[tactic(auto, using(from_ast_collisions::proofs::Branches::late_waits, from_ast_collisions::proofs::Push::none_pushed))]
+#[tactic(auto, using(from_ast_collisions::proofs::Branches::late_waits, from_ast_collisions::proofs::Push::none_pushed, from_ast_collisions::proofs::Push::same_pushed, from_ast_collisions::proofs::Push::same_capacity, from_ast_collisions::proofs::Branches::late_mismatch, from_ast_collisions::proofs::Branches::late_merged, from_ast_collisions::proofs::Branches::owner_merged))]
 pub fn type_extension_errors(finished: &Finished, h: u32, errors: &mut Errors)
     requires heading { card_kind finished.now.index.collection.words.now h ≤ 17 }
     requires capacity { Capacity errors.old (type_extension_errors_at (view finished.now.index) finished.now.rows.rows.now h) }
@@ -79,6 +81,6 @@ pub fn type_extension_errors(finished: &Finished, h: u32, errors: &mut Errors)
             errors,
         );
     } else {
-        errors.push(BuildError::TypeExtensionKindMismatch, h, definition);
+        errors.push(BuildError::TypeExtensionKindMismatch, h, Some(definition));
     }
 }

@@ -1,4 +1,5 @@
 // from_ast.rs: the errors of a build, in the order in which the Rust pushes them. The finished rows tell which card stands for a name.
+// Stays: that a card is a stored one is asked of each function that reads its name: numbers are words of arrays, and a struct for a number would be made, and its fact proved, at the same calls.
 #![tactic(auto)]
 
 ghost use Rattle.std.specs.Prelude.{◌≡◌, ◌++◌, length};
@@ -31,6 +32,7 @@ pub struct ErrorCounts {
 }
 
 // Pushes the errors of reading and then those of building; answers how many errors there were in between.
+#[tactic(auto, using(from_ast_collisions::proofs::Push::first_capacity, from_ast_collisions::proofs::Push::second_capacity, from_ast_collisions::proofs::Push::both_pushed))]
 fn push_errors(finished: &Finished, adopt: bool, errors: &mut Errors) -> u32
     requires { Capacity errors.old
         (reading_errors_in finished.now.index finished.now.rows.rows.now
@@ -40,14 +42,14 @@ fn push_errors(finished: &Finished, adopt: bool, errors: &mut Errors) -> u32
         ++ drawing_errors_in adopt finished.now.index finished.now.rows.rows.now) }
     ensures reading { result ≡ (push_all errors.old (reading_errors_in finished.now.index finished.now.rows.rows.now)).tallies.total }
 {
-    let schema = finished.schema();
-    reading_errors(finished, &schema, errors);
+    reading_errors(finished, errors);
     let reading = errors.tallies.total;
-    drawing_errors(finished, adopt, &schema, errors);
+    drawing_errors(finished, adopt, errors);
     reading
 }
 
 // Writes the errors of reading and then those of building, for a store whose rows are built. `places` is scratch.
+#[tactic(auto, using(from_ast_collisions::proofs::Push::pushed_reference, crate::proofs::Written::rows_few, crate::proofs::Written::all_capacity, crate::proofs::Written::total_least, crate::proofs::Written::errors_written))]
 pub fn write_errors(
     index: &Index,
     adopt: bool,
@@ -60,10 +62,7 @@ pub fn write_errors(
         words.new result }
 {
     place_rows(rows, places);
-    let finished = Finished {
-        index: *index,
-        rows: PlacedRows { rows, places },
-    };
+    let finished = Finished::new(*index, PlacedRows { rows, places });
     let mut errors = Errors::new(words);
     let reading = push_errors(&finished, adopt, &mut errors);
     ErrorCounts {

@@ -17,6 +17,7 @@ use from_ast_collisions::pushing::Errors;
 use from_ast_index::Index;
 
 // Whether the card is a type extension without a definition that has the name of g.
+#[tactic(auto, using(from_ast_collisions::proofs::Branches::orphan_owned, from_ast_collisions::proofs::Branches::orphan_named), unfolding(from_ast_index::specs::Index::same_cards))]
 fn is_orphan_of(index: &Index, g: u32, card: u32) -> bool
     requires g_stored { g < cards_used_of index.now.collection.words.now }
     requires card_stored { card < cards_used_of index.now.collection.words.now }
@@ -26,6 +27,7 @@ fn is_orphan_of(index: &Index, g: u32, card: u32) -> bool
 }
 
 // Adopting an extension of the name that the owner's card has, the first of them: one of another kind is an error.
+#[tactic(auto, using(from_ast_collisions::proofs::Push::same_pushed, from_ast_collisions::proofs::Push::same_capacity, from_ast_collisions::proofs::Push::none_pushed, from_ast_collisions::proofs::Branches::adopt_other, from_ast_collisions::proofs::Branches::adopt_mismatch, from_ast_collisions::proofs::Branches::adopt_merged))]
 fn adopt_extension(index: &Index, owner: &Owner, card: u32, errors: &mut Errors)
     requires defined { owner.now.kind ≡ card_kind index.now.collection.words.now owner.now.card - 7 }
     requires owner_stored { owner.now.card < cards_used_of index.now.collection.words.now }
@@ -40,12 +42,16 @@ fn adopt_extension(index: &Index, owner: &Owner, card: u32, errors: &mut Errors)
     if collection.kind(card) == collection.kind(owner.card) {
         merge_errors(collection, owner, card, errors);
     } else {
-        errors.push(BuildError::TypeExtensionKindMismatch, card, owner.card);
+        errors.push(
+            BuildError::TypeExtensionKindMismatch,
+            card,
+            Some(owner.card),
+        );
     }
 }
 
 // Adopting all extensions of the name of g.
-#[tactic(auto, using(from_ast_collisions::proofs::Push::turn_first, from_ast_collisions::proofs::Push::turn_fits, from_ast_collisions::proofs::Push::turn_last))]
+#[tactic(auto, using(from_ast_collisions::proofs::Push::turn_first, from_ast_collisions::proofs::Push::turn_fits, from_ast_collisions::proofs::Push::turn_last, from_ast_collisions::proofs::Push::turn_next, from_ast_collisions::proofs::Branches::defined_kind))]
 fn adoption_errors(finished: &Finished, g: u32, errors: &mut Errors)
     requires held { HeldExtension finished.now.index.collection.words.now g }
     requires capacity { Capacity errors.old
@@ -75,6 +81,7 @@ fn unadopted_errors(index: &Index, g: u32, errors: &mut Errors)
 }
 
 // One of them, if the card is.
+#[tactic(auto, using(from_ast_collisions::proofs::Push::same_pushed, from_ast_collisions::proofs::Push::same_capacity, from_ast_collisions::proofs::Push::none_pushed, from_ast_collisions::proofs::Branches::unadopted_other, from_ast_collisions::proofs::Branches::unadopted_same))]
 fn unadopted_extension(index: &Index, g: u32, card: u32, errors: &mut Errors)
     requires g_stored { g < cards_used_of index.now.collection.words.now }
     requires card_stored { card < cards_used_of index.now.collection.words.now }
@@ -82,11 +89,12 @@ fn unadopted_extension(index: &Index, g: u32, card: u32, errors: &mut Errors)
     ensures { errors.new ≡ push_all errors.old (unadopted_errors_at (view index.now) g card) }
 {
     if is_orphan_of(index, g, card) {
-        errors.push(BuildError::OrphanTypeExtension, card, ABSENT);
+        errors.push(BuildError::OrphanTypeExtension, card, None);
     }
 }
 
 // The orphans of one name, g being the first.
+#[tactic(auto, using(from_ast_collisions::proofs::Push::same_pushed, from_ast_collisions::proofs::Push::same_capacity, from_ast_collisions::proofs::Branches::orphans_adopted, from_ast_collisions::proofs::Branches::orphans_unadopted))]
 fn orphan_errors(finished: &Finished, adopt: bool, g: u32, errors: &mut Errors)
     requires held { HeldExtension finished.now.index.collection.words.now g }
     requires capacity { Capacity errors.old
@@ -102,7 +110,7 @@ fn orphan_errors(finished: &Finished, adopt: bool, g: u32, errors: &mut Errors)
 }
 
 // The orphans of all names, in the order of the first ones.
-#[tactic(auto, using(from_ast_collisions::proofs::Push::turn_first, from_ast_collisions::proofs::Push::turn_fits, from_ast_collisions::proofs::Push::turn_last))]
+#[tactic(auto, using(from_ast_collisions::proofs::Push::turn_first, from_ast_collisions::proofs::Push::turn_fits, from_ast_collisions::proofs::Push::turn_last, from_ast_collisions::proofs::Push::turn_next, from_ast_collisions::proofs::Branches::held_at, crate::proofs::Written::orphans_held))]
 pub fn all_orphan_errors(finished: &Finished, adopt: bool, errors: &mut Errors)
     requires { Capacity errors.old
         (flat_map

@@ -10,27 +10,22 @@ use crate::extensions::{early_errors, schema_extension_errors, type_extension_er
 use crate::finished::Finished;
 use crate::redefinitions::{directive_errors, redefinition_errors};
 use ast::kinds;
-use definition::ABSENT;
 use definition::build_error::BuildError;
 use from_ast_collisions::merging::{merge_errors, merge_schema_extensions};
-use from_ast_collisions::owner::Owner;
 use from_ast_collisions::pushing::Errors;
-use from_ast_index::Collection;
 
 // A first schema definition is merged with the extensions before it; a second one is an error.
-fn schema_errors(
-    collection: &Collection,
-    schema: &Owner,
-    before: &[u32],
-    h: u32,
-    errors: &mut Errors,
-)
-    requires is_schema { schema.now.kind ≡ 4 }
-    requires capacity { Capacity errors.old (schema_errors_at (cards collection.now) schema.now.rows.now schema.now.card before.now h) }
-    ensures { errors.new ≡ push_all errors.old (schema_errors_at (cards collection.now) schema.now.rows.now schema.now.card before.now h) }
+#[tactic(auto, using(from_ast_collisions::proofs::Push::same_pushed, from_ast_collisions::proofs::Push::same_capacity, from_ast_collisions::proofs::Push::first_capacity, from_ast_collisions::proofs::Push::second_capacity, from_ast_collisions::proofs::Push::both_pushed, from_ast_collisions::proofs::Branches::schema_second, from_ast_collisions::proofs::Branches::schema_first_merged))]
+fn schema_errors(finished: &Finished, before: &[u32], h: u32, errors: &mut Errors)
+    requires { Capacity errors.old
+        (schema_errors_at (cards finished.now.index.collection) finished.now.schema.rows.now finished.now.schema.card before.now h) }
+    ensures { errors.new ≡ push_all errors.old
+        (schema_errors_at (cards finished.now.index.collection) finished.now.schema.rows.now finished.now.schema.card before.now h) }
 {
+    let collection = &finished.index.collection;
+    let schema = &finished.schema;
     if schema.card < h {
-        errors.push(BuildError::SchemaDefinitionCollision, h, schema.card);
+        errors.push(BuildError::SchemaDefinitionCollision, h, Some(schema.card));
     } else {
         merge_errors(collection, schema, h, errors);
         merge_schema_extensions(collection, before, schema, errors);
@@ -38,6 +33,7 @@ fn schema_errors(
 }
 
 // A first type definition is merged with the extensions of its kind before it; they stand in its part of all extensions.
+#[tactic(auto, using(from_ast_collisions::proofs::Spans::defined_owned, from_ast_collisions::proofs::Spans::told_ascends, from_ast_collisions::proofs::Push::same_pushed, from_ast_collisions::proofs::Push::same_capacity, from_ast_collisions::proofs::Push::first_capacity, from_ast_collisions::proofs::Push::second_capacity, from_ast_collisions::proofs::Push::both_pushed, from_ast_collisions::proofs::Branches::defined_again, crate::proofs::Written::extensions_ascend))]
 fn type_errors(finished: &Finished, h: u32, errors: &mut Errors)
     requires stored { h < cards_used_of finished.now.index.collection.words.now }
     requires heading { card_kind finished.now.index.collection.words.now h < 20 }
@@ -57,41 +53,39 @@ fn type_errors(finished: &Finished, h: u32, errors: &mut Errors)
 }
 
 // What reading the heading h gives after the headings before it. An operation or a fragment is an error.
-fn errors_at(finished: &Finished, schema: &Owner, before: &[u32], h: u32, errors: &mut Errors)
-    requires same_rows { schema.now.rows.now ≡ finished.now.rows.rows.now }
-    requires is_schema { schema.now.kind ≡ 4 }
+#[tactic(auto, using(from_ast_collisions::proofs::Push::same_pushed, from_ast_collisions::proofs::Push::same_capacity, from_ast_collisions::proofs::Branches::at_executable, from_ast_collisions::proofs::Branches::at_directive, from_ast_collisions::proofs::Branches::at_schema, from_ast_collisions::proofs::Branches::at_type, from_ast_collisions::proofs::Branches::at_schema_extension, from_ast_collisions::proofs::Branches::at_type_extension))]
+fn errors_at(finished: &Finished, before: &[u32], h: u32, errors: &mut Errors)
     requires stored { h < cards_used_of finished.now.index.collection.words.now }
     requires heading { card_kind finished.now.index.collection.words.now h ≤ 17 }
     requires held { Held finished.now.index.collection.words.now before.now }
     requires capacity { Capacity errors.old
-        (errors_at_card (view finished.now.index) finished.now.rows.rows.now schema.now.card finished.now.index.extensions.now before.now h) }
+        (errors_at_card (view finished.now.index) finished.now.rows.rows.now finished.now.schema.card finished.now.index.extensions.now before.now h) }
     ensures { errors.new ≡ push_all errors.old
-        (errors_at_card (view finished.now.index) finished.now.rows.rows.now schema.now.card finished.now.index.extensions.now before.now h) }
+        (errors_at_card (view finished.now.index) finished.now.rows.rows.now finished.now.schema.card finished.now.index.extensions.now before.now h) }
 {
     let collection = &finished.index.collection;
     match collection.kind(h) {
-        ..=kinds::FRAGMENT_DEFINITION => errors.push(BuildError::ExecutableDefinition, h, ABSENT),
+        ..=kinds::FRAGMENT_DEFINITION => errors.push(BuildError::ExecutableDefinition, h, None),
         kinds::DIRECTIVE_DEFINITION => directive_errors(collection, before, h, errors),
-        kinds::SCHEMA_DEFINITION => schema_errors(collection, schema, before, h, errors),
+        kinds::SCHEMA_DEFINITION => schema_errors(finished, before, h, errors),
         ..=kinds::INPUT_OBJECT_TYPE_DEFINITION => type_errors(finished, h, errors),
-        kinds::SCHEMA_EXTENSION => schema_extension_errors(collection, schema, h, errors),
+        kinds::SCHEMA_EXTENSION => schema_extension_errors(finished, h, errors),
         _ => type_extension_errors(finished, h, errors),
     }
 }
 
 // The errors of all headings in order.
-pub fn reading_errors(finished: &Finished, schema: &Owner, errors: &mut Errors)
-    requires same_rows { schema.now.rows.now ≡ finished.now.rows.rows.now }
-    requires is_schema { schema.now.kind ≡ 4 }
-    requires capacity { Capacity errors.old
-        (reading_errors_at (view finished.now.index) finished.now.rows.rows.now schema.now.card finished.now.index.extensions.now []
+#[tactic(auto, using(definition::proofs::All::all_to, from_ast_collisions::proofs::Push::going_start, from_ast_collisions::proofs::Push::next_capacity, from_ast_collisions::proofs::Push::next_on, from_ast_collisions::proofs::Push::going_end, from_ast_collisions::proofs::Branches::reading_next, from_ast_collisions::proofs::Branches::reading_done, from_ast_collisions::proofs::Branches::held_at, from_ast_collisions::proofs::Branches::held_before, crate::proofs::Written::headings_held))]
+pub fn reading_errors(finished: &Finished, errors: &mut Errors)
+    requires { Capacity errors.old
+        (reading_errors_at (view finished.now.index) finished.now.rows.rows.now finished.now.schema.card finished.now.index.extensions.now []
         finished.now.index.headings.now) }
     ensures { errors.new ≡ push_all errors.old
-        (reading_errors_at (view finished.now.index) finished.now.rows.rows.now schema.now.card finished.now.index.extensions.now []
+        (reading_errors_at (view finished.now.index) finished.now.rows.rows.now finished.now.schema.card finished.now.index.extensions.now []
         finished.now.index.headings.now) }
 {
     let headings = finished.index.headings;
     for (k, h) in headings.iter().enumerate() {
-        errors_at(finished, schema, &headings[..k], *h, errors);
+        errors_at(finished, &headings[..k], *h, errors);
     }
 }

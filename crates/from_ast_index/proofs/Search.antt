@@ -10,7 +10,7 @@ use Rattle.store_reader.specs.Stored.{stored_parts, card_at}
 use Rattle.store_reader.proofs.Words.{length_stored, stored_at}
 use Rattle.from_ast_index.specs.Index.{card_hash, Hashed, same_cards, part_hash}
 use Rattle.from_ast_index.proofs.Lists.{get_d_picture}
-use Rattle.from_ast_index.proofs.Hashes.{hashes_differ}
+use Rattle.name.proofs.HashLaws.{hashes_differ}
 
 -- What `same_cards` reads.
 module _ (text words hashes : List ℕ) (p : Hashed text words hashes) where

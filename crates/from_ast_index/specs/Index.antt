@@ -1,7 +1,7 @@
 -- The middle layer between the definitions and the code, first part: the arrays. The definitions speak of headings with their names and parts; the
 -- code walks arrays that hold numbers of stored cards, or one word for each stored card. This file says of each array which headings of the store it
 -- stands for. Crate `from_ast_indexing` fills the arrays so, and all that build reads is read from them. (Second part: component/specs/RowsByCards.)
-use Rattle.std.specs.Prelude.{◌≡◌, List, [], ◌∷◌, ◌++◌, map, Bool, true, ◌&&◌, ◌||◌, ℕ, ◌+◌, ◌-◌, ◌*◌, ◌%◌, ◌≤◌, ◌<◌, leb, length, take, drop, get_or}
+use Rattle.std.specs.Prelude.{◌≡◌, List, [], map, Bool, true, ◌&&◌, ◌||◌, ℕ, ◌-◌, ◌≤◌, ◌<◌, leb, length, take, drop, get_or}
 use Rattle.std.proofs.Math.Option.{some}
 use Rattle.std.proofs.Math.ListN.{get_elem?}
 use Rattle.definition.specs.Lists.{filter, firsts}
@@ -9,17 +9,10 @@ use Rattle.definition.specs.Names.{same_name}
 use Rattle.definition.specs.Headings.{NamedCard, Heading, is_type_definition, is_type_extension, same_named, defined_types, orphans, definition, number_of}
 use Rattle.definition.specs.Refusals.{card_capacity}
 use Rattle.definition.specs.Store.{cards_used_of, words_capacity}
+use Rattle.name.specs.Hashes.{hash_of}
 use Rattle.store_reader.specs.Stored.{stored_parts, stored_headings, card_name}
 
 -- ---- Hashes.
-
--- A number below 2 ^ 32 that is made of a name's bytes: names with other hashes are other names.
-unfoldable pub hash_from : ℕ → List ℕ → ℕ
-hash_from f [] = f
-hash_from f (b ∷ bs) = hash_from ((f * 16777619 + b) % 4294967296) bs
-
-unfoldable pub hash_of : List ℕ → ℕ
-hash_of bs = hash_from 0 bs
 
 unfoldable pub part_hash : NamedCard → ℕ
 part_hash p = hash_of p.name
@@ -61,49 +54,19 @@ pub record Cards (text words hashes cards : List ℕ) : Type 0 where
   pub rising : (i j : ℕ) → i < j → j < length cards → get_or cards i 0 < get_or cards j 0
   pub few : length cards ≤ cards_used_of words
 
--- The counts say how far each array is used.
-pub record Indexed (text words headings hashes owners type_cards orphan_cards extension_cards : List ℕ)
-    (heading_count type_count orphan_count extension_count : ℕ) : Type 0 where
-  -- The headings' cards in order, then the number of cards: the parts of heading k are the cards between the entries k and k + 1.
-  pub headings_are : take (heading_count + 1) headings ≡ map heading_number (stored_headings text words) ++ (cards_used_of words ∷ [])
-  pub hashed : Hashed text words hashes
+-- Each array has just what is used of it.
+pub record Listed (text words headings owners types orphan_cards extensions : List ℕ) : Type 0 where
+  -- The headings' cards in order.
+  pub headings_are : headings ≡ map heading_number (stored_headings text words)
+  -- The first definition of each type, the first orphan of each name, and all type extensions.
+  pub types_are : types ≡ map heading_number (defined_types (stored_headings text words))
+  pub orphans_are : orphan_cards ≡ map heading_number (firsts same_named [] (orphans (stored_headings text words)))
+  pub extensions_are : extensions ≡ map heading_number (filter is_type_extension (stored_headings text words))
   -- For each heading that defines or extends a type, the card of the first definition of its name, or `-`.
   pub owners_are :
       (k : ℕ) (h : Heading) → get_elem? (stored_headings text words) k ≡ some h → is_typed h ≡ true →
       get_or owners h.number 0 ≡ number_of (definition h.name (stored_headings text words))
-  -- The first definition of each type, the first orphan of each name, and all type extensions.
-  pub types_are : take type_count type_cards ≡ map heading_number (defined_types (stored_headings text words))
-  pub orphans_are : take orphan_count orphan_cards ≡ map heading_number (firsts same_named [] (orphans (stored_headings text words)))
-  pub extensions_are : take extension_count extension_cards ≡ map heading_number (filter is_type_extension (stored_headings text words))
-  -- Counts.
-  pub headings_count : length (stored_headings text words) ≡ heading_count
-  pub types_count : length (defined_types (stored_headings text words)) ≡ type_count
-  pub orphans_count : length (firsts same_named [] (orphans (stored_headings text words))) ≡ orphan_count
-  pub extensions_count : length (filter is_type_extension (stored_headings text words)) ≡ extension_count
   -- Lengths and bounds.
-  pub headings_most : heading_count ≤ cards_used_of words
-  pub types_most : type_count ≤ heading_count
-  pub orphans_most : orphan_count ≤ extension_count
-  pub extensions_most : extension_count ≤ heading_count
-  pub headings_length : cards_used_of words < length headings
-  pub owners_length : cards_used_of words ≤ length owners
-  pub types_length : cards_used_of words ≤ length type_cards
-  pub orphans_length : cards_used_of words ≤ length orphan_cards
-  pub extensions_length : cards_used_of words ≤ length extension_cards
-  pub headings_stored : (k : ℕ) → k < heading_count → get_or headings k 0 < cards_used_of words
-  pub types_stored : (k : ℕ) → k < type_count → get_or type_cards k 0 < cards_used_of words
-  pub orphans_stored : (k : ℕ) → k < orphan_count → get_or orphan_cards k 0 < cards_used_of words
-  pub extensions_stored : (k : ℕ) → k < extension_count → get_or extension_cards k 0 < cards_used_of words
-
--- The same of arrays that have just what is used of them, so that they need no counts; the mark after the headings is gone. proofs/Cut has the one from the other.
-pub record Listed (text words headings owners types orphan_cards extensions : List ℕ) : Type 0 where
-  pub headings_are : headings ≡ map heading_number (stored_headings text words)
-  pub types_are : types ≡ map heading_number (defined_types (stored_headings text words))
-  pub orphans_are : orphan_cards ≡ map heading_number (firsts same_named [] (orphans (stored_headings text words)))
-  pub extensions_are : extensions ≡ map heading_number (filter is_type_extension (stored_headings text words))
-  pub owners_are :
-      (k : ℕ) (h : Heading) → get_elem? (stored_headings text words) k ≡ some h → is_typed h ≡ true →
-      get_or owners h.number 0 ≡ number_of (definition h.name (stored_headings text words))
   pub owners_length : cards_used_of words ≤ length owners
   pub headings_most : length headings ≤ cards_used_of words
   pub types_most : length types ≤ length headings

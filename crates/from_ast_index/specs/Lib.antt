@@ -1,3 +1,2 @@
 -- What the arrays hold that build reads.
 pub mod Index
-pub mod Grown

@@ -1,11 +1,21 @@
 // The arrays that build reads: how many there are of what, and the reads of them that several walks share. Crate `from_ast_indexing` fills them.
 #![tactic(auto)]
 
-ghost use Rattle.std.specs.Prelude.{◌≡◌, ◌<◌, ◌≤◌, ◌+◌, ◌∷◌, [], ◌++◌, length};
+ghost use Rattle.std.specs.Prelude.{◌≡◌, ◌<◌};
 ghost use Rattle.definition.specs.Store.{cards_used_of};
 ghost use Rattle.store_reader.specs.Stored.{card_kind, card_name};
 ghost use Rattle.from_ast_index.specs.Index.{same_cards, Hashed, Listed, Spanned, own_extensions};
-ghost use Rattle.from_ast_index.specs.Grown.{listed_in};
+
+// Whether two cards have one name, by the bytes.
+#[tactic(auto, unfolding(crate::specs::Index::same_cards))]
+pub fn same_names(text: &[u8], words: &[u32], a: u32, b: u32) -> bool
+    ensures { result ≡ same_cards text.now words.now a b }
+{
+    name::same(
+        store_reader::card_name(text, words, a as usize),
+        store_reader::card_name(text, words, b as usize),
+    )
+}
 
 // A store whose cards' names have their hashes at hand: what the walks of a build read.
 #[derive(Clone, Copy)]
@@ -36,7 +46,7 @@ impl<'a> Collection<'a> {
     }
 
     // Whether two stored cards have one name. Most that have not are told by their hashes.
-    #[tactic(auto, unfolding(crate::specs::Index::same_cards))]
+    #[tactic(auto, using(crate::proofs::Search::cards_differ), unfolding(crate::specs::Index::same_cards))]
     pub fn same_name(&self, a: u32, b: u32) -> bool
         requires a_stored { a < cards_used_of self.now.words.now }
         requires b_stored { b < cards_used_of self.now.words.now }
@@ -63,6 +73,7 @@ pub struct Index<'a> {
 
 impl<'a> Index<'a> {
     // The part of all extensions in which those of a type stand.
+    #[tactic(auto, using(crate::proofs::Spans::part_clipped), unfolding(crate::specs::Index::own_extensions))]
     pub fn own_extensions(&self, card: u32) -> &'a [u32]
         requires { card < cards_used_of self.now.collection.words.now }
         ensures { result.now
@@ -72,47 +83,4 @@ impl<'a> Index<'a> {
         let start = (self.starts[card as usize] as usize).min(end);
         &self.extensions[start..end]
     }
-}
-
-// A list that grows in a lent slice: the words before `len`.
-#[derive(Drop)]
-pub struct WordList<'a> {
-    pub words: &'a mut [u32],
-    pub len: usize,
-}
-
-impl<'a> WordList<'a> {
-    pub fn clear(&mut self)
-        ensures length { length self.new.words.now ≡ length self.old.words.now }
-        ensures listed { listed_in self.new ≡ [] }
-        ensures len { self.new.len ≡ 0 }
-    {
-        self.len = 0;
-    }
-
-    pub fn push(&mut self, word: u32)
-        requires { self.old.len < length self.old.words.now }
-        ensures length { length self.new.words.now ≡ length self.old.words.now }
-        ensures listed { listed_in self.new ≡ listed_in self.old ++ word ∷ [] }
-        ensures len { self.new.len ≡ self.old.len + 1 }
-    {
-        self.words[self.len] = word;
-        self.len += 1;
-    }
-
-    pub fn as_slice(&self) -> &[u32]
-        requires { self.now.len ≤ length self.now.words.now }
-        ensures { result.now ≡ listed_in self.now }
-    {
-        &self.words[..self.len]
-    }
-}
-
-// How many headings, types, orphaned names and type extensions there are.
-#[derive(Clone, Copy)]
-pub struct Counts {
-    pub headings: usize,
-    pub types: usize,
-    pub orphans: usize,
-    pub extensions: usize,
 }

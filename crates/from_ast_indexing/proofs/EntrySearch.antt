@@ -1,20 +1,23 @@
--- The search for a name among cards, and a card that is added where none has its name.
+-- The search for a name among the first cards, and a card that is added where none has its name.
 use mathlib.Core.Path.{◌≡◌, refl, sym, ◌∙◌, ap}
 use mathlib.Core.List.{List, [], ◌∷◌, ◌++◌, map}
 use mathlib.Core.Bool.{true, false}
 use mathlib.Core.Option.{Option, none, some}
-use Prim.Native.Nat.{ℕ, zero, suc, ◌+◌, ◌-◌, ◌≤◌, ◌<◌}
+use Prim.Native.Nat.{ℕ, zero, suc, ◌+◌, ◌-◌, ◌%◌, ◌≤◌, ◌<◌}
 use native.Mathlib.Numerals.{add-one}
 use native.Mathlib.Omega.{arith}
-use lib.ListN.{length, take, drop, get_or, set, length-map}
+use lib.ListN.{length, take, drop, get_or, set, length-set}
 use lib.Seq.{drop_at, length-take-le, take-add, take-suc-set}
 use Rattle.definition.specs.Lists.{find}
 use Rattle.from_ast_index.specs.Index.{card_hash, same_cards}
+use Rattle.definition.specs.Store.{cards_used_of}
 use Rattle.definition.proofs.Lists.{map_append, first_nil, first_yes, first_no}
 use Rattle.from_ast_index.proofs.Lists.{drop_next, drop_end}
-use Rattle.from_ast_index.proofs.Hashes.{hashes_differ}
-use Rattle.std.specs.Prelude.{Option as Entry, Some, None}
-use Rattle.from_ast_indexing.specs.Entering.{entry_of, entered_in, first_entered, Searched, Entering, Entered}
+use Rattle.name.proofs.HashLaws.{hashes_differ}
+use Rattle.std.specs.Prelude.{Some, None}
+use Rattle.from_ast_indexing.specs.declared.entry.FirstCards.{FirstCards}
+use Rattle.from_ast_indexing.specs.Entering.{entry_of, entered_in, first_entered, cards_of, hashes_of, FirstsAre}
+use Rattle.from_ast_indexing.proofs.Hints.{hint_none, hint_passed, hint_more}
 
 -- ---- A turn of the search.
 
@@ -41,15 +44,12 @@ drop_hash text words zero cards = refl
 drop_hash text words (suc n) [] = refl
 drop_hash text words (suc n) (x ∷ xs) = drop_hash text words n xs
 
-module _ (text words cards hashes : List ℕ) (card hash : ℕ) (s : Searched text words cards hashes card hash) where
-  pub search_length : length hashes ≡ length cards
-  search_length = ap length s.hashes_are ∙ length-map cards (card_hash text words)
-
+module _ (text words cards hashes : List ℕ) (card hash : ℕ) (are : hashes ≡ map (card_hash text words) cards) (is : hash ≡ card_hash text words card) where
   pub search_differ : (i : ℕ) → i < length cards → (get_or hashes i 0 ≡ hash → ⊥) → same_cards text words card (get_or cards i 0) ≡ false
   unfolding same_cards card_hash
   search_differ i h d =
       hashes_differ _ _
-      (λ e. d (ap (λ (l : List ℕ). get_or l i 0) s.hashes_are ∙ get_d_hash text words cards i h ∙ sym e ∙ sym s.hash_is))
+      (λ e. d (ap (λ (l : List ℕ). get_or l i 0) are ∙ get_d_hash text words cards i h ∙ sym e ∙ sym is))
 
   -- A search that begins later finds the same where none before has the hash.
   pub search_from : (from : ℕ) → from ≤ length cards → ((j : ℕ) → j < from → get_or hashes j 0 ≡ hash → ⊥) →
@@ -60,21 +60,7 @@ module _ (text words cards hashes : List ℕ) (card hash : ℕ) (s : Searched te
       ∙ search_miss text words cards card n h (search_differ n h (d n (omega arith)))
       ∙ ap (λ (k : ℕ). entry_of (find (same_cards text words card) (drop k cards))) (add-one n)
 
-  pub searched_from : (from : ℕ) → Searched text words (drop from cards) (drop from hashes) card hash
-  searched_from from = record {
-    hashes_are = ap (drop from) s.hashes_are ∙ drop_hash text words from cards;
-    hash_is = s.hash_is;
-  }
-
--- ---- A card that comes to the first ones.
-
-pub occupied : (o : Option ℕ) (d : ℕ) → entry_of o ≡ Some d → o ≡ some d
-occupied (some x) d e = let q : x ≡ d = cc in ap some q
-occupied none d e = absurd (let z : ◌≡◌ {A = ℕ} 0 1 = cc in omega arith)
-
-pub vacant : (o : Option ℕ) → entry_of o ≡ None → o ≡ none
-vacant (some x) e = absurd (let z : ◌≡◌ {A = ℕ} 0 1 = cc in omega arith)
-vacant none e = refl
+-- ---- The part that is searched.
 
 part_taken : (from count : ℕ) (xs : List ℕ) → from ≤ count → from ≤ length xs → drop from (take count xs) ≡ take (count - from) (drop from xs)
 part_taken from count xs h l =
@@ -83,55 +69,90 @@ part_taken from count xs h l =
     ∙ ap (drop from) (take-add from (count - from) xs)
     ∙ drop_at (take from xs) (take (count - from) (drop from xs)) from (length-take-le from xs l)
 
-module _ (text words cards hashes : List ℕ) (from count card hash : ℕ) (s : Entering text words cards hashes from count card hash) where
-  cards_part : drop from (take count cards) ≡ take (count - from) (drop from cards)
-  cards_part = part_taken from count cards s.from_most (omega (arith, s.from_most, s.cards_capacity))
+module _ (text words : List ℕ) (f : FirstCards) (p : FirstsAre text words f) (from : ℕ) (most : from ≤ f.len) where
+  cards_part : drop from (cards_of f) ≡ take (f.len - from) (drop from f.cards.now)
+  cards_part = part_taken from f.len f.cards.now most (omega (arith, p.len_most, p.cards_room))
 
-  hashes_part : drop from (take count hashes) ≡ take (count - from) (drop from hashes)
-  hashes_part = part_taken from count hashes s.from_most (omega (arith, s.from_most, s.hashes_capacity))
+  hashes_part : drop from (hashes_of f) ≡ take (f.len - from) (drop from f.hashes.now)
+  hashes_part = part_taken from f.len f.hashes.now most (omega (arith, p.len_most, p.hashes_room))
 
-  -- The search goes over the part from `from` to `count`.
-  pub entering_searched : Searched text words (take (count - from) (drop from cards)) (take (count - from) (drop from hashes)) card hash
-  entering_searched =
-      rw (sym cards_part, sym hashes_part)
-      (searched_from text words (take count cards) (take count hashes) card hash s.searched from)
+  pub hashes_of_part : take (f.len - from) (drop from f.hashes.now) ≡ map (card_hash text words) (take (f.len - from) (drop from f.cards.now))
+  hashes_of_part =
+      rw (sym cards_part, sym hashes_part) (ap (drop from) p.hashes_are ∙ drop_hash text words from (cards_of f))
 
-  searched_all : entry_of (find (same_cards text words card) (take count cards))
-      ≡ entry_of (find (same_cards text words card) (take (count - from) (drop from cards)))
-  searched_all =
-      let l : length (take count cards) ≡ count = length-take-le count cards (omega (arith, s.cards_capacity)) in
-      search_from text words (take count cards) (take count hashes) card hash s.searched from (omega (arith, s.from_most)) s.passed
+  -- What is sought among all is found in the part.
+  pub part_has : (card hash : ℕ) → hash ≡ card_hash text words card → from ≤ get_or f.buckets.now (hash % length f.buckets.now) 0 →
+      entry_of (find (same_cards text words card) (cards_of f)) ≡ entry_of (find (same_cards text words card) (take (f.len - from) (drop from f.cards.now)))
+  part_has card hash is hint =
+      let cards_long = length-take-le f.len f.cards.now (omega (arith, p.len_most, p.cards_room)) in
+      let hashes_long = length-take-le f.len f.hashes.now (omega (arith, p.len_most, p.hashes_room)) in
+      search_from text words (cards_of f) (hashes_of f) card hash p.hashes_are is from (omega arith)
+      (λ j l. hint_passed (hashes_of f) f.buckets.now p.hinted hash from hint j l (omega arith))
       ∙ ap (λ (xs : List ℕ). entry_of (find (same_cards text words card) xs)) cards_part
 
-  pub entered_old : (f : Entry ℕ) (d : ℕ) → f ≡ entry_of (find (same_cards text words card) (take (count - from) (drop from cards))) → f ≡ Some d →
-      Entered text words card count (record { card = d; count = count }) cards cards hashes
-  unfolding first_entered entered_in
-  entered_old f d r e =
-      let q = occupied (find (same_cards text words card) (take count cards)) d (searched_all ∙ sym r ∙ e) in
-      record {
-        first_is = rw q;
-        cards_are = rw q;
-        hashes_are = s.searched.hashes_are;
-        count_most = omega arith;
-      }
+pub occupied : (o : Option ℕ) (d : ℕ) → Some d ≡ entry_of o → o ≡ some d
+occupied (some x) d e = let q : x ≡ d = cc in ap some q
+occupied none d e = absurd (let z : ◌≡◌ {A = ℕ} 0 1 = cc in omega arith)
 
-  pub entered_new : (f : Entry ℕ) → f ≡ entry_of (find (same_cards text words card) (take (count - from) (drop from cards))) → f ≡ None →
-      Entered text words card count (record { card = card; count = count + 1 }) cards (set cards count card)
-      (set hashes count hash)
-  unfolding first_entered entered_in
-  entered_new f r e =
-      let q = vacant (find (same_cards text words card) (take count cards)) (searched_all ∙ sym r ∙ e) in
-      let taken : take (count + 1) (set cards count card) ≡ take count cards ++ (card ∷ []) = rw add-one (take-suc-set cards count card s.cards_capacity) in
-      let hashed : take (count + 1) (set hashes count hash) ≡ take count hashes ++ (hash ∷ []) =
-      rw add-one (take-suc-set hashes count hash s.hashes_capacity) in
-      record {
-        first_is = rw q;
-        cards_are = rw q taken;
-        hashes_are =
-            hashed
-            ∙ ap (λ (l : List ℕ). l ++ (hash ∷ [])) s.searched.hashes_are
-            ∙ ap (λ (p : ℕ). map (card_hash text words) (take count cards) ++ (p ∷ [])) s.searched.hash_is
-            ∙ sym (map_append (card_hash text words) (take count cards) (card ∷ []))
-            ∙ ap (map (card_hash text words)) (sym taken);
-        count_most = omega arith;
-      }
+pub vacant : (o : Option ℕ) → None ≡ entry_of o → o ≡ none
+vacant (some x) e = absurd (let z : ◌≡◌ {A = ℕ} 0 1 = cc in omega arith)
+vacant none e = refl
+
+-- ---- A card that comes to the first ones.
+
+module _ (text words : List ℕ) (f : FirstCards) (card : ℕ) where
+  module _ (d : ℕ) (e : Some d ≡ entry_of (find (same_cards text words card) (cards_of f))) where
+    pub first_kept : d ≡ first_entered (same_cards text words) card (cards_of f)
+    unfolding first_entered
+    first_kept = rw (occupied (find (same_cards text words card) (cards_of f)) d e) refl
+
+    pub cards_kept : cards_of f ≡ entered_in (same_cards text words) card (cards_of f)
+    unfolding entered_in
+    cards_kept = rw (occupied (find (same_cards text words card) (cards_of f)) d e) refl
+
+  module _ (e : None ≡ entry_of (find (same_cards text words card) (cards_of f))) where
+    pub first_new : card ≡ first_entered (same_cards text words) card (cards_of f)
+    unfolding first_entered
+    first_new = rw (vacant (find (same_cards text words card) (cards_of f)) e) refl
+
+    pub cards_new : FirstsAre text words f → f.len < cards_used_of words →
+        take (f.len + 1) (set f.cards.now f.len card) ≡ entered_in (same_cards text words) card (cards_of f)
+    unfolding entered_in
+    cards_new p room =
+        rw (vacant (find (same_cards text words card) (cards_of f)) e)
+        (rw add-one (take-suc-set f.cards.now f.len card (omega (arith, p.cards_room))))
+
+-- The hashes and the buckets then.
+pub firsts_new : (text words : List ℕ) (f : FirstCards) (card hash from : ℕ) → FirstsAre text words f → f.len < cards_used_of words →
+    hash ≡ card_hash text words card → from ≤ f.len → from ≤ get_or f.buckets.now (hash % length f.buckets.now) 0 → (f' : FirstCards) →
+    f'.cards.now ≡ set f.cards.now f.len card → f'.hashes.now ≡ set f.hashes.now f.len hash →
+    f'.buckets.now ≡ set f.buckets.now (hash % length f.buckets.now) from → f'.len ≡ f.len + 1 → FirstsAre text words f'
+firsts_new text words f card hash from p room is most hint f' c h b l =
+    let long = length-take-le f.len f.hashes.now (omega (arith, p.len_most, p.hashes_room)) in
+    let more : cards_of f' ≡ cards_of f ++ (card ∷ []) =
+    rw (c, l) (rw add-one (take-suc-set f.cards.now f.len card (omega (arith, p.cards_room)))) in
+    let hashed : hashes_of f' ≡ hashes_of f ++ (hash ∷ []) =
+    rw (h, l) (rw add-one (take-suc-set f.hashes.now f.len hash (omega (arith, p.hashes_room)))) in
+    record {
+      hashes_are =
+          hashed
+          ∙ ap (λ (l : List ℕ). l ++ (hash ∷ [])) p.hashes_are
+          ∙ ap (λ (n : ℕ). map (card_hash text words) (cards_of f) ++ (n ∷ [])) is
+          ∙ sym (map_append (card_hash text words) (cards_of f) (card ∷ []))
+          ∙ ap (map (card_hash text words)) (sym more);
+      hinted = rw (hashed, b) (hint_more (hashes_of f) f.buckets.now p.hinted hash from hint (omega arith));
+      len_most = omega arith;
+      cards_room = omega (arith, ap length c, length-set f.cards.now f.len card, p.cards_room);
+      hashes_room = omega (arith, ap length h, length-set f.hashes.now f.len hash, p.hashes_room);
+    }
+
+-- None yet.
+pub firsts_none : (text words : List ℕ) (f : FirstCards) → f.len ≡ 0 → 0 < length f.buckets.now → cards_used_of words ≤ length f.cards.now →
+    cards_used_of words ≤ length f.hashes.now → FirstsAre text words f
+firsts_none text words f e slots cards hashes = record {
+  hashes_are = rw e refl;
+  hinted = rw e (hint_none f.buckets.now slots);
+  len_most = omega arith;
+  cards_room = cards;
+  hashes_room = hashes;
+}

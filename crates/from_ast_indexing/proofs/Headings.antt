@@ -3,12 +3,11 @@ use mathlib.Core.Path.{◌≡◌, refl, sym, ◌∙◌, ap}
 use mathlib.Core.List.{List, [], ◌∷◌, ◌++◌, map, append_assoc, append-nil}
 use mathlib.Core.Bool.{Bool, true, false}
 use Prim.Native.Nat.{ℕ, zero, suc, ◌+◌, ◌≤◌, ◌<◌}
-use native.Mathlib.Numerals.{add-one}
 use native.Mathlib.Omega.{arith}
 use lib.Dec.{ltb}
 use borrow.Author.Tests.{ltb-true, ltb-false}
-use lib.ListN.{get_or-append, length, take, drop, get_or, set, length-map}
-use lib.Seq.{take-suc-set, length-take-le, drop-length}
+use lib.ListN.{get_or-append, length, drop, get_or}
+use lib.Seq.{length-take-le, drop-length}
 use Rattle.definition.specs.Cards.{is_part}
 use Rattle.definition.specs.Headings.{NamedCard, Heading}
 use Rattle.definition.specs.Store.{cards_used_of}
@@ -16,15 +15,18 @@ use Rattle.store_reader.specs.Stored.{card_kind, card_at, stored_parts, stored_h
 use Rattle.store_reader.specs.Stored.{built_in_at, ignored_at, headings_of}
 use Rattle.store_reader.proofs.Group.{parts_later, headings_past_parts}
 use Rattle.store_reader.proofs.Words.{headings_start, headings_next, headings_skip, headings_end, next_stored, next_after, next_inside, parts_next}
-use Rattle.from_ast_index.specs.Index.{heading_number}
-use Rattle.from_ast_indexing.specs.Steps.{HeadingsAsked, HeadingsAre}
+use Rattle.from_ast_index.specs.Index.{heading_number, Hashed, Cards}
+use Rattle.word_list.specs.Listed.{listed_in}
+use Rattle.word_list.specs.declared.WordList.{WordList}
+use Rattle.from_ast_indexing.specs.Steps.{HeadingsAre}
 
 -- ---- The walk.
 
--- m headings stand in the array, and those from the card i on are left.
-pub record HeadingsSoFar (words headings : List ℕ) (m i : ℕ) : Type 0 where
-  pub so_far : (text : List ℕ) → take m headings ++ map heading_number (stored_headings_from text words i) ≡ map heading_number (stored_headings text words)
-  pub count_most : m ≤ i
+-- The headings before the card i are listed, and those from it on are left.
+pub record HeadingsSoFar (words : List ℕ) (list : WordList) (i : ℕ) : Type 0 where
+  pub so_far : (text : List ℕ) → listed_in list ++ map heading_number (stored_headings_from text words i) ≡ map heading_number (stored_headings text words)
+  pub len_most : list.len ≤ i
+  pub room : cards_used_of words ≤ length list.words.now
 
 -- What follows a heading's parts is a heading.
 pub next_headings : (words : List ℕ) (i : ℕ) → i < cards_used_of words → next_heading words i < cards_used_of words →
@@ -47,11 +49,12 @@ next_headings words i h n = go (is_part (card_kind words (next_heading words i))
         let z : ◌≡◌ {A = ℕ} 0 1 = cc in omega arith)
     go false e = e
 
-pub headings_begin : (words headings : List ℕ) → HeadingsAsked words headings → HeadingsSoFar words headings 0 0
-headings_begin words headings a = record {
+pub headings_begin : (words : List ℕ) (list : WordList) → list.len ≡ 0 → cards_used_of words ≤ length list.words.now → HeadingsSoFar words list 0
+headings_begin words list e room = rw e (record {
   so_far = λ text. ap (map heading_number) (sym (headings_start text words));
-  count_most = omega arith;
-}
+  len_most = omega arith;
+  room = room;
+})
 
 number_at : (text words : List ℕ) (i : ℕ) → heading_number (heading_at text words i) ≡ i
 unfolding heading_number
@@ -68,47 +71,35 @@ heading_here text words i h p =
     (sym (headings_past_parts (built_in_at words) (ignored_at words) cs (i + 1)
     ∙ ap (λ (n : ℕ). (headings_of (built_in_at words) (ignored_at words) (drop n cs)).1) (sym (next_stored words i text h))))
 
-module _ (words headings : List ℕ) (m i : ℕ) (s : HeadingsSoFar words headings m i) (h : i < cards_used_of words) where
-  pub headings_part : is_part (card_kind words i) ≡ true → HeadingsSoFar words headings m (i + 1)
-  headings_part p = record {
-    so_far = λ text. ap (λ (l : List Heading). take m headings ++ map heading_number l) (sym (headings_skip text words i h p)) ∙ s.so_far text;
-    count_most = omega (arith, s.count_most);
+module _ (words : List ℕ) (list : WordList) (i : ℕ) (s : HeadingsSoFar words list i) where
+  pub headings_part : i < cards_used_of words → is_part (card_kind words i) ≡ true → HeadingsSoFar words list (i + 1)
+  headings_part h p = record {
+    so_far = λ text. ap (λ (l : List Heading). listed_in list ++ map heading_number l) (sym (headings_skip text words i h p)) ∙ s.so_far text;
+    len_most = omega (arith, s.len_most);
+    room = s.room;
   }
 
-  pub headings_turn : cards_used_of words < length headings → is_part (card_kind words i) ≡ false → HeadingsSoFar words (set headings m i) (m + 1) (i + 1)
-  headings_turn capacity p = record {
+  pub headings_turn : i < cards_used_of words → is_part (card_kind words i) ≡ false → (list' : WordList) → listed_in list' ≡ listed_in list ++ (i ∷ []) →
+      list'.len ≡ list.len + 1 → length list'.words.now ≡ length list.words.now → HeadingsSoFar words list' (i + 1)
+  headings_turn h p list' e l k = record {
     so_far = λ text.
         let rest : List ℕ = map heading_number (stored_headings_from text words (i + 1)) in
-        let taken : take (m + 1) (set headings m i) ≡ take m headings ++ (i ∷ []) = rw add-one (take-suc-set headings m i (omega (arith, s.count_most))) in
-        ap (λ (l : List ℕ). l ++ rest) taken
-        ∙ append_assoc (take m headings) (i ∷ []) rest
-        ∙ ap (λ (n : ℕ). take m headings ++ (n ∷ rest)) (sym (number_at text words i))
-        ∙ ap (λ (l : List Heading). take m headings ++ map heading_number l) (sym (heading_here text words i h p))
+        ap (λ (l : List ℕ). l ++ rest) e
+        ∙ append_assoc (listed_in list) (i ∷ []) rest
+        ∙ ap (λ (n : ℕ). listed_in list ++ (n ∷ rest)) (sym (number_at text words i))
+        ∙ ap (λ (l : List Heading). listed_in list ++ map heading_number l) (sym (heading_here text words i h p))
         ∙ s.so_far text;
-    count_most = omega (arith, s.count_most);
+    len_most = omega (arith, s.len_most);
+    room = omega (arith, s.room);
   }
 
-module _ (words headings : List ℕ) (m i : ℕ) (s : HeadingsSoFar words headings m i) (h : i ≡ cards_used_of words)
-    (capacity : cards_used_of words < length headings) where
-  all_headings : (text : List ℕ) → take m headings ≡ map heading_number (stored_headings text words)
-  all_headings text =
-      sym (append-nil (take m headings))
-      ∙ ap (λ (l : List Heading). take m headings ++ map heading_number l) (sym (headings_end text words i (omega arith)))
-      ∙ s.so_far text
-
-  pub headings_done : (used : ℕ) → used ≡ cards_used_of words → HeadingsAre words (set headings m used) m
-  headings_done used e = record {
+  pub headings_done : cards_used_of words ≤ i → i ≤ cards_used_of words → HeadingsAre words (listed_in list)
+  headings_done h n = record {
     headings_are = λ text.
-        let taken : take (m + 1) (set headings m used) ≡ take m headings ++ (used ∷ []) =
-        rw add-one (take-suc-set headings m used (omega (arith, s.count_most))) in
-        taken
-        ∙ ap (λ (l : List ℕ). l ++ (used ∷ [])) (all_headings text)
-        ∙ ap (λ (n : ℕ). map heading_number (stored_headings text words) ++ (n ∷ [])) e;
-    headings_count = λ text.
-        sym (length-map (stored_headings text words) heading_number)
-        ∙ ap length (sym (all_headings text))
-        ∙ length-take-le m headings (omega (arith, s.count_most));
-    headings_most = omega (arith, s.count_most);
+        sym (append-nil (listed_in list))
+        ∙ ap (λ (l : List Heading). listed_in list ++ map heading_number l) (sym (headings_end text words i h))
+        ∙ s.so_far text;
+    headings_most = omega (arith, s.len_most, length-take-le list.len list.words.now (omega (arith, s.len_most, s.room)));
   }
 
 -- ---- Where the headings stand: each is followed by the next heading, the last one by the end.
@@ -189,3 +180,12 @@ module _ (words : List ℕ) where
       go false e f =
           let same : i ≡ j = (let n = ltb-false i j e in omega arith) in
           rw same (chain_step xs c j h)
+
+-- The list of all headings, with the hashes of their names at hand.
+pub cards_ready : (text words hashes headings : List ℕ) → Hashed text words hashes → HeadingsAre words headings → Cards text words hashes headings
+cards_ready text words hashes headings p is = rw (is.headings_are text) (record {
+  hashed = p;
+  stored = chain_stored words (map heading_number (stored_headings text words)) (headings_chain text words);
+  rising = chain_rising words (map heading_number (stored_headings text words)) (headings_chain text words);
+  few = rw (is.headings_are text) at is.headings_most;
+})

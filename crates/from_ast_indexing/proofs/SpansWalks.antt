@@ -5,12 +5,10 @@ use mathlib.Core.Bool.{Bool, true, false}
 use Prim.Native.Nat.{ℕ, ◌+◌, ◌≤◌, ◌<◌}
 use native.Mathlib.Omega.{arith}
 use lib.Dec.{eqb}
-use lib.ListN.{length, take, get_or, set, length-set}
-use lib.Seq.{get_or-set_same, get_or-set_other, get_or-take}
+use lib.ListN.{length, get_or, set, length-set}
+use lib.Seq.{get_or-set_same, get_or-set_other}
 use borrow.Author.Tests.{eqb-true, eqb-false}
-use Rattle.from_ast_index.specs.Index.{Indexed, owner_at, StartsAre, EndsAre}
-use Rattle.from_ast_index.proofs.Lists.{taken_most}
-use Rattle.from_ast_indexing.specs.Spans.{SpansAsked}
+use Rattle.from_ast_index.specs.Index.{owner_at, StartsAre, EndsAre}
 
 module _ (f : ℕ → ℕ) (xs : List ℕ) (k : ℕ) where
   later_ends : ((i : ℕ) → i < k → f i < length xs → i < get_or xs (f i) 0) → (i : ℕ) → i < k + 1 → f i < length (set xs (f k) (k + 1)) →
@@ -63,14 +61,3 @@ module _ (owners extensions : List ℕ) where
   pub starts_turn : (starts : List ℕ) (k : ℕ) → StartsAre owners extensions starts (k + 1) →
       StartsAre owners extensions (set starts (owner_at owners extensions k) k) k
   starts_turn starts k s = record { at_or_after = earlier_starts (owner_at owners extensions) starts k (length extensions) s.at_or_after }
-
-module _ (text words headings hashes owners type_cards orphan_cards extension_cards : List ℕ) (m t o e : ℕ)
-    (x : Indexed text words headings hashes owners type_cards orphan_cards extension_cards m t o e) where
-  pub spans_ready : SpansAsked owners (take e extension_cards)
-  spans_ready = record {
-    stored = λ j h. in_owners j (omega (arith, h, taken_most e extension_cards));
-    few = omega (arith, taken_most e extension_cards, x.extensions_most, x.headings_most, x.hashed.cards_most);
-  }
-    where
-      in_owners : (j : ℕ) → j < e → get_or (take e extension_cards) j 0 < length owners
-      in_owners j h = omega (arith, get_or-take e extension_cards j 0 h, x.extensions_stored j h, x.owners_length)

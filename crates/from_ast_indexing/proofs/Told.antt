@@ -6,8 +6,7 @@ use mathlib.Core.Option.{Option, none, some}
 use Prim.Native.Nat.{ℕ, ◌≤◌, ◌<◌}
 use native.Mathlib.Omega.{arith}
 use lib.Dec.{eqb, leb}
-use lib.ListN.{length, take, get_or, get_elem?, length-map}
-use lib.Seq.{get_or-take, length-take-le}
+use lib.ListN.{length, get_or, get_elem?, length-map}
 use borrow.Author.Tests.{ne_eqb}
 use Rattle.definition.specs.Lists.{choose, found, filter, find, firsts, All}
 use Rattle.definition.specs.Names.{same_name}
@@ -21,19 +20,15 @@ use Rattle.store_reader.specs.Stored.{card_kind, card_name, stored_headings, hea
 use Rattle.definition.proofs.All.{all_filter, all_firsts, all_every, all_to, all_found}
 use Rattle.store_reader.proofs.Lists.{get_inside, all_get}
 use Rattle.store_reader.proofs.Words.{headings_at}
-use Rattle.store_reader.proofs.Laws.{cards_fit_lem, heading_first}
 use Rattle.from_ast_index.proofs.Spans.{all_named}
-use Rattle.from_ast_indexing.proofs.Headings.{headings_chain, chain_stored, chain_rising}
-use Rattle.from_ast_index.specs.Index.{Cards, Hashed, same_cards, Indexed, heading_number, is_type_extension_kind, is_typed}
+use Rattle.from_ast_index.specs.Index.{same_cards, Listed, heading_number, is_type_extension_kind, is_typed}
 use Rattle.from_ast_index.proofs.Lists.{never, chosen_both, first_filter, filter_map, pictured, first_map, firsts_map, get_all, all_kept, filter_both}
-use Rattle.from_ast_index.proofs.Lists.{all_at, get_d_picture, all_picture, taken_front}
+use Rattle.from_ast_index.proofs.Lists.{all_at, get_d_picture, all_picture}
 use Rattle.from_ast_indexing.specs.Entering.{first_card}
 use Rattle.from_ast_indexing.specs.Types.{is_type_card}
 use Rattle.from_ast_indexing.specs.Extensions.{is_extension_card, is_unowned}
-use Rattle.from_ast_indexing.specs.Spans.{SpansAsked}
-use Rattle.from_ast_indexing.proofs.SpansWalks.{spans_ready}
-use Rattle.from_ast_indexing.specs.Steps.{IndexAsked, HeadingsAsked, HeadingsAre, OwnersAsked, OwnersAre}
-use Rattle.from_ast_index.specs.declared.Counts.{Counts}
+use Rattle.from_ast_indexing.specs.Steps.{HeadingsAre}
+use Rattle.from_ast_indexing.proofs.Owners.{OwnersAre}
 
 -- ---- Headings by their cards.
 
@@ -138,209 +133,114 @@ module _ (text words : List ℕ) where
 
 -- ---- The walks' records, told by the headings.
 
-module _ (text words headings : List ℕ) (m : ℕ) (capacity : cards_used_of words < length headings) (few : cards_used_of words ≤ card_capacity)
-    (is : HeadingsAre words headings m) where
-  taken : take m headings ≡ map heading_number (stored_headings text words)
-  taken =
-      taken_front m headings (map heading_number (stored_headings text words)) (cards_used_of words) (is.headings_are text)
-      (length-map (stored_headings text words) heading_number ∙ is.headings_count text)
+module _ (text words headings : List ℕ) (few : cards_used_of words ≤ card_capacity) (is : HeadingsAre words headings)
+    (owners types orphan_cards extensions : List ℕ) (w : OwnersAre text words headings owners types orphan_cards extensions)
+    (owners_length : cards_used_of words ≤ length owners) where
+  hs : List Heading
+  hs = stored_headings text words
 
-  taken_length : length (take m headings) ≡ m
-  taken_length = length-take-le m headings (omega (arith, is.headings_most))
+  headings_are : headings ≡ map heading_number hs
+  unfolding hs
+  headings_are = is.headings_are text
 
-  pub cards_ready : (hashes : List ℕ) → Hashed text words hashes → Cards text words hashes (take m headings)
-  cards_ready hashes p = rw taken (record {
-    hashed = p;
-    stored = chain_stored words (map heading_number (stored_headings text words)) (headings_chain text words);
-    rising = chain_rising words (map heading_number (stored_headings text words)) (headings_chain text words);
-    few = omega (arith, length-map (stored_headings text words) heading_number, is.headings_count text, is.headings_most);
-  })
+  all_told : All (Told text words) hs
+  unfolding hs
+  all_told = told text words
+
+  types_are : types ≡ map heading_number (defined_types hs)
+  types_are =
+      w.types_are ∙ ap (λ (l : List ℕ). firsts (same_cards text words) [] (filter (is_type_card words) l)) headings_are ∙ types_told text words hs all_told
+
+  extensions_are : extensions ≡ map heading_number (filter is_type_extension hs)
+  extensions_are = w.extensions_are ∙ ap (filter (is_extension_card words)) headings_are ∙ kept_extensions text words hs all_told
+
+  at_heading : (k : ℕ) (h : Heading) → get_elem? hs k ≡ some h → (k < length headings) × (get_or headings k 0 ≡ heading_number h)
+  at_heading k h e = (
+    omega (arith, ap length headings_are, length-map hs heading_number, get_inside hs k h e),
+    ap (λ (l : List ℕ). get_or l k 0) headings_are ∙ get_d_picture heading_number hs k h e,
+  )
+
+  first_definition : (c : ℕ) → first_card (same_cards text words) c (filter (is_type_card words) headings) ≡
+      first_card (same_cards text words) c (filter (is_type_card words) (map heading_number hs))
+  first_definition c = ap (λ (l : List ℕ). first_card (same_cards text words) c (filter (is_type_card words) l)) headings_are
+
+  -- The owner of a heading's card, where it is the first definition of the card's name.
+  owner_at_lem : (k : ℕ) (h : Heading) → get_elem? hs k ≡ some h →
+      get_or owners (get_or headings k 0) 0 ≡ first_card (same_cards text words) (get_or headings k 0) (filter (is_type_card words) headings) →
+      get_or owners (heading_number h) 0 ≡ number_of (definition h.name hs)
+  owner_at_lem k h e o =
+      let is = (at_heading k h e).1 in
+      ap (λ (c : ℕ). get_or owners c 0) (sym is)
+      ∙ o
+      ∙ ap (λ (c : ℕ). first_card (same_cards text words) c (filter (is_type_card words) headings)) is
+      ∙ first_definition (heading_number h)
+      ∙ owner_told text words hs all_told h (all_get (Told text words) hs all_told k h e)
+
+  definition_owner : (k : ℕ) (h : Heading) → get_elem? hs k ≡ some h → is_type_definition h ≡ true →
+      get_or owners (heading_number h) 0 ≡ number_of (definition h.name hs)
+  definition_owner k h e y =
+      let a = at_heading k h e in
+      let t = all_get (Told text words) hs all_told k h e in
+      owner_at_lem k h e (w.type_owners k a.0 (ap (is_type_card words) a.1 ∙ type_told text words h t ∙ y))
+
+  extension_owner : (k : ℕ) (h : Heading) → get_elem? hs k ≡ some h → is_type_extension h ≡ true →
+      get_or owners (heading_number h) 0 ≡ number_of (definition h.name hs)
+  extension_owner k h e y =
+      let a = at_heading k h e in
+      let t = all_get (Told text words) hs all_told k h e in
+      owner_at_lem k h e (w.extension_owners k a.0 (ap (is_extension_card words) a.1 ∙ extension_told text words h t ∙ y))
+
+  owners_are : (k : ℕ) (h : Heading) → get_elem? hs k ≡ some h → is_typed h ≡ true → get_or owners h.number 0 ≡ number_of (definition h.name hs)
+  unfolding is_typed heading_number
+  owners_are k h e y = go (is_type_definition h) (is_type_extension h) refl refl y
+    where
+      go : (a b : Bool) → is_type_definition h ≡ a → is_type_extension h ≡ b → (a || b) ≡ true → get_or owners h.number 0 ≡ number_of (definition h.name hs)
+      go true b d x z = definition_owner k h e d
+      go false true d x z = extension_owner k h e x
+      go false false d x z = never (sym z)
+
+  orphans_are : orphan_cards ≡ map heading_number (firsts same_named [] (orphans hs))
+  orphans_are =
+      w.orphans_are
+      ∙ ap (λ (l : List ℕ). firsts (same_cards text words) [] (filter (is_unowned owners) (filter (is_extension_card words) l))) headings_are
+      ∙ orphans_told text words owners hs all_told few
+      (get_all (λ h. is_type_extension h ≡ true → get_or owners (heading_number h) 0 ≡ number_of (definition h.name hs)) hs extension_owner)
+
+  told_firsts : (xs : List Heading) → All (Told text words) xs → All (Told text words) (firsts same_named [] xs)
+  told_firsts xs a = all_firsts (Told text words) same_named [] xs a
+
+  told_types : All (Told text words) (defined_types hs)
+  unfolding defined_types
+  told_types = told_firsts (filter is_type_definition hs) (told_kept text words is_type_definition hs all_told)
+
+  told_orphans : All (Told text words) (firsts same_named [] (orphans hs))
+  unfolding orphans
+  told_orphans = told_firsts (filter (is_orphan hs) hs) (told_kept text words (is_orphan hs) hs all_told)
 
   -- All cards of an array that are numbers of headings are stored.
-  stored_of_lem : (hs : List Heading) → All (Told text words) hs → (cards : List ℕ) (n : ℕ) → take n cards ≡ map heading_number hs → n ≤ length cards →
-      (k : ℕ) → k < n → get_or cards k 0 < cards_used_of words
+  stored_of_lem : (xs : List Heading) → All (Told text words) xs → (cards : List ℕ) → cards ≡ map heading_number xs →
+      (k : ℕ) → k < length cards → get_or cards k 0 < cards_used_of words
   unfolding heading_number
-  stored_of_lem hs a cards n e l k h =
-      let below : All (λ c. c < cards_used_of words) (take n cards) =
-      rw e (all_picture heading_number (λ c. c < cards_used_of words) hs (all_to (Told text words) (λ g. heading_number g < cards_used_of words) (λ g t. t.0) hs a)) in
-      rw (get_or-take n cards k 0) at (all_at (λ c. c < cards_used_of words) (take n cards) below k (omega (arith, length-take-le n cards l)))
+  stored_of_lem xs a cards e =
+      all_at (λ c. c < cards_used_of words) cards
+      (rw e (all_picture heading_number (λ c. c < cards_used_of words) xs (all_to (Told text words) (λ g. heading_number g < cards_used_of words) (λ g t. t.0) xs a)))
 
-  count_of : (hs : List Heading) (cards : List ℕ) (n : ℕ) → take n cards ≡ map heading_number hs → n ≤ length cards → length hs ≡ n
-  count_of hs cards n e l = sym (length-map hs heading_number) ∙ ap length (sym e) ∙ length-take-le n cards l
-
-  module _ (hashes owners type_cards orphan_cards extension_cards : List ℕ) (p : Hashed text words hashes) (r : Counts)
-      (w : OwnersAre text words (take m headings) owners type_cards orphan_cards extension_cards r)
-      (owners_length : cards_used_of words ≤ length owners) (types_length : cards_used_of words ≤ length type_cards)
-      (orphans_length : cards_used_of words ≤ length orphan_cards)
-      (extensions_length : cards_used_of words ≤ length extension_cards) where
-    hs : List Heading
-    hs = stored_headings text words
-
-    all_told : All (Told text words) hs
-    unfolding hs
-    all_told = told text words
-
-    r_headings : r.headings ≡ m
-    r_headings = w.headings_are ∙ taken_length
-
-    t_most : r.types ≤ m
-    t_most = omega (arith, w.types_most, taken_length)
-
-    e_most : r.extensions ≤ m
-    e_most = omega (arith, w.extensions_most, taken_length)
-
-    types_are : take r.types type_cards ≡ map heading_number (defined_types hs)
-    unfolding hs
-    types_are = w.types_are ∙ ap (λ (l : List ℕ). firsts (same_cards text words) [] (filter (is_type_card words) l)) taken ∙ types_told text words hs all_told
-
-    extensions_are : take r.extensions extension_cards ≡ map heading_number (filter is_type_extension hs)
-    unfolding hs
-    extensions_are = w.extensions_are ∙ ap (filter (is_extension_card words)) taken ∙ kept_extensions text words hs all_told
-
-    at_heading : (k : ℕ) (h : Heading) → get_elem? hs k ≡ some h → (k < length (take m headings)) × (get_or (take m headings) k 0 ≡ heading_number h)
-    unfolding hs
-    at_heading k h e = (
-      omega (arith, taken_length, is.headings_count text, get_inside hs k h e),
-      ap (λ (l : List ℕ). get_or l k 0) taken ∙ get_d_picture heading_number hs k h e,
-    )
-
-    first_definition : (c : ℕ) → first_card (same_cards text words) c (filter (is_type_card words) (take m headings)) ≡
-        first_card (same_cards text words) c (filter (is_type_card words) (map heading_number hs))
-    unfolding hs
-    first_definition c = ap (λ (l : List ℕ). first_card (same_cards text words) c (filter (is_type_card words) l)) taken
-
-    -- The owner of a heading's card, where it is the first definition of the card's name.
-    owner_at_lem : (k : ℕ) (h : Heading) → get_elem? hs k ≡ some h →
-        get_or owners (get_or (take m headings) k 0) 0
-        ≡ first_card (same_cards text words) (get_or (take m headings) k 0) (filter (is_type_card words) (take m headings)) →
-        get_or owners (heading_number h) 0 ≡ number_of (definition h.name hs)
-    owner_at_lem k h e o =
-        let is = (at_heading k h e).1 in
-        ap (λ (c : ℕ). get_or owners c 0) (sym is)
-        ∙ o
-        ∙ ap (λ (c : ℕ). first_card (same_cards text words) c (filter (is_type_card words) (take m headings))) is
-        ∙ first_definition (heading_number h)
-        ∙ owner_told text words hs all_told h (all_get (Told text words) hs all_told k h e)
-
-    definition_owner : (k : ℕ) (h : Heading) → get_elem? hs k ≡ some h → is_type_definition h ≡ true →
-        get_or owners (heading_number h) 0 ≡ number_of (definition h.name hs)
-    definition_owner k h e y =
-        let a = at_heading k h e in
-        let t = all_get (Told text words) hs all_told k h e in
-        owner_at_lem k h e (w.type_owners k a.0 (ap (is_type_card words) a.1 ∙ type_told text words h t ∙ y))
-
-    extension_owner : (k : ℕ) (h : Heading) → get_elem? hs k ≡ some h → is_type_extension h ≡ true →
-        get_or owners (heading_number h) 0 ≡ number_of (definition h.name hs)
-    extension_owner k h e y =
-        let a = at_heading k h e in
-        let t = all_get (Told text words) hs all_told k h e in
-        owner_at_lem k h e (w.extension_owners k a.0 (ap (is_extension_card words) a.1 ∙ extension_told text words h t ∙ y))
-
-    owners_are : (k : ℕ) (h : Heading) → get_elem? hs k ≡ some h → is_typed h ≡ true → get_or owners h.number 0 ≡ number_of (definition h.name hs)
-    unfolding is_typed heading_number
-    owners_are k h e y = go (is_type_definition h) (is_type_extension h) refl refl y
-      where
-        go : (a b : Bool) → is_type_definition h ≡ a → is_type_extension h ≡ b → (a || b) ≡ true → get_or owners h.number 0 ≡ number_of (definition h.name hs)
-        go true b d x z = definition_owner k h e d
-        go false true d x z = extension_owner k h e x
-        go false false d x z = never (sym z)
-
-    orphans_are : take r.orphans orphan_cards ≡ map heading_number (firsts same_named [] (orphans hs))
-    unfolding hs
-    orphans_are =
-        w.orphans_are
-        ∙ ap (λ (l : List ℕ). firsts (same_cards text words) [] (filter (is_unowned owners) (filter (is_extension_card words) l))) taken
-        ∙ orphans_told text words owners hs all_told few
-        (get_all (λ h. is_type_extension h ≡ true → get_or owners (heading_number h) 0 ≡ number_of (definition h.name hs)) hs extension_owner)
-
-    told_firsts : (xs : List Heading) → All (Told text words) xs → All (Told text words) (firsts same_named [] xs)
-    told_firsts xs a = all_firsts (Told text words) same_named [] xs a
-
-    told_types : All (Told text words) (defined_types hs)
-    unfolding defined_types
-    told_types = told_firsts (filter is_type_definition hs) (told_kept text words is_type_definition hs all_told)
-
-    told_orphans : All (Told text words) (firsts same_named [] (orphans hs))
-    unfolding orphans
-    told_orphans = told_firsts (filter (is_orphan hs) hs) (told_kept text words (is_orphan hs) hs all_told)
-
-    pub indexed : Indexed text words headings hashes owners type_cards orphan_cards extension_cards r.headings r.types r.orphans r.extensions
-    unfolding hs
-    indexed = rw r_headings (record {
-      headings_are = is.headings_are text;
-      hashed = p;
-      owners_are = owners_are;
-      types_are = types_are;
-      orphans_are = orphans_are;
-      extensions_are = extensions_are;
-      headings_count = is.headings_count text;
-      types_count = count_of (defined_types hs) type_cards r.types types_are (omega (arith, t_most, is.headings_most));
-      orphans_count = count_of (firsts same_named [] (orphans hs)) orphan_cards r.orphans orphans_are
-          (omega (arith, w.orphans_most, e_most, is.headings_most));
-      extensions_count = count_of (filter is_type_extension hs) extension_cards r.extensions extensions_are (omega (arith, e_most, is.headings_most));
-      headings_most = is.headings_most;
-      types_most = t_most;
-      orphans_most = w.orphans_most;
-      extensions_most = e_most;
-      headings_length = capacity;
-      owners_length = owners_length;
-      types_length = types_length;
-      orphans_length = orphans_length;
-      extensions_length = extensions_length;
-      headings_stored = stored_of_lem hs all_told headings m taken (omega (arith, is.headings_most));
-      types_stored = stored_of_lem (defined_types hs) told_types type_cards r.types types_are (omega (arith, t_most, is.headings_most));
-      orphans_stored =
-          stored_of_lem (firsts same_named [] (orphans hs)) told_orphans orphan_cards r.orphans orphans_are
-          (omega (arith, w.orphans_most, e_most, is.headings_most));
-      extensions_stored =
-          stored_of_lem (filter is_type_extension hs) (told_kept text words is_type_extension hs all_told) extension_cards r.extensions extensions_are
-          (omega (arith, e_most, is.headings_most));
-    })
-
--- ---- All steps: the arrays as they were lent, and what each step left of them.
-
-module _ (text words headings₀ hashes₀ owners₀ types₀ orphans₀ extensions₀ starts₀ ends₀ buckets₀ : List ℕ)
-    (a : IndexAsked text words headings₀ hashes₀ owners₀ types₀ orphans₀ extensions₀ starts₀ ends₀ buckets₀) where
-  pub headings_ready : HeadingsAsked words headings₀
-  headings_ready = record {
-    cards_most = cards_fit_lem text words a.store_sound;
-    headings_capacity = a.headings_length;
-    headed = heading_first text words a.store_sound;
+  pub indexed : Listed text words headings owners types orphan_cards extensions
+  unfolding hs
+  indexed = record {
+    headings_are = headings_are;
+    types_are = types_are;
+    orphans_are = orphans_are;
+    extensions_are = extensions_are;
+    owners_are = owners_are;
+    owners_length = owners_length;
+    headings_most = is.headings_most;
+    types_most = w.types_most;
+    orphans_most = w.orphans_most;
+    extensions_most = w.extensions_most;
+    headings_stored = stored_of_lem hs all_told headings headings_are;
+    types_stored = stored_of_lem (defined_types hs) told_types types types_are;
+    orphans_stored = stored_of_lem (firsts same_named [] (orphans hs)) told_orphans orphan_cards orphans_are;
+    extensions_stored =
+        stored_of_lem (filter is_type_extension hs) (told_kept text words is_type_extension hs all_told) extensions extensions_are;
   }
-
-  module _ (headings : List ℕ) (m : ℕ) (is : HeadingsAre words headings m) (headings-kept : length headings ≡ length headings₀) where
-    pub headings_fit : m ≤ length headings
-    headings_fit = omega (arith, a.headings_length, is.headings_most)
-
-    capacity : cards_used_of words < length headings
-    capacity = omega (arith, a.headings_length)
-
-    few : cards_used_of words ≤ card_capacity
-    few = cards_fit_lem text words a.store_sound
-
-    module _ (hashes : List ℕ) (p : Hashed text words hashes) where
-      pub owners_ready : OwnersAsked text words hashes (take m headings) owners₀ types₀ orphans₀ extensions₀ starts₀
-      owners_ready = record {
-        all_cards = cards_ready text words headings m capacity few is hashes p;
-        owners_capacity = a.owners_length;
-        types_capacity = a.types_length;
-        orphans_capacity = a.orphans_length;
-        extensions_capacity = a.extensions_length;
-        scratch_capacity = a.starts_length;
-      }
-
-      module _ (owners defined_types orphans extensions : List ℕ) (r : Counts)
-          (w : OwnersAre text words (take m headings) owners defined_types orphans extensions r)
-          (owners_kept : length owners ≡ length owners₀) (types-kept : length defined_types ≡ length types₀) (orphans-kept : length orphans ≡ length orphans₀)
-          (extensions_kept : length extensions ≡ length extensions₀) where
-        pub all_indexed : Indexed text words headings hashes owners defined_types orphans extensions r.headings r.types r.orphans r.extensions
-        all_indexed =
-            indexed text words headings m capacity few is hashes owners defined_types orphans extensions p r w (omega (arith, a.owners_length))
-            (omega (arith, a.types_length)) (omega (arith, a.orphans_length)) (omega (arith, a.extensions_length))
-
-        pub extensions_fit : r.extensions ≤ length extensions
-        extensions_fit = omega (arith, all_indexed.extensions_most, all_indexed.headings_most, all_indexed.extensions_length)
-
-        pub spans_asked : SpansAsked owners (take r.extensions extensions)
-        spans_asked =
-            spans_ready text words headings hashes owners defined_types orphans extensions r.headings r.types r.orphans r.extensions all_indexed

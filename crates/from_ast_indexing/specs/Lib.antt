@@ -1,6 +1,5 @@
--- What each step of filling the arrays asks and does.
+-- What filling the arrays asks, and what each step does.
 pub mod Steps
 pub mod Entering
 pub mod Types
 pub mod Extensions
-pub mod Spans

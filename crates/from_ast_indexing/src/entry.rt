@@ -1,73 +1,119 @@
-// `Entry` of the hash maps in from_ast.rs: the search for a card's name among cards, and the card that is added where none has it.
-ghost use Rattle.std.specs.Prelude.{◌≡◌, ◌%◌, ◌≤◌, ◌<◌, length, get_or};
+// `Entry` of the hash maps in from_ast.rs: the first card of each name, and the card that is added where none has its name.
+ghost use Rattle.std.specs.Prelude.{◌≡◌, ◌%◌, ◌≤◌, ◌<◌, ◌+◌, length, get_or};
 ghost use Rattle.definition.specs.Lists.{find};
-ghost use Rattle.from_ast_index.specs.Index.{same_cards};
 ghost use Rattle.definition.specs.Store.{cards_used_of};
-ghost use Rattle.from_ast_indexing.specs.Entering.{entry_of, Searched, Entering, Entered};
+ghost use Rattle.from_ast_index.specs.Index.{same_cards};
+ghost use Rattle.from_ast_indexing.specs.Entering.{entry_of, first_entered, entered_in, cards_of, FirstsAre};
 
 use from_ast_index::Collection;
 
-// The first card of a name, and how many names there are now.
-#[derive(Clone, Copy)]
-pub struct First {
-    pub card: u32,
-    pub count: usize,
+// The first card of each name: those before `len`, each with its name's hash beside it. A word of `buckets` is the place of the first one whose
+// hash falls on it; where none does, any word will do, and a large one spares the search.
+// Stays: the rule of no heap has the list grow in lent slices; the hashes stand in a row, for that a search reads them alone.
+#[derive(Drop)]
+pub struct FirstCards<'a, 's> {
+    pub cards: &'a mut [u32],
+    pub hashes: &'s mut [u32],
+    pub buckets: &'s mut [u32],
+    pub len: usize,
 }
 
-// The first of the cards that has the name of a stored card; beside the cards stand their hashes.
-pub fn find(collection: &Collection, cards: &[u32], hashes: &[u32], card: u32) -> Option<u32>
-    requires stored { card < cards_used_of collection.now.words.now }
-    requires searched { Searched collection.now.text.now collection.now.words.now cards.now hashes.now card
-        (get_or collection.now.hashes.now card 0) }
-    ensures { result
-        ≡ entry_of (find (same_cards collection.now.text.now collection.now.words.now card) cards.now) }
-{
-    let hash = collection.hashes[card as usize];
-    for (i, other) in cards.iter().enumerate() {
-        if hashes[i] != hash {
-            continue;
-        }
-        if name::same(collection.name(card), collection.name(*other)) {
-            return Some(*other);
+impl<'a, 's> FirstCards<'a, 's> {
+    // None yet.
+    pub fn new(
+        cards: &'a mut [u32],
+        hashes: &'s mut [u32],
+        buckets: &'s mut [u32],
+    ) -> FirstCards<'a, 's>
+        ensures cards { result.cards ≡ cards.entry }
+        ensures hashes { result.hashes ≡ hashes.entry }
+        ensures buckets { result.buckets ≡ buckets.entry }
+        ensures len { result.len ≡ 0 }
+    {
+        FirstCards {
+            cards,
+            hashes,
+            buckets,
+            len: 0,
         }
     }
-    None
-}
 
-// Adds a stored card to the first `count` cards where none of them has its name. None before `from` has its hash.
-pub fn enter(
-    collection: &Collection,
-    card: u32,
-    cards: &mut [u32],
-    hashes: &mut [u32],
-    from: usize,
-    count: usize,
-) -> First
-    requires stored { card < cards_used_of collection.now.words.now }
-    requires entering { Entering collection.now.text.now collection.now.words.now cards.old hashes.old from count card
-        (get_or collection.now.hashes.now card 0) }
-    ensures { Entered collection.now.text.now collection.now.words.now card count result cards.old cards.new
-        hashes.new }
-{
-    match find(collection, &cards[from..count], &hashes[from..count], card) {
-        Some(first) => First { card: first, count },
-        None => {
-            cards[count] = card;
-            hashes[count] = collection.hashes[card as usize];
-            First {
-                card,
-                count: count + 1,
+    // The word of `buckets` that a hash falls on.
+    fn slot(&self, hash: u32) -> usize
+        requires { 0 < length self.now.buckets.now }
+        ensures { result ≡ hash % length self.now.buckets.now }
+    {
+        hash as usize % self.buckets.len()
+    }
+
+    // Where the search for a hash begins that falls there: none before has it.
+    fn hint(&self, slot: usize) -> usize
+        requires { slot < length self.now.buckets.now }
+        ensures { (result ≤ self.now.len)
+            × (result ≤ get_or self.now.buckets.now slot 0) }
+    {
+        (self.buckets[slot] as usize).min(self.len)
+    }
+
+    // The one that has the name of a stored card, where none before `from` has its hash.
+    #[tactic(auto, using(crate::proofs::EntrySearch::search_end))]
+    fn find_from(&self, collection: &Collection, card: u32, from: usize) -> Option<u32>
+        requires stored { card < cards_used_of collection.now.words.now }
+        requires firsts { FirstsAre collection.now.text.now collection.now.words.now self.now }
+        requires most { from ≤ self.now.len }
+        requires passed { from
+            ≤ get_or self.now.buckets.now (get_or collection.now.hashes.now card 0
+            % length self.now.buckets.now) 0 }
+        ensures { result
+            ≡ entry_of (find (same_cards collection.now.text.now collection.now.words.now card) (cards_of self.now)) }
+    {
+        let hash = collection.hashes[card as usize];
+        let cards = &self.cards[from..self.len];
+        let hashes = &self.hashes[from..self.len];
+        for (i, other) in cards.iter().enumerate() {
+            if hashes[i] == hash && name::same(collection.name(card), collection.name(*other)) {
+                return Some(*other);
+            }
+        }
+        None
+    }
+
+    // The one that has the name of a stored card.
+    pub fn find(&self, collection: &Collection, card: u32) -> Option<u32>
+        requires stored { card < cards_used_of collection.now.words.now }
+        requires firsts { FirstsAre collection.now.text.now collection.now.words.now self.now }
+        ensures { result
+            ≡ entry_of (find (same_cards collection.now.text.now collection.now.words.now card) (cards_of self.now)) }
+    {
+        let slot = self.slot(collection.hashes[card as usize]);
+        self.find_from(collection, card, self.hint(slot))
+    }
+
+    // Adds a stored card where none has its name, and tells the first one of its name.
+    #[tactic(auto, using(crate::proofs::EntrySearch::first_kept, crate::proofs::EntrySearch::cards_kept, crate::proofs::EntrySearch::first_new, crate::proofs::EntrySearch::cards_new))]
+    pub fn enter(&mut self, collection: &Collection, card: u32) -> u32
+        requires stored { card < cards_used_of collection.now.words.now }
+        requires firsts { FirstsAre collection.now.text.now collection.now.words.now self.old }
+        requires room { self.old.len < cards_used_of collection.now.words.now }
+        ensures first { result
+            ≡ first_entered (same_cards collection.now.text.now collection.now.words.now) card (cards_of self.old) }
+        ensures cards { cards_of self.new
+            ≡ entered_in (same_cards collection.now.text.now collection.now.words.now) card (cards_of self.old) }
+        ensures firsts { FirstsAre collection.now.text.now collection.now.words.now self.new }
+        ensures len { self.new.len ≤ self.old.len + 1 }
+    {
+        let hash = collection.hashes[card as usize];
+        let slot = self.slot(hash);
+        let from = self.hint(slot);
+        match self.find_from(collection, card, from) {
+            Some(first) => first,
+            None => {
+                self.buckets[slot] = from as u32;
+                self.cards[self.len] = card;
+                self.hashes[self.len] = hash;
+                self.len += 1;
+                card
             }
         }
     }
-}
-
-// Where the search for a hash among the first `count` types begins: none before has it. A word of `buckets` is the place of the first
-// type whose hash falls on it; where none does, any word will do, and a large one spares the search.
-pub fn hint(buckets: &[u32], hash: u32, count: usize) -> usize
-    requires { 0 < length buckets.now }
-    ensures { (result ≤ count)
-        × (result ≤ get_or buckets.now (hash % length buckets.now) 0) }
-{
-    (buckets[hash as usize % buckets.len()] as usize).min(count)
 }

@@ -1,119 +1,112 @@
 // The type extensions of a store, their owners, and the first orphan of each name.
-ghost use Rattle.std.specs.Prelude.{length};
-ghost use Rattle.from_ast_indexing.specs.Entering.{Hinted};
+ghost use Rattle.std.specs.Prelude.{◌≡◌, ◌≤◌, ◌<◌, length, get_or, ℕ};
+ghost use Rattle.definition.specs.Store.{cards_used_of};
+ghost use Rattle.from_ast_index.specs.Index.{Cards};
+ghost use Rattle.from_ast_indexing.specs.Entering.{cards_of, FirstsAre};
 ghost use Rattle.from_ast_indexing.specs.Extensions.{
-  ExtensionAsked,
   ExtensionTurn,
-  ExtensionsAsked,
   ExtensionsAre,
-  OrphanAsked,
   OrphanTurn,
-  OrphansAsked,
   OrphansAre,
 };
 
-use crate::entry;
+use crate::entry::FirstCards;
 use ast::kinds;
 use definition::ABSENT;
 use from_ast_index::Collection;
+use word_list::WordList;
 
 // One heading: an extension is listed, and the first definition of its name owns it.
 fn index_extension(
     collection: &Collection,
-    types: &[u32],
-    type_hashes: &[u32],
-    buckets: &[u32],
+    types: &FirstCards,
     card: u32,
     owners: &mut [u32],
-    extensions: &mut [u32],
-    count: usize,
-) -> usize
-    requires asked { ExtensionAsked collection.now.text.now collection.now.words.now collection.now.hashes.now types.now
-        type_hashes.now owners.old extensions.old card count }
-    requires hinted { Hinted type_hashes.now buckets.now }
-    ensures { ExtensionTurn collection.now.text.now collection.now.words.now types.now card count result owners.old
-        owners.new extensions.old extensions.new }
+    extensions: &mut WordList,
+)
+    requires stored { card < cards_used_of collection.now.words.now }
+    requires firsts { FirstsAre collection.now.text.now collection.now.words.now types.now }
+    requires owners { cards_used_of collection.now.words.now ≤ length owners.old }
+    requires room { extensions.old.len < length extensions.old.words.now }
+    ensures turn { ExtensionTurn collection.now.text.now collection.now.words.now (cards_of types.now) card
+        owners.old owners.new extensions.old extensions.new }
+    ensures room { length extensions.new.words.now ≡ length extensions.old.words.now }
 {
-    let at = card as usize;
     if !kinds::is_type_extension(collection.kind(card)) {
-        return count;
+        return;
     }
-    extensions[count] = card;
-    let from = entry::hint(buckets, collection.hashes[at], type_hashes.len());
-    owners[at] = entry::find(collection, &types[from..], &type_hashes[from..], card).unwrap_or(
-        ABSENT,
-    );
-    count + 1
+    extensions.push(card);
+    owners[card as usize] = types.find(collection, card).unwrap_or(ABSENT);
 }
 
 // All type extensions, and for each the first definition of its name: every definition is known here.
-pub fn index_extensions(
+#[tactic(auto, using(crate::proofs::ExtensionsTurns::extensions_none))]
+pub fn index_extensions<'a>(
     collection: &Collection,
     headings: &[u32],
-    types: &[u32],
-    type_hashes: &[u32],
-    buckets: &[u32],
+    types: &FirstCards,
     owners: &mut [u32],
-    extensions: &mut [u32],
-) -> usize
-    requires asked { ExtensionsAsked collection.now.text.now collection.now.words.now collection.now.hashes.now headings.now
-        types.now type_hashes.now owners.old extensions.old }
-    requires hinted { Hinted type_hashes.now buckets.now }
-    ensures { ExtensionsAre collection.now.text.now collection.now.words.now headings.now types.now
-        owners.old owners.new extensions.new (length headings.now) result }
+    extensions: &'a mut [u32],
+) -> &'a [u32]
+    requires headings { Cards collection.now.text.now collection.now.words.now collection.now.hashes.now headings.now }
+    requires firsts { FirstsAre collection.now.text.now collection.now.words.now types.now }
+    requires owners { cards_used_of collection.now.words.now ≤ length owners.old }
+    requires room { cards_used_of collection.now.words.now ≤ length extensions.old }
+    ensures extensions { ExtensionsAre collection.now.text.now collection.now.words.now headings.now (cards_of types.now)
+        owners.old owners.new result.now (length headings.now) }
+    ensures most { length result.now ≤ length headings.now }
 {
-    let mut count = 0;
+    let mut list = WordList {
+        words: extensions,
+        len: 0,
+    };
     for card in headings {
-        count = index_extension(
-            collection,
-            types,
-            type_hashes,
-            buckets,
-            *card,
-            owners,
-            extensions,
-            count,
-        );
+        index_extension(collection, types, *card, owners, &mut list);
     }
-    count
+    list.into_slice()
 }
 
 // One extension: where it has no owner it is an orphan, perhaps the first of its name.
-fn index_orphan(
-    collection: &Collection,
-    owners: &[u32],
-    card: u32,
-    orphans: &mut [u32],
-    orphan_hashes: &mut [u32],
-    count: usize,
-) -> usize
-    requires { OrphanAsked collection.now.text.now collection.now.words.now collection.now.hashes.now owners.now orphans.old
-        orphan_hashes.old card count }
-    ensures { OrphanTurn collection.now.text.now collection.now.words.now owners.now card count result orphans.old
-        orphans.new orphan_hashes.new }
+#[tactic(auto, using(crate::proofs::ExtensionsTurns::orphan_skipped, crate::proofs::ExtensionsTurns::orphan_entered))]
+fn index_orphan(collection: &Collection, owners: &[u32], card: u32, orphans: &mut FirstCards)
+    requires stored { card < cards_used_of collection.now.words.now }
+    requires owners { cards_used_of collection.now.words.now ≤ length owners.now }
+    requires firsts { FirstsAre collection.now.text.now collection.now.words.now orphans.old }
+    requires room { orphans.old.len < cards_used_of collection.now.words.now }
+    ensures turn { OrphanTurn collection.now.text.now collection.now.words.now owners.now card orphans.old orphans.new }
+    ensures firsts { FirstsAre collection.now.text.now collection.now.words.now orphans.new }
 {
     if owners[card as usize] != ABSENT {
-        return count;
+        return;
     }
-    entry::enter(collection, card, orphans, orphan_hashes, 0, count).count
+    orphans.enter(collection, card);
 }
 
 // The first orphan of each name.
-pub fn index_orphans(
+#[tactic(auto, using(crate::proofs::EntrySearch::firsts_none, crate::proofs::ExtensionsTurns::orphans_none, crate::proofs::ExtensionsTurns::orphans_turn))]
+pub fn index_orphans<'a>(
     collection: &Collection,
     owners: &[u32],
     extensions: &[u32],
-    orphans: &mut [u32],
-    orphan_hashes: &mut [u32],
-) -> usize
-    requires { OrphansAsked collection.now.text.now collection.now.words.now collection.now.hashes.now owners.now
-        extensions.now orphans.old orphan_hashes.old }
-    ensures { OrphansAre collection.now.text.now collection.now.words.now owners.now extensions.now
-        orphans.new orphan_hashes.new (length extensions.now) result }
+    orphans: &'a mut [u32],
+    hashes: &mut [u32],
+    buckets: &mut [u32],
+) -> &'a [u32]
+    requires extensions { (j : ℕ) → j < length extensions.now → get_or extensions.now j 0
+        < cards_used_of collection.now.words.now }
+    requires few { length extensions.now ≤ cards_used_of collection.now.words.now }
+    requires owners { cards_used_of collection.now.words.now ≤ length owners.now }
+    requires room { cards_used_of collection.now.words.now ≤ length orphans.old }
+    requires hashes { cards_used_of collection.now.words.now ≤ length hashes.old }
+    requires slots { 0 < length buckets.old }
+    ensures orphans { OrphansAre collection.now.text.now collection.now.words.now owners.now extensions.now
+        result.now (length extensions.now) }
+    ensures most { length result.now ≤ length extensions.now }
 {
-    let mut count = 0;
+    let mut firsts = FirstCards::new(orphans, hashes, buckets);
     for card in extensions {
-        count = index_orphan(collection, owners, *card, orphans, orphan_hashes, count);
+        index_orphan(collection, owners, *card, &mut firsts);
     }
-    count
+    let FirstCards { cards, len, .. } = firsts;
+    &cards[..len]
 }

@@ -1,54 +1,56 @@
 // The arrays that build reads are filled once, from the stored cards.
 #![tactic(auto)]
 
-ghost use Rattle.std.specs.Prelude.{◌≡◌, ◌≤◌, ◌<◌, length, take};
+ghost use Rattle.std.specs.Prelude.{◌≡◌, ◌≤◌, ◌<◌, length, true};
 ghost use Rattle.definition.specs.Refusals.{card_capacity};
-ghost use Rattle.definition.specs.Store.{cards_used_of, words_capacity};
-ghost use Rattle.from_ast_index.specs.Index.{hash_of, Hashed, Indexed, Spanned};
-ghost use Rattle.from_ast_indexing.specs.Steps.{IndexAsked, HeadingsAsked, HeadingsAre, OwnersAsked, OwnersAre};
+ghost use Rattle.definition.specs.Store.{cards_used_of, words_capacity, sound};
+ghost use Rattle.from_ast_index.specs.Index.{Hashed};
+ghost use Rattle.from_ast_indexing.specs.Steps.{HasRoom, HeadingsAre};
 
-use from_ast_index::{Collection, Counts};
+use entry::FirstCards;
+use from_ast_index::{Collection, Index};
+use word_list::WordList;
 
-pub mod entry;
-pub mod extensions;
-pub mod spans;
-pub mod types;
+mod entry;
+mod extensions;
+mod spans;
+mod types;
 
-// What the hash so far is multiplied by before the next byte is added, and how many numbers a word has.
-const HASH_FACTOR: u64 = 16777619;
-
-const HASH_RANGE: u64 = 4294967296;
-
-// A number made of a name's bytes: where two differ, so do the names.
-pub fn hash_of(name: &[u8]) -> u32
-    ensures { result ≡ hash_of name.now }
-{
-    let mut hash: u64 = 0;
-    for byte in name {
-        hash = (hash * HASH_FACTOR + *byte as u64) % HASH_RANGE;
-    }
-    hash as u32
+// The arrays that an index is made of, lent for as long as it is read.
+#[derive(Drop)]
+pub struct Arrays<'a> {
+    pub headings: &'a mut [u32],
+    pub hashes: &'a mut [u32],
+    pub owners: &'a mut [u32],
+    pub types: &'a mut [u32],
+    pub orphans: &'a mut [u32],
+    pub extensions: &'a mut [u32],
+    pub starts: &'a mut [u32],
+    pub ends: &'a mut [u32],
 }
 
-// The cards of the headings in order, then the number of cards.
-pub fn index_headings(words: &[u32], headings: &mut [u32]) -> usize
-    requires { HeadingsAsked words.now headings.old }
-    ensures { HeadingsAre words.now headings.new result }
+// The cards of the headings, in order.
+#[tactic(auto, using(crate::proofs::Headings::headings_part, crate::proofs::Headings::headings_turn, crate::proofs::Headings::headings_done))]
+fn index_headings<'a>(words: &[u32], headings: &'a mut [u32]) -> &'a [u32]
+    requires few { cards_used_of words.now ≤ card_capacity }
+    requires room { cards_used_of words.now ≤ length headings.old }
+    ensures { HeadingsAre words.now result.now }
 {
-    let used = store_reader::cards_used(words);
-    let mut count = 0;
-    for card in 0..used {
+    let mut list = WordList {
+        words: headings,
+        len: 0,
+    };
+    for card in 0..store_reader::cards_used(words) {
         if store_reader::is_part(store_reader::card_kind(words, card)) {
             continue;
         }
-        headings[count] = card as u32;
-        count += 1;
+        list.push(card as u32);
     }
-    headings[count] = used as u32;
-    count
+    list.into_slice()
 }
 
 // The hash of each card's name.
+#[tactic(auto, using(crate::proofs::HashLaws::hash_turned, crate::proofs::HashLaws::hashes_made))]
 pub fn hash_names(text: &[u8], words: &[u32], hashes: &mut [u32])
     requires { (words_capacity ≤ length words.now)
         × (cards_used_of words.now ≤ card_capacity)
@@ -56,93 +58,65 @@ pub fn hash_names(text: &[u8], words: &[u32], hashes: &mut [u32])
     ensures { Hashed text.now words.now hashes.new }
 {
     for i in 0..store_reader::cards_used(words) {
-        hashes[i] = hash_of(store_reader::card_name(text, words, i));
+        hashes[i] = name::hash_of(store_reader::card_name(text, words, i));
     }
 }
 
-// Types, extensions, orphans and owners, from the headings' cards. The scratch holds the hashes of the types, then those of the orphans.
-fn index_owners(
-    collection: &Collection,
-    headings: &[u32],
-    owners: &mut [u32],
-    types: &mut [u32],
-    orphans: &mut [u32],
-    extensions: &mut [u32],
+// Fills all arrays, each of which has a word for each card; what `buckets` holds then means nothing. Large words in `buckets` make it fast. Until
+// the starts are noted, their array holds hashes.
+#[tactic(auto, using(store_reader::proofs::Laws::cards_fit_lem, crate::proofs::Headings::cards_ready))]
+pub fn index<'a>(
+    text: &'a [u8],
+    words: &'a [u32],
+    arrays: Arrays<'a>,
     buckets: &mut [u32],
-    scratch: &mut [u32],
-) -> Counts
-    requires asked { OwnersAsked collection.now.text.now collection.now.words.now collection.now.hashes.now headings.now
-        owners.old types.old orphans.old extensions.old scratch.old }
+) -> Index<'a>
+    requires sound { sound text.now words.now ≡ true }
+    requires words { words_capacity ≤ length words.now }
+    requires room { HasRoom (cards_used_of words.now) arrays }
     requires slots { 0 < length buckets.old }
-    ensures { OwnersAre collection.now.text.now collection.now.words.now headings.now owners.new
-        types.new orphans.new extensions.new result }
+    ensures text { result.collection.text.now ≡ text.now }
+    ensures words { result.collection.words.now ≡ words.now }
 {
-    let type_count = types::index_types(collection, headings, owners, types, scratch, buckets);
-    let extension_count = extensions::index_extensions(
-        collection,
-        headings,
-        &types[..type_count],
-        &scratch[..type_count],
-        buckets,
-        owners,
-        extensions,
-    );
-    let orphan_count = extensions::index_orphans(
-        collection,
-        owners,
-        &extensions[..extension_count],
-        orphans,
-        scratch,
-    );
-    Counts {
-        headings: headings.len(),
-        types: type_count,
-        orphans: orphan_count,
-        extensions: extension_count,
-    }
-}
-
-// Fills all arrays; what `buckets` holds then means nothing. Large words in `buckets` make it fast. Until the starts are noted, their array holds
-// hashes.
-pub fn index(
-    text: &[u8],
-    words: &[u32],
-    headings: &mut [u32],
-    hashes: &mut [u32],
-    owners: &mut [u32],
-    types: &mut [u32],
-    orphans: &mut [u32],
-    extensions: &mut [u32],
-    starts: &mut [u32],
-    ends: &mut [u32],
-    buckets: &mut [u32],
-) -> Counts
-    requires { IndexAsked text.now words.now headings.old hashes.old owners.old types.old orphans.old
-        extensions.old starts.old ends.old buckets.old }
-    ensures { Indexed text.now words.now headings.new hashes.new
-        owners.new types.new orphans.new extensions.new result.headings result.types
-        result.orphans result.extensions
-        × Spanned words.now owners.new (take result.extensions extensions.new)
-        starts.new ends.new }
-{
-    let count = index_headings(words, headings);
+    let hashes = arrays.hashes;
+    let owners = arrays.owners;
+    let starts = arrays.starts;
+    let ends = arrays.ends;
+    let headings = index_headings(words, arrays.headings);
     hash_names(text, words, hashes);
     let collection = Collection {
         text,
         words,
         hashes,
     };
-    let counts = index_owners(
+    let mut types = FirstCards::new(arrays.types, starts, buckets);
+    types::index_types(&collection, headings, owners, &mut types);
+    let extensions = extensions::index_extensions(
         &collection,
-        &headings[..count],
+        headings,
+        &types,
         owners,
-        types,
+        arrays.extensions,
+    );
+    let FirstCards { cards, len, .. } = types;
+    let orphans = extensions::index_orphans(
+        &collection,
+        owners,
+        extensions,
+        arrays.orphans,
+        starts,
+        buckets,
+    );
+    spans::index_starts(owners, extensions, starts);
+    spans::index_ends(owners, extensions, ends);
+    Index {
+        collection,
+        headings,
+        owners,
+        types: &cards[..len],
         orphans,
         extensions,
-        buckets,
         starts,
-    );
-    spans::index_starts(owners, &extensions[..counts.extensions], starts);
-    spans::index_ends(owners, &extensions[..counts.extensions], ends);
-    counts
+        ends,
+    }
 }

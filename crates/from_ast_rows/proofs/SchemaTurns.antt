@@ -14,7 +14,7 @@ use Rattle.definition.specs.Lists.{choose, any, find, take_until, flat_map}
 use Rattle.definition.specs.Names.{same_name}
 use Rattle.definition.specs.Answers.{absent}
 use Rattle.definition.specs.Cards.{Card, card_words, card_from, is_part, is_root, is_type, definition_of}
-use Rattle.definition.specs.Catalogue.{row, default_name, under_schema}
+use Rattle.definition.specs.Catalogue.{row, default_name}
 use Rattle.definition.specs.Store.{cards_at, cards_used_of, stored_cards}
 use Rattle.definition.proofs.Tests.{and_true}
 use Rattle.definition.proofs.Lists.{first_nil, first_yes, first_no, any_nil, any_yes, any_no}
@@ -28,7 +28,6 @@ use Rattle.component.specs.Pushed.{Filled, Fits, pushed}
 use Rattle.component.specs.RowsByCards.{same_stored, head_rows, is_schema_card, schema_card, schema_extension_at, is_type_kind, is_type_named, first_kind}
 use Rattle.component.specs.RowsByCards.{kind_named_at, has_default, any_default, default_rows, is_root_card, sets_root, is_implicit, schema_list_rows}
 use Rattle.component.specs.RowsByCards.{schema_list_at, schema_lists_at, schema_rows_at}
-use Rattle.component.proofs.Pushing.{Left, rest_begin}
 use Rattle.component.proofs.Sticky.{Growing, grow_fresh}
 
 -- ---- A search among the cards of an array.
@@ -220,13 +219,6 @@ module _ (text words : List ℕ) (adopt : Bool) (ns : List ℕ) (schema : ℕ) (
       schema_list_rows text words adopt ns schema implicit k ≡ default_rows text words adopt ns k ++ flat_map (schema_extension_at text words k) ns
   unfolding schema_list_rows
   schema_default e a i = let t : eqb schema absent ≡ true = eq-eqb schema absent e in rw (t, a, i)
-
--- all lists, one a kind
-pub schema_lists_begin : (text words : List ℕ) (adopt : Bool) (ns : List ℕ) (schema : ℕ) (implicit : Bool) (s : Filled) →
-    Fits s.rows (pushed (schema_lists_at text words adopt ns schema implicit) s) →
-    Left (schema_list_at text words adopt ns schema implicit) (20 ∷ 26 ∷ 27 ∷ 28 ∷ []) s (pushed (schema_lists_at text words adopt ns schema implicit) s)
-unfolding under_schema
-schema_lists_begin text words adopt ns schema implicit s f = rest_begin _ s _ refl f
 
 module _ (text words : List ℕ) (ns : List ℕ) where
   pub implicit_adopting : is_implicit text words true ns ≡ not (any (sets_root words) ns)

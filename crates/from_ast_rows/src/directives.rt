@@ -8,7 +8,6 @@ ghost use Rattle.component.specs.RowsByCards.{names_directive, standing_at, exte
 
 use ast::kinds;
 use component::{Row, Rows};
-use definition::ABSENT;
 use from_ast_index::{Collection, Index};
 
 // Whether a heading is a directive definition with the name of the card.
@@ -22,6 +21,7 @@ fn names_directive(collection: &Collection, card: u32, other: u32) -> bool
 }
 
 // The directive definition that stands for a card's name: a built-in one gives way to the next, and any other stays.
+#[tactic(auto, using(component::proofs::Turns::standing_other, component::proofs::Turns::standing_found, component::proofs::Turns::standing_next, component::proofs::Turns::standing_end), unfolding(component::specs::RowsByCards::standing_at))]
 fn standing_directive(index: &Index, card: u32) -> Option<u32>
     requires { card < cards_used_of index.now.collection.words.now }
     ensures { unwrap_or result absent
@@ -42,6 +42,7 @@ fn standing_directive(index: &Index, card: u32) -> Option<u32>
 }
 
 // Pushes the directive definition that stands for a heading's name, unless it stands already: it has the place of the first.
+#[tactic(auto, using(component::proofs::Turns::no_directive, component::proofs::Turns::directive_row_lem, component::proofs::Turns::extended_nothing))]
 fn directive_definition(index: &Index, start: usize, card: u32, rows: &mut Rows)
     requires stored { card < cards_used_of index.now.collection.words.now }
     requires room { HasRoom rows.old
@@ -55,8 +56,8 @@ fn directive_definition(index: &Index, start: usize, card: u32, rows: &mut Rows)
     }
     let row = Row {
         what: kinds::DIRECTIVE_DEFINITION,
-        card: standing_directive(index, card).unwrap_or(ABSENT),
-        origin: ABSENT,
+        card: standing_directive(index, card),
+        origin: None,
     };
     rows.extend_sticky(&index.collection, start, row);
 }

@@ -1,4 +1,5 @@
 // The catalogue's rows: what schema/from_ast.rs collects.
+// Stays: that a card is a stored one is asked of each function that reads its name: numbers are words of arrays, and a struct for a number would be made, and its fact proved, at the same calls.
 #![tactic(auto)]
 
 ghost use Rattle.std.specs.Prelude.{◌≡◌, ◌*◌, ◌≤◌, length};
@@ -8,7 +9,8 @@ ghost use Rattle.definition.specs.Outcomes.{words_of_row};
 ghost use Rattle.store_reader.specs.Stored.{stored_headings};
 
 use component::Rows;
-use from_ast_index::{Index, WordList};
+use from_ast_index::Index;
+use word_list::WordList;
 
 mod directives;
 mod extensions;

@@ -25,7 +25,6 @@ ghost use Rattle.component.specs.RowsByCards.{
 
 use ast::kinds;
 use component::{Row, Rows};
-use definition::ABSENT;
 use from_ast_index::{Collection, Index};
 
 // The kinds of the schema's lists in their order: its directive uses, then the roots, each in a list of at most one.
@@ -47,6 +46,7 @@ struct Schema<'a> {
 }
 
 // The card of the schema definition, which is the first one.
+#[tactic(auto, using(crate::proofs::SchemaTurns::first_hit, crate::proofs::SchemaTurns::first_miss, crate::proofs::SchemaTurns::first_end, crate::proofs::SchemaTurns::schema_is, crate::proofs::SchemaTurns::schema_not), unfolding(component::specs::RowsByCards::schema_card))]
 fn schema_definition(index: &Index) -> Option<u32>
     ensures first { unwrap_or result absent
         ≡ schema_card index.now.collection.words.now index.now.headings.now }
@@ -61,6 +61,7 @@ fn schema_definition(index: &Index) -> Option<u32>
 }
 
 // Whether a kind is that of a type extension or, where none are sought, of a type definition.
+#[tactic(auto, using(crate::proofs::SchemaTurns::extension_kind_lem))]
 fn is_type_kind(kind: u32, extending: bool) -> bool
     ensures { result ≡ is_type_kind extending kind }
 {
@@ -72,6 +73,7 @@ fn is_type_kind(kind: u32, extending: bool) -> bool
 }
 
 // The kind of the first heading of a name that extends a type or, where no extension is sought, defines one.
+#[tactic(auto, using(crate::proofs::SchemaTurns::first_hit, crate::proofs::SchemaTurns::first_miss, crate::proofs::SchemaTurns::first_end, crate::proofs::SchemaTurns::named_other, crate::proofs::SchemaTurns::named_is, crate::proofs::SchemaTurns::kind_some), unfolding(component::specs::RowsByCards::first_kind))]
 fn first_kind(index: &Index, extending: bool, name: &[u8]) -> Option<u32>
     ensures first { unwrap_or result 0
         ≡ first_kind index.now.collection.text.now index.now.collection.words.now index.now.headings.now extending
@@ -91,6 +93,7 @@ fn first_kind(index: &Index, extending: bool, name: &[u8]) -> Option<u32>
 }
 
 // The kind of the type of a name: that of its definition, else, adopting, the one that its first extension extends.
+#[tactic(auto, using(crate::proofs::SchemaTurns::kind_defined, crate::proofs::SchemaTurns::kind_none, crate::proofs::SchemaTurns::kind_adopted), unfolding(definition::specs::Cards::definition_of))]
 fn kind_named(index: &Index, adopt: bool, name: &[u8]) -> Option<u32>
     ensures { unwrap_or result 0
         ≡ kind_named_at index.now.collection.text.now index.now.collection.words.now adopt index.now.headings.now
@@ -107,6 +110,7 @@ fn kind_named(index: &Index, adopt: bool, name: &[u8]) -> Option<u32>
 }
 
 // The name of the type that is a root operation's where none is set.
+#[tactic(auto, using(crate::proofs::SchemaTurns::last_root), unfolding(definition::specs::Catalogue::default_name, definition::specs::Names::bytes))]
 fn default_name(kind: u32) -> &'static [u8]
     requires { is_root kind ≡ true }
     ensures { result.now ≡ default_name kind }
@@ -119,6 +123,7 @@ fn default_name(kind: u32) -> &'static [u8]
 }
 
 // Whether an object type has the default name of a root operation.
+#[tactic(auto, using(crate::proofs::SchemaTurns::default_is, crate::proofs::SchemaTurns::some_six))]
 fn is_default_object(index: &Index, adopt: bool, kind: u32) -> bool
     requires { is_root kind ≡ true }
     ensures { result
@@ -128,6 +133,7 @@ fn is_default_object(index: &Index, adopt: bool, kind: u32) -> bool
 }
 
 // Whether there is a default root.
+#[tactic(auto, using(crate::proofs::SchemaTurns::some_first, crate::proofs::SchemaTurns::some_second, crate::proofs::SchemaTurns::some_third, from_ast_index::proofs::Lists::never), unfolding(definition::specs::Cards::is_root))]
 fn has_implicit_root_operation(index: &Index, adopt: bool) -> bool
     ensures { result
         ≡ any_default index.now.collection.text.now index.now.collection.words.now adopt index.now.headings.now }
@@ -138,6 +144,7 @@ fn has_implicit_root_operation(index: &Index, adopt: bool) -> bool
 }
 
 // Whether a heading is a schema extension that has a root.
+#[tactic(auto, using(crate::proofs::SchemaTurns::root_stop, crate::proofs::SchemaTurns::root_hit, crate::proofs::SchemaTurns::root_miss, crate::proofs::SchemaTurns::root_end, crate::proofs::SchemaTurns::sets_not, crate::proofs::SchemaTurns::sets_is))]
 fn sets_root(collection: &Collection, card: u32) -> bool
     requires { card < cards_used_of collection.now.words.now }
     ensures { result ≡ sets_root collection.now.words.now card }
@@ -158,6 +165,7 @@ fn sets_root(collection: &Collection, card: u32) -> bool
 }
 
 // Whether any schema extension has a root.
+#[tactic(auto, using(crate::proofs::SchemaTurns::any_hit, crate::proofs::SchemaTurns::any_miss, crate::proofs::SchemaTurns::any_end))]
 fn any_root(index: &Index) -> bool
     ensures { result ≡ any (sets_root index.now.collection.words.now) index.now.headings.now }
 {
@@ -170,6 +178,7 @@ fn any_root(index: &Index) -> bool
 }
 
 // Whether default roots belong to a schema that has no definition: adopting, if its extensions set no root, and else if there are any.
+#[tactic(auto, using(crate::proofs::SchemaTurns::implicit_adopting, crate::proofs::SchemaTurns::implicit_unadopting))]
 fn is_implicit(index: &Index, adopt: bool) -> bool
     ensures { result
         ≡ is_implicit index.now.collection.text.now index.now.collection.words.now adopt index.now.headings.now }
@@ -183,6 +192,7 @@ fn is_implicit(index: &Index, adopt: bool) -> bool
 impl<'a> Schema<'a> {
     // Extends a list of the schema by the schema extensions, in filing order.
     // Stays: the types' one walks cards that are all taken, and this one asks each for its kind; each is one loop with one call.
+    #[tactic(auto, using(component::proofs::Loops::extends_first, component::proofs::Loops::extends_last))]
     fn extend_by_extensions(&self, start: usize, kind: u32, rows: &mut Rows)
         requires begun { start ≤ rows.old.used }
         requires room { HasRoom rows.old
@@ -196,11 +206,12 @@ impl<'a> Schema<'a> {
             if self.index.collection.kind(*card) != kinds::SCHEMA_EXTENSION {
                 continue;
             }
-            rows.extend_ast(&self.index.collection, start, kind, *card, *card);
+            rows.extend_ast(&self.index.collection, start, kind, *card, Some(*card));
         }
     }
 
     // Extends the list of a root's kind by the default root, if an object type has its name; a default root has no card and no origin.
+    #[tactic(auto, using(component::proofs::Turns::extended_nothing, crate::proofs::SchemaTurns::no_default, crate::proofs::SchemaTurns::default_unset, crate::proofs::SchemaTurns::default_set))]
     fn add_implicit_root(&self, start: usize, kind: u32, rows: &mut Rows)
         requires { HasRoom rows.old
             (extend_by_default self.now.index.collection.text.now self.now.index.collection.words.now self.now.adopt
@@ -217,8 +228,8 @@ impl<'a> Schema<'a> {
         }
         let row = Row {
             what: kind,
-            card: ABSENT,
-            origin: ABSENT,
+            card: None,
+            origin: None,
         };
         rows.extend_sticky(&self.index.collection, start, row);
     }
@@ -237,7 +248,7 @@ impl<'a> Schema<'a> {
     {
         let start = rows.used;
         if let Some(card) = self.card {
-            rows.extend_ast(&self.index.collection, start, kind, card, ABSENT);
+            rows.extend_ast(&self.index.collection, start, kind, card, None);
             self.extend_by_extensions(start, kind, rows);
             return;
         }
@@ -256,6 +267,7 @@ impl<'a> Schema<'a> {
     }
 
     // Pushes the lists of the schema.
+    #[tactic(auto, using(component::proofs::Loops::pushes_first, component::proofs::Loops::pushes_last), unfolding(definition::specs::Catalogue::under_schema))]
     fn push_lists(&self, rows: &mut Rows)
         requires { HasRoom rows.old
             (pushed
@@ -289,8 +301,8 @@ pub fn push_schema(index: &Index, adopt: bool, rows: &mut Rows)
     };
     rows.push(Row {
         what: kinds::SCHEMA_DEFINITION,
-        card: schema.card.unwrap_or(ABSENT),
-        origin: ABSENT,
+        card: schema.card,
+        origin: None,
     });
     schema.push_lists(rows);
 }

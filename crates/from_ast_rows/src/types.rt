@@ -18,8 +18,8 @@ ghost use Rattle.component.specs.RowsByCards.{
 use crate::extensions::list_matching;
 use ast::kinds;
 use component::{Row, Rows};
-use definition::ABSENT;
-use from_ast_index::{Collection, Index, WordList};
+use from_ast_index::{Collection, Index};
+use word_list::WordList;
 
 // The kinds of a type's lists in their order; those of kinds that a type lacks are empty.
 const LISTS: [u32; 6] = [
@@ -31,38 +31,34 @@ const LISTS: [u32; 6] = [
     kinds::INPUT_VALUE_DEFINITION,
 ];
 
-// A type, defined or adopted, with the extensions that it takes in.
+// A type, defined or adopted, with the extensions that it takes in. An adopted type is the first of its extensions.
 #[derive(Clone, Copy)]
 struct Type<'a> {
     collection: Collection<'a>,
     card: u32,
+    adopted: bool,
     extensions: &'a [u32],
     ghost card_stored: { card < cards_used_of collection.words.now },
     ghost extensions_stored: { Stored collection.words.now extensions.now },
+    ghost adopted_is: { adopted ≡ is_type_extension_kind (card_kind collection.words.now card) },
 }
 
 impl<'a> Type<'a> {
-    // An adopted type is the first of its extensions.
-    #[tactic(auto, unfolding(from_ast_index::specs::Index::is_type_extension_kind))]
-    fn is_adopted(&self) -> bool
-        ensures { result ≡ is_type_extension_kind (card_kind self.now.collection.words.now self.now.card) }
-    {
-        kinds::is_type_extension(self.collection.kind(self.card))
-    }
-
     // Pushes the type's row: of a definition its own card, of an adopted type its first extension as card and as origin.
+    #[tactic(auto, using(component::proofs::Turns::type_row))]
     fn push_row(&self, rows: &mut Rows)
         requires { 3 * (rows.old.used + 1) ≤ length rows.old.words.now }
         ensures { Becomes rows.old rows.new (pushed (type_row_at self.now.collection.words.now self.now.card ∷ [])) }
     {
         rows.push(Row {
             what: kinds::definition_of(self.collection.kind(self.card)),
-            card: self.card,
-            origin: if self.is_adopted() { self.card } else { ABSENT },
+            card: Some(self.card),
+            origin: self.adopted.then_some(self.card),
         });
     }
 
     // Extends a list of the type by the extensions that it takes in.
+    #[tactic(auto, using(component::proofs::Loops::extends_first, component::proofs::Loops::extends_last), unfolding(component::specs::RowsByCards::extension_rows))]
     fn extend_by_extensions(&self, start: usize, kind: u32, rows: &mut Rows)
         requires begun { start ≤ rows.old.used }
         requires room { HasRoom rows.old
@@ -72,11 +68,12 @@ impl<'a> Type<'a> {
             self.now.extensions.now start) }
     {
         for card in self.extensions {
-            rows.extend_ast(&self.collection, start, kind, *card, *card);
+            rows.extend_ast(&self.collection, start, kind, *card, Some(*card));
         }
     }
 
     // Pushes one list of the type: of a definition its own parts and then those of its extensions, of an adopted type only these.
+    #[tactic(auto, using(component::proofs::Loops::two_first, component::proofs::Loops::two_second, component::proofs::Turns::list_defined), unfolding(component::specs::RowsByCards::list_at))]
     fn collect_sticky(&self, kind: u32, rows: &mut Rows)
         requires { HasRoom rows.old
             (pushed (list_at self.now.collection.text.now self.now.collection.words.now self.now.extensions.now self.now.card kind)) }
@@ -86,15 +83,16 @@ impl<'a> Type<'a> {
             kind)) }
     {
         let start = rows.used;
-        if self.is_adopted() {
+        if self.adopted {
             self.extend_by_extensions(start, kind, rows);
             return;
         }
-        rows.extend_ast(&self.collection, start, kind, self.card, ABSENT);
+        rows.extend_ast(&self.collection, start, kind, self.card, None);
         self.extend_by_extensions(start, kind, rows);
     }
 
     // Pushes the lists of the type.
+    #[tactic(auto, using(component::proofs::Loops::pushes_first, component::proofs::Loops::pushes_last), unfolding(definition::specs::Catalogue::under_type))]
     fn collect_lists(&self, rows: &mut Rows)
         requires { HasRoom rows.old
             (pushed (lists_at self.now.collection.text.now self.now.collection.words.now self.now.extensions.now self.now.card)) }
@@ -129,6 +127,7 @@ fn push_type(
     let taken = Type {
         collection: *collection,
         card,
+        adopted: kinds::is_type_extension(collection.kind(card)),
         extensions: mine.as_slice(),
     };
     taken.push_row(rows);
@@ -137,6 +136,7 @@ fn push_type(
 
 // Pushes the adopted types, the first orphans of each name. No array tells where their extensions stand, so each walks all.
 // Stays: beside push_defined_types it has one loop with one call; one function with a closure for the extensions would be longer than both.
+#[tactic(auto, using(component::proofs::Loops::pushes_first, component::proofs::Loops::pushes_last))]
 fn push_adopted_types(index: &Index, mine: &mut WordList, rows: &mut Rows)
     requires few { length index.now.extensions.now ≤ length mine.old.words.now }
     requires room { HasRoom rows.old
@@ -154,6 +154,7 @@ fn push_adopted_types(index: &Index, mine: &mut WordList, rows: &mut Rows)
 }
 
 // Pushes the defined types, each with the part of all extensions in which its own stand: a walk over all of them for each type takes long.
+#[tactic(auto, using(component::proofs::Loops::pushes_first, component::proofs::Loops::pushes_last))]
 fn push_defined_types(index: &Index, mine: &mut WordList, rows: &mut Rows)
     requires few { length index.now.extensions.now ≤ length mine.old.words.now }
     requires room { HasRoom rows.old

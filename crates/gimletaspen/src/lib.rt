@@ -1,62 +1,18 @@
 // The public entries for C: a slice is a pointer and a length, an enum's answer a struct of its numbers, handed back by value, so that a refused lookup has
 // nothing that it could write. Where the answer has a C form of its own, the promise is the entry's in crate api.
+// Stays: the parameters are those of C's functions, each slice by itself.
 #![tactic(auto)]
 
 ghost use Rattle.std.specs.Prelude.{◌≡◌, length, MatchOption};
 ghost use Rattle.definition.specs.Answers.{root_kind};
-ghost use Rattle.definition.specs.Numbers.{field_lookup, subtype_lookup};
 ghost use Rattle.definition.specs.Outcomes.{type_field, is_subtype};
 ghost use Rattle.api.specs.Promised.{Opens, Files, Adopts, Ignores, Builds, ChecksRows, Parses, ListsOrigins, ListsExtensions, MapsImplementers};
-ghost use Rattle.gimletaspen.specs.Exported.{root_named, copied_name, FieldNumbers, SubtypeNumbers};
+ghost use Rattle.api.specs.Answered.{FieldNumbers, SubtypeNumbers};
+ghost use Rattle.gimletaspen.specs.Exported.{root_named, copied_name};
 
-use api::answers::{
-    field_card, field_meta, field_number, field_refusal, subtype_number, subtype_refusal,
-};
+use api::answers::{FieldAnswer, SubtypeAnswer};
 use ast::kinds;
-use definition::refusal::Refusal;
-use definition::{Answer, Drawing, FieldFound, FieldLookupError, OperationType};
-
-// The four numbers of `type_field`'s answer: the refusal or 0, what became of the field, which one was found, and the card.
-#[repr(C)]
-#[derive(Clone, Copy)]
-pub struct FieldAnswer {
-    pub refusal: u32,
-    pub number: u32,
-    pub meta: u32,
-    pub card: u32,
-}
-
-// The two numbers of `is_subtype`'s answer: the refusal or 0, and 1 for yes, else 0.
-#[repr(C)]
-#[derive(Clone, Copy)]
-pub struct SubtypeAnswer {
-    pub refusal: u32,
-    pub yes: u32,
-}
-
-impl From<Result<FieldFound, FieldLookupError>> for FieldAnswer {
-    ghost from_gives = { λ found answer. FieldNumbers (field_lookup found) answer };
-
-    fn from(found: Result<FieldFound, FieldLookupError>) -> FieldAnswer {
-        FieldAnswer {
-            refusal: field_refusal(found),
-            number: field_number(found),
-            meta: field_meta(found),
-            card: field_card(found),
-        }
-    }
-}
-
-impl From<Result<bool, Refusal>> for SubtypeAnswer {
-    ghost from_gives = { λ told answer. SubtypeNumbers (subtype_lookup told) answer };
-
-    fn from(told: Result<bool, Refusal>) -> SubtypeAnswer {
-        SubtypeAnswer {
-            refusal: subtype_refusal(told),
-            yes: subtype_number(told),
-        }
-    }
-}
+use definition::{Answer, Drawing, OperationType};
 
 #[unsafe(no_mangle)]
 pub extern "C" fn gimletaspen_open(
@@ -119,18 +75,19 @@ pub extern "C" fn gimletaspen_check_rows(text: &[u8], words: &[u32], rows: &[u32
 }
 
 // Copies a name to the front of the lent bytes where it fits, and hands back its length.
+#[tactic(auto, using(crate::proofs::Named::not_copied))]
 fn copy_name(found: &[u8], name: &mut [u8]) -> usize
     ensures { (result ≡ length found.now)
         × (name.new ≡ copied_name name.old found.now) }
 {
-    if name.len() < found.len() {
-        return found.len();
+    if found.len() <= name.len() {
+        name[..found.len()].copy_from_slice(found);
     }
-    store::copying::copy_text(name, found);
     found.len()
 }
 
 // The root operation of a kind.
+// Stays: the kind is a number that C hands in, told from the root here alone; a TryFrom would have these arms, and an error for the last one.
 fn operation_of(kind: u32) -> Option<OperationType>
     ensures { MatchOption result
         ((kind ≡ 26 → ⊥)

@@ -4,8 +4,12 @@
 ghost use Rattle.std.specs.Prelude.{◌≡◌};
 ghost use Rattle.definition.specs.Names.{is_name_start, is_name_byte, is_name, compare_names, same_name, bytes_at};
 ghost use Rattle.name.specs.Parts.{PartAt};
+ghost use Rattle.name.specs.Hashes.{hash_of};
 
 use std::cmp::Ordering;
+
+// What the hash so far is multiplied by before the next byte is added.
+const HASH_FACTOR: u32 = 16777619;
 
 // A letter or an underscore.
 #[tactic(auto, unfolding(definition::specs::Names::is_name_start))]
@@ -42,6 +46,7 @@ pub fn bytes_at(text: &[u8], at: usize, len: usize) -> &[u8]
     &rest[..len.min(rest.len())]
 }
 
+// Stays: the body is std's `cmp`; the function gives it the definition's word for the order of names.
 // The only place where the order of two names is told: the first byte in which they differ decides, and a shorter beginning is before.
 #[tactic(auto, using(definition::proofs::NamesInOrder::names_by_std))]
 pub fn compare(a: &[u8], b: &[u8]) -> Ordering
@@ -51,6 +56,7 @@ pub fn compare(a: &[u8], b: &[u8]) -> Ordering
 }
 
 // Whether two names are the same.
+// Stays: the body is std's `==`; the function gives it the definition's word for the same name.
 #[tactic(auto, using(crate::proofs::Laws::same_decided))]
 pub fn same(a: &[u8], b: &[u8]) -> bool
     ensures { result ≡ same_name a.now b.now }
@@ -70,4 +76,17 @@ pub fn span_is(text: &[u8], at: usize, len: usize, name: &[u8]) -> bool
     ensures { result ≡ same_name (bytes_at text.now at len) name.now }
 {
     same(bytes_at(text, at, len), name)
+}
+
+// A number made of a name's bytes: where two differ, so do the names, and no byte need be compared.
+pub fn hash_of(name: &[u8]) -> u32
+    ensures { result ≡ hash_of name.now }
+{
+    let mut hash: u32 = 0;
+    for byte in name {
+        hash = hash
+            .wrapping_mul(HASH_FACTOR)
+            .wrapping_add(u32::from(*byte));
+    }
+    hash
 }

@@ -12,7 +12,8 @@ use Rattle.std.proofs.Common.{Option, Ordering, Less, Equal, Greater, nat_cmp, S
 use Rattle.definition.specs.Names.{compare_names, same_name}
 use Rattle.definition.proofs.Lists.{same_name_eq, same_name_refl}
 use Rattle.definition.proofs.NamesInOrder.{names_ordered}
-use Rattle.numbering.specs.Hashes.{hash_of, HashesAre}
+use Rattle.name.specs.Hashes.{hash_of}
+use Rattle.numbering.specs.Hashes.{HashesAre}
 use Rattle.numbering.specs.Numbers.{representative}
 use Rattle.numbering.specs.Table.{most_probes, home_of, Probed, Held}
 use Rattle.numbering.specs.Order.{InOrder, by_hash, by_name, by_card, Placed, CardsSorted}

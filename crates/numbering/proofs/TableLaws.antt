@@ -11,7 +11,7 @@ use lib.Seq.{get_or-set_same, get_or-set_other}
 use borrow.Author.Tests.{eqb-true, eqb-false, ltb-true, ltb-false}
 use Rattle.definition.specs.Names.{same_name}
 use Rattle.definition.proofs.Lists.{same_name_eq, same_name_refl}
-use Rattle.numbering.specs.Hashes.{hash_of}
+use Rattle.name.specs.Hashes.{hash_of}
 use Rattle.numbering.specs.Numbers.{representative}
 use Rattle.numbering.specs.Table.{most_probes, home, home_of, Other, Probed, Placed, Held, Turned}
 use Rattle.numbering.proofs.Laws.{rep_most, rep_named, rep_rep, numbers_one}

@@ -2,7 +2,7 @@
 -- most 32 words; a table has 32 words more than those at which a search may begin, so that no search runs past its end.
 use Rattle.std.specs.Prelude.{◌≡◌, List, Bool, true, false, ℕ, ◌+◌, ◌-◌, ◌*◌, ◌/◌, ◌%◌, ◌≤◌, ◌<◌, length, set, get_or}
 use Rattle.definition.specs.Names.{same_name}
-use Rattle.numbering.specs.Hashes.{hash_of}
+use Rattle.name.specs.Hashes.{hash_of}
 use Rattle.numbering.specs.Numbers.{representative, NumbersAre}
 
 -- How many words a search reads at most.

@@ -1,26 +1,11 @@
 // Hashes of names: where two differ, so do the names, and no byte need be compared.
 ghost use Rattle.std.specs.Prelude.{◌≡◌, ◌≤◌, ◌<◌, length};
 ghost use Rattle.definition.specs.Names.{same_name};
-ghost use Rattle.numbering.specs.Hashes.{hash_of, HashesAre};
+ghost use Rattle.name.specs.Hashes.{hash_of};
+ghost use Rattle.numbering.specs.Hashes.{HashesAre};
 ghost use Rattle.numbering.specs.Named.{named, count};
 
 use crate::names::Names;
-
-// What the hash so far is multiplied by before the next byte is added.
-const HASH_FACTOR: u32 = 16777619;
-
-// A number made of a name's bytes.
-pub fn hash_of(name: &[u8]) -> u32
-    ensures { result ≡ hash_of name.now }
-{
-    let mut hash: u32 = 0;
-    for byte in name {
-        hash = hash
-            .wrapping_mul(HASH_FACTOR)
-            .wrapping_add(u32::from(*byte));
-    }
-    hash
-}
 
 // A name that is sought, with its hash.
 #[derive(Clone, Copy)]
@@ -34,7 +19,7 @@ impl<'a> Sought<'a> {
     pub fn new(name: &'a [u8]) -> Sought<'a>
         ensures { result.name ≡ name.entry }
     {
-        let hash = hash_of(name);
+        let hash = name::hash_of(name);
         Sought { name, hash }
     }
 }
@@ -53,7 +38,7 @@ pub fn hash_names(names: Names, hashes: &mut [u32])
     ensures { HashesAre (named names.entry) (count names.entry) hashes.new }
 {
     for card in 0..names.count() {
-        hashes[card] = hash_of(names.name(card));
+        hashes[card] = name::hash_of(names.name(card));
     }
 }
 

@@ -23,6 +23,7 @@ fn find_by_table(hashed: HashedNames, table: &[u32], sought: Sought) -> Option<u
 }
 
 // Whether a card stands before all cards of the name, in the order by hashes and then by names.
+// Stays: as in `order::compare_cards`.
 fn is_earlier(hashed: HashedNames, card: u32, sought: Sought) -> bool
     ensures { result ≡ is_earlier (named hashed.entry.names) hashed.entry.hashes.now sought.entry.name.now sought.entry.hash card }
 {

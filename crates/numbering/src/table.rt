@@ -32,6 +32,7 @@ pub fn home_of(hash: u32, slots: usize) -> usize
     (u64::from(mixed) * slots as u64 / HOME_RANGE) as usize
 }
 
+// Stays: two functions write the table and one reads it; a struct for each kind of borrow would be longer than the bounds on its length.
 // How far from the start a card of the name stands, or the first word 0, if either is near.
 pub(crate) fn probe(
     hashed: HashedNames,

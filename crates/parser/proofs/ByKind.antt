@@ -21,6 +21,7 @@ use Rattle.parser_laws.proofs.Tests.{clash, within_is, within_bounds, has_append
 use Rattle.parser_laws.proofs.Picking.{other}
 use Rattle.parser_laws.proofs.Theory.{has_left}
 use Rattle.parser_laws.proofs.Ahead.{open_part, skip_part, no_part}
+use Rattle.parser_lexer.specs.Sorts.{sort_number}
 use Rattle.parser_lexer.specs.Ahead.{Ahead}
 use Rattle.parser_lexer.specs.declared.cursor.Cursor.{Cursor}
 use Rattle.std.specs.Prelude.{Err}
@@ -270,20 +271,20 @@ module _ (text : List ℕ) (at s b e : ℕ) (a : AheadOf text at s b e) (ss : Li
       l (omega arith)
 
 module _ (text : List ℕ) {c : Cursor} (a : Ahead text c) (j : ℕ) (l : 5 ≤ j) (u : j ≤ 11) where
-  pub more_reads : {r : End} {before after : List ℕ} → has (first_set_of (more_of j)) c.sort ≡ true → Lists (body_of j) text c r before after →
+  pub more_reads : {r : End} {before after : List ℕ} → has (first_set_of (more_of j)) (sort_number c.sort) ≡ true → Lists (body_of j) text c r before after →
       Lists (more_of j) text c r before after
   more_reads w f = record {
     cards = f.cards;
     written = f.written;
-    goes = λ ss cs h. reads_as text c.last c.sort c.begins c.ends a (a_token j c.sort l u w) ss cs h j l u w ∙ f.goes ss cs h;
+    goes = λ ss cs h. reads_as text c.last (sort_number c.sort) c.begins c.ends a (a_token j (sort_number c.sort) l u w) ss cs h j l u w ∙ f.goes ss cs h;
     ready = f.ready;
   }
 
-  pub more_lacks : (before : List ℕ) → has (first_set_of (more_of j)) c.sort ≡ false → Lists (more_of j) text c (Err (NotInGrammar c.begins)) before before
+  pub more_lacks : (before : List ℕ) → has (first_set_of (more_of j)) (sort_number c.sort) ≡ false → Lists (more_of j) text c (Err (NotInGrammar c.begins)) before before
   unfolding put_cards
   more_lacks before w = record {
     cards = [];
     written = refl;
-    goes = λ ss cs h. reads_none text c.last c.sort c.begins c.ends a ss cs h j l u w;
+    goes = λ ss cs h. reads_none text c.last (sort_number c.sort) c.begins c.ends a ss cs h j l u w;
     ready = tt;
   }

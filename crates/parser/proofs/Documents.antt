@@ -20,6 +20,7 @@ use Rattle.parser_laws.specs.Standing.{from, standing, AheadOf}
 use Rattle.parser_laws.proofs.Tests.{clash, within_bounds, subset, subset_has}
 use Rattle.parser_laws.proofs.Steps.{told, whole_verdict}
 use Rattle.parser_laws.proofs.Ahead.{open_part, skip_part, no_part, at_whole, not_whole}
+use Rattle.parser_lexer.specs.Sorts.{sort_number}
 use Rattle.parser_lexer.specs.Ahead.{Ahead}
 use Rattle.parser_lexer.specs.declared.cursor.Cursor.{Cursor}
 use Rattle.std.specs.Prelude.{Ok, Err}
@@ -78,7 +79,7 @@ module _ (text : List ℕ) where
     written = refl;
     goes =
         ap (λ (m : ℕ). standing text m (part Document ∷ []) 0 [] 0) (sym l) ∙
-        one_first text c.last c.sort c.begins c.ends a [] 0;
+        one_first text c.last (sort_number c.sort) c.begins c.ends a [] 0;
     ahead = a;
     counted = n;
   }
@@ -98,13 +99,13 @@ module _ (text : List ℕ) where
     counted = f.ready.1 ∙ ap (λ (n : ℕ). n + length f.cards) i.counted ∙ sym (length-append i.cards f.cards);
   }
 
-  pub again : {c : Cursor} {before after : List ℕ} → (c.sort ≡ 55 → ⊥) → Definitions text before (part Definition* ∷ []) c after →
+  pub again : {c : Cursor} {before after : List ℕ} → (sort_number c.sort ≡ 55 → ⊥) → Definitions text before (part Definition* ∷ []) c after →
       Definitions text before (part Definition ∷ part Definition* ∷ []) c after
   again {c} n i = record {
     cards = i.cards;
     head = i.head;
     written = i.written;
-    goes = i.goes ∙ one_more_lem text c.last c.sort c.begins c.ends i.ahead i.cards i.head n;
+    goes = i.goes ∙ one_more_lem text c.last (sort_number c.sort) c.begins c.ends i.ahead i.cards i.head n;
     ahead = i.ahead;
     counted = i.counted;
   }
@@ -123,12 +124,12 @@ module _ (text : List ℕ) where
   accepted_is l (accepted es) e = (es, refl, cc)
   accepted_is l (refused m q) e = absurd (let z : ◌≡◌ {A = ℕ} 0 1 = cc in omega arith)
 
-  pub whole : {c : Cursor} {before after : List ℕ} → c.sort ≡ 55 → Definitions text before (part Definition* ∷ []) c after →
+  pub whole : {c : Cursor} {before after : List ℕ} → sort_number c.sort ≡ 55 → Definitions text before (part Definition* ∷ []) c after →
       Told text (Ok c.cards) before after
   unfolding cards_read
   whole {c} {before} e i =
       let l : Listing = record { cards = i.cards; head = i.head; end = c.last } in
-      let t = accepted_is l (reading text) (reading_is ∙ i.goes ∙ no_more text c.last c.sort c.begins c.ends i.ahead i.cards i.head e) in
+      let t = accepted_is l (reading text) (reading_is ∙ i.goes ∙ no_more text c.last (sort_number c.sort) c.begins c.ends i.ahead i.cards i.head e) in
       let m : cards_read t.0 ≡ i.cards = ap (λ (x : Listing). x.cards) t.2 in
       (t.0, t.1, i.counted ∙ ap length (sym m), i.written ∙ ap (put_cards before card_capacity 0) (sym m))
 

@@ -20,6 +20,7 @@ use Rattle.parser_laws.proofs.Tests.{within_is, within_bounds}
 use Rattle.parser_laws.proofs.Picking.{above, other}
 use Rattle.parser_laws.proofs.Steps.{by_mark}
 use Rattle.parser_laws.proofs.Ahead.{take_token, no_token_lem, open_part, skip_part, no_part, begin_heading, name_item_lem, kind_heading, end_heading}
+use Rattle.parser_lexer.specs.Sorts.{sort_number}
 use Rattle.parser_lexer.specs.Ahead.{Ahead}
 use Rattle.parser_lexer.specs.declared.cursor.Cursor.{Cursor}
 use Rattle.parser_values.specs.Reads.{goes_on, Stays, Moves}
@@ -33,77 +34,77 @@ use Rattle.parser.specs.Headings.{Heading, Defines}
 
 module _ (text : List ℕ) where
   -- The alternative that the token ahead begins.
-  pub begins : (b : Cursor) → Ahead text b → b.sort ≤ 54 → (qs : List Symbol) → Among (mark heading ∷ qs) (rule Definition) →
-      has (first_set_of (mark heading ∷ qs)) b.sort ≡ true → Heading text b qs b (card_of 0 b.begins 0 0 0)
+  pub begins : (b : Cursor) → Ahead text b → sort_number b.sort ≤ 54 → (qs : List Symbol) → Among (mark heading ∷ qs) (rule Definition) →
+      has (first_set_of (mark heading ∷ qs)) (sort_number b.sort) ≡ true → Heading text b qs b (card_of 0 b.begins 0 0 0)
   unfolding begun
   begins b a s qs i w = record {
     goes = λ ss cs h.
-        open_part text b.last b.sort b.begins b.ends a ss 0 cs h Definition (mark heading ∷ qs) s i w ∙
-        begin_heading text b.last b.sort b.begins b.ends a (qs ++ ss) 0 cs h s;
+        open_part text b.last (sort_number b.sort) b.begins b.ends a ss 0 cs h Definition (mark heading ∷ qs) s i w ∙
+        begin_heading text b.last (sort_number b.sort) b.begins b.ends a (qs ++ ss) 0 cs h s;
     ahead = a;
   }
 
   -- None does.
-  pub refuses : (b : Cursor) → Ahead text b → has (first Definition) b.sort ≡ false → (before after : List ℕ) → Defines text b (Err (NotInGrammar b.begins)) before after
+  pub refuses : (b : Cursor) → Ahead text b → has (first Definition) (sort_number b.sort) ≡ false → (before after : List ℕ) → Defines text b (Err (NotInGrammar b.begins)) before after
   unfolding nullable
   refuses b a w before after = record {
     cards = [];
     written = tt;
-    goes = λ ss cs h. no_part text b.last b.sort b.begins b.ends a ss 0 cs h Definition refl w;
+    goes = λ ss cs h. no_part text b.last (sort_number b.sort) b.begins b.ends a ss 0 cs h Definition refl w;
     ready = tt;
   }
 
   module _ {b c : Cursor} {x : Card} (us : List Symbol) where
     -- A token: k is the cursor behind it, with whatever number of cards.
     pub reads_token : (lo hi : ℕ) (k : Cursor) → Heading text b (one lo hi ∷ us) c x → Ahead text k → k.last ≡ c.ends → hi ≤ 54 →
-        within lo hi c.sort ≡ true → Heading text b us k x
+        within lo hi (sort_number c.sort) ≡ true → Heading text b us k x
     reads_token lo hi k i a e s w = record {
       goes = λ ss cs h.
           i.goes ss cs h ∙
-          take_token text c.last c.sort c.begins c.ends i.ahead (us ++ ss) 0 (cs ++ (x ∷ [])) (length cs) lo hi s w (omega arith) ∙
+          take_token text c.last (sort_number c.sort) c.begins c.ends i.ahead (us ++ ss) 0 (cs ++ (x ∷ [])) (length cs) lo hi s w (omega arith) ∙
           ap (λ (n : ℕ). standing text n (us ++ ss) 0 (cs ++ (x ∷ [])) (length cs)) (sym e);
       ahead = a;
     }
 
-    pub lacks_token : (lo hi : ℕ) → Heading text b (one lo hi ∷ us) c x → within lo hi c.sort ≡ false → (before after : List ℕ) →
+    pub lacks_token : (lo hi : ℕ) → Heading text b (one lo hi ∷ us) c x → within lo hi (sort_number c.sort) ≡ false → (before after : List ℕ) →
         Defines text b (Err (NotInGrammar c.begins)) before after
     lacks_token lo hi i w before after = record {
       cards = [];
       written = tt;
       goes = λ ss cs h.
           i.goes ss cs h ∙
-          no_token_lem text c.last c.sort c.begins c.ends i.ahead (us ++ ss) 0 (cs ++ (x ∷ [])) (length cs) lo hi w;
+          no_token_lem text c.last (sort_number c.sort) c.begins c.ends i.ahead (us ++ ss) 0 (cs ++ (x ∷ [])) (length cs) lo hi w;
       ready = tt;
     }
 
     -- A part: by an alternative that the token ahead begins; by the empty one; by none.
-    pub opens : (n : Part) (r : List Symbol) → Heading text b (part n ∷ us) c x → c.sort ≤ 54 → Among r (rule n) → has (first_set_of r) c.sort ≡ true →
+    pub opens : (n : Part) (r : List Symbol) → Heading text b (part n ∷ us) c x → sort_number c.sort ≤ 54 → Among r (rule n) → has (first_set_of r) (sort_number c.sort) ≡ true →
         Heading text b (r ++ us) c x
     opens n r i s j w = record {
       goes = λ ss cs h.
           i.goes ss cs h ∙
-          open_part text c.last c.sort c.begins c.ends i.ahead (us ++ ss) 0 (cs ++ (x ∷ [])) (length cs) n r s j w ∙
+          open_part text c.last (sort_number c.sort) c.begins c.ends i.ahead (us ++ ss) 0 (cs ++ (x ∷ [])) (length cs) n r s j w ∙
           ap (λ (y : List Symbol). standing text c.last y 0 (cs ++ (x ∷ [])) (length cs)) (sym (append_assoc r us ss));
       ahead = i.ahead;
     }
 
-    pub skips : (n : Part) → Heading text b (part n ∷ us) c x → Among [] (rule n) → has (first n) c.sort ≡ false → Heading text b us c x
+    pub skips : (n : Part) → Heading text b (part n ∷ us) c x → Among [] (rule n) → has (first n) (sort_number c.sort) ≡ false → Heading text b us c x
     unfolding empties
     skips n i j w = record {
       goes = λ ss cs h.
           i.goes ss cs h ∙
-          skip_part text c.last c.sort c.begins c.ends i.ahead (us ++ ss) 0 (cs ++ (x ∷ [])) (length cs) n [] j refl w;
+          skip_part text c.last (sort_number c.sort) c.begins c.ends i.ahead (us ++ ss) 0 (cs ++ (x ∷ [])) (length cs) n [] j refl w;
       ahead = i.ahead;
     }
 
-    pub lacks_part : (n : Part) → Heading text b (part n ∷ us) c x → nullable n ≡ false → has (first n) c.sort ≡ false → (before after : List ℕ) →
+    pub lacks_part : (n : Part) → Heading text b (part n ∷ us) c x → nullable n ≡ false → has (first n) (sort_number c.sort) ≡ false → (before after : List ℕ) →
         Defines text b (Err (NotInGrammar c.begins)) before after
     lacks_part n i j w before after = record {
       cards = [];
       written = tt;
       goes = λ ss cs h.
           i.goes ss cs h ∙
-          no_part text c.last c.sort c.begins c.ends i.ahead (us ++ ss) 0 (cs ++ (x ∷ [])) (length cs) n j w;
+          no_part text c.last (sort_number c.sort) c.begins c.ends i.ahead (us ++ ss) 0 (cs ++ (x ∷ [])) (length cs) n j w;
       ready = tt;
     }
 
@@ -114,15 +115,15 @@ module _ (text : List ℕ) where
       ahead = i.ahead;
     }
 
-    pub has_name : c.sort ≤ 54 → Heading text b (mark named ∷ us) c x →
-        Heading text b us c (named_by (record { sort = c.sort; begins = c.begins; size = c.ends - c.begins }) x)
+    pub has_name : sort_number c.sort ≤ 54 → Heading text b (mark named ∷ us) c x →
+        Heading text b us c (named_by (record { sort = (sort_number c.sort); begins = c.begins; size = c.ends - c.begins }) x)
     has_name s i = record {
-      goes = λ ss cs h. i.goes ss cs h ∙ name_item_lem text c.last c.sort c.begins c.ends i.ahead (us ++ ss) 0 cs (length cs) x s;
+      goes = λ ss cs h. i.goes ss cs h ∙ name_item_lem text c.last (sort_number c.sort) c.begins c.ends i.ahead (us ++ ss) 0 cs (length cs) x s;
       ahead = i.ahead;
     }
 
     -- What stands ahead is no name, and need be no token either.
-    pub lacks_name : (lo hi : ℕ) → Heading text b (mark named ∷ one lo hi ∷ us) c x → within lo hi c.sort ≡ false → (before after : List ℕ) →
+    pub lacks_name : (lo hi : ℕ) → Heading text b (mark named ∷ one lo hi ∷ us) c x → within lo hi (sort_number c.sort) ≡ false → (before after : List ℕ) →
         Defines text b (Err (NotInGrammar c.begins)) before after
     unfolding standing noting level_after
     lacks_name lo hi i w before after = record {
@@ -131,7 +132,7 @@ module _ (text : List ℕ) where
       goes = λ ss cs h.
           i.goes ss cs h ∙
           by_mark (from text c.last) (one lo hi ∷ (us ++ ss)) 0 (record { cards = cs ++ (x ∷ []); head = length cs; end = c.last }) named ∙
-          no_token_lem text c.last c.sort c.begins c.ends i.ahead (us ++ ss) 0
+          no_token_lem text c.last (sort_number c.sort) c.begins c.ends i.ahead (us ++ ss) 0
           (noting named (next_of (from text c.last).tokens) (record { cards = cs ++ (x ∷ []); head = length cs; end = c.last })).cards
           (length cs) lo hi w;
       ready = tt;
@@ -172,23 +173,23 @@ module _ (text : List ℕ) where
 
   -- The keyword, which picks the alternative of a part: k is the cursor behind it.
   pub by_keyword : {b c : Cursor} {p : ℕ} (n : Part) (s j : ℕ) (us : List Symbol) (k : Cursor) →
-      Heading text b (part n ∷ mark heading_ends ∷ []) c (card_of 0 p 0 0 0) → c.sort ≡ s → s ≤ 54 → Among (one s s ∷ mark (kind j) ∷ us) (rule n) →
+      Heading text b (part n ∷ mark heading_ends ∷ []) c (card_of 0 p 0 0 0) → sort_number c.sort ≡ s → s ≤ 54 → Among (one s s ∷ mark (kind j) ∷ us) (rule n) →
       Ahead text k → k.last ≡ c.ends → Heading text b (us ++ (mark heading_ends ∷ [])) k (card_of j p 0 0 0)
   unfolding of_kind first_set_of has
   by_keyword {b} {c} n s j us k i e l m a f =
-      let w : within s s c.sort ≡ true = within_is s s c.sort (omega arith) (omega arith) in
+      let w : within s s (sort_number c.sort) ≡ true = within_is s s (sort_number c.sort) (omega arith) (omega arith) in
       has_kind (us ++ (mark heading_ends ∷ [])) j
       (reads_token (mark (kind j) ∷ (us ++ (mark heading_ends ∷ []))) s s k
       (opens (mark heading_ends ∷ []) n (one s s ∷ mark (kind j) ∷ us) i (omega arith) m (rw w)) a f l w)
 
   -- The name: k is the cursor behind it.
   pub by_name : {b c : Cursor} {j p : ℕ} (lo hi : ℕ) (us : List Symbol) (k : Cursor) → Heading text b (mark named ∷ one lo hi ∷ us) c (card_of j p 0 0 0) →
-      hi ≤ 54 → within lo hi c.sort ≡ true → Ahead text k → k.last ≡ c.ends → Heading text b us k (card_of j p 0 c.begins (c.ends - c.begins))
+      hi ≤ 54 → within lo hi (sort_number c.sort) ≡ true → Ahead text k → k.last ≡ c.ends → Heading text b us k (card_of j p 0 c.begins (c.ends - c.begins))
   unfolding named_by
-  by_name {b} {c} lo hi us k i s w a f = reads_token us lo hi k (has_name (one lo hi ∷ us) (omega (arith, (within_bounds lo hi c.sort w).1)) i) a f s w
+  by_name {b} {c} lo hi us k i s w a f = reads_token us lo hi k (has_name (one lo hi ∷ us) (omega (arith, (within_bounds lo hi (sort_number c.sort) w).1)) i) a f s w
 
   -- How a definition begins: with the word `extend`; with a description; with its keyword. Behind the first token, k is the cursor there.
-  pub extends : (b k : Cursor) → Ahead text b → b.sort ≡ 28 → Ahead text k → k.last ≡ b.ends →
+  pub extends : (b k : Cursor) → Ahead text b → sort_number b.sort ≡ 28 → Ahead text k → k.last ≡ b.ends →
       Heading text b (part Extended ∷ mark heading_ends ∷ []) k (card_of 0 b.begins 0 0 0)
   unfolding rule has first_set_of within
   extends b k a e f l =
@@ -199,7 +200,7 @@ module _ (text : List ℕ) where
   describing : List Symbol
   describing = part Description? ∷ part Described ∷ mark heading_ends ∷ []
 
-  pub describes : (b k : Cursor) → Ahead text b → b.sort ≡ 16 → Ahead text k → k.last ≡ b.ends →
+  pub describes : (b k : Cursor) → Ahead text b → sort_number b.sort ≡ 16 → Ahead text k → k.last ≡ b.ends →
       Heading text b (part Described ∷ mark heading_ends ∷ []) k (card_of 0 b.begins 0 0 0)
   unfolding describing rule has first_set_of first nullable within
   describes b k a e f l =
@@ -207,19 +208,19 @@ module _ (text : List ℕ) where
       let opened = opens (part Described ∷ mark heading_ends ∷ []) Description? (string ∷ []) begun (omega arith) here (ap (has (first_set_of (string ∷ []))) e) in
       reads_token (part Described ∷ mark heading_ends ∷ []) 16 16 k opened f l (omega arith) (ap (within 16 16) e)
 
-  pub undescribed : (b : Cursor) → Ahead text b → 20 ≤ b.sort → b.sort ≤ 27 →
+  pub undescribed : (b : Cursor) → Ahead text b → 20 ≤ (sort_number b.sort) → sort_number b.sort ≤ 27 →
       Heading text b (part Described ∷ mark heading_ends ∷ []) b (card_of 0 b.begins 0 0 0)
   unfolding describing rule has first_set_of first nullable
   undescribed b a l u =
-      let w : within 20 27 b.sort ≡ true = within_is 20 27 b.sort l u in
-      let n : within 16 16 b.sort ≡ false = above 16 16 b.sort (omega arith) in
+      let w : within 20 27 (sort_number b.sort) ≡ true = within_is 20 27 (sort_number b.sort) l u in
+      let n : within 16 16 (sort_number b.sort) ≡ false = above 16 16 (sort_number b.sort) (omega arith) in
       skips (part Described ∷ mark heading_ends ∷ []) Description? (begins b a (omega arith) describing here (rw (n, w))) (there here) (rw n)
 
   -- None of these.
-  pub undefined : (b : Cursor) → Ahead text b → (b.sort ≡ 16 → ⊥) → within 20 28 b.sort ≡ false → (before after : List ℕ) →
+  pub undefined : (b : Cursor) → Ahead text b → (sort_number b.sort ≡ 16 → ⊥) → within 20 28 (sort_number b.sort) ≡ false → (before after : List ℕ) →
       Defines text b (Err (NotInGrammar b.begins)) before after
   unfolding has first
-  undefined b a n w before after = refuses b a (rw (other 16 b.sort n, w)) before after
+  undefined b a n w before after = refuses b a (rw (other 16 (sort_number b.sort) n, w)) before after
 
 -- ---- What is promised of a cursor's own text.
 

@@ -9,6 +9,7 @@ use Rattle.definition.specs.GrammarSets.{nullable, first}
 use Rattle.definition.specs.Machine.{has, first_set_of}
 use Rattle.parser_laws.proofs.Tests.{subset}
 use Rattle.std.specs.Prelude.{Ok, Err}
+use Rattle.parser_lexer.specs.Sorts.{sort_number}
 use Rattle.parser_lexer.specs.Ahead.{Next}
 use Rattle.parser_lexer.specs.declared.cursor.Cursor.{Cursor}
 use Rattle.parser_values.specs.declared.error.SyntaxError.{SyntaxError}
@@ -32,11 +33,11 @@ module _ {text : List ℕ} {b c : Cursor} (i : Mid rest text b 0 rest c) where
     left : Mid rest text b 0 (part OrLocation* ∷ []) j
     left = on (part OrLocation* ∷ []) i (each f)
 
-    pub is_last : (j.sort ≡ 12 → ⊥) → May rest text b 0 (Ok j)
+    pub is_last : (sort_number j.sort ≡ 12 → ⊥) → May rest text b 0 (Ok j)
     unfolding rule first
     is_last z = ends left (not_there OrLocation* 12 (there here) refl z left.1)
 
-    pub follows : {n : Cursor} → j.sort ≡ 12 → Next j.text.now j.ends j.cards n → Mid rest text b 0 rest n
+    pub follows : {n : Cursor} → sort_number j.sort ≡ 12 → Next j.text.now j.ends j.cards n → Mid rest text b 0 rest n
     unfolding rule has first_set_of within
     follows z m = on rest (opening [] OrLocation* (bar ∷ rest) 12 here refl (omega arith) z left)
         (may (token 12 z (omega arith) (omega arith) refl m))

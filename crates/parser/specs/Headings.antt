@@ -1,5 +1,5 @@
 -- What a function promises that reads a definition, and what it goes by in the middle of one.
-use Rattle.std.specs.Prelude.{Result, Ok, Err, ◌≡◌, List, [], ◌∷◌, ◌++◌, ℕ, ◌+◌, length}
+use Rattle.std.specs.Prelude.{Result, Ok, Err, ◌≡◌, List, [], ◌∷◌, ◌++◌, ℕ, ◌+◌, ◌≤◌, length}
 use Rattle.definition.specs.Grammar.{Symbol, part, Definition, Document}
 use Rattle.definition.specs.Cards.{Card}
 use Rattle.definition.specs.ItemCards.{cards_read}
@@ -11,7 +11,7 @@ use Rattle.parser_lexer.specs.Ahead.{Ahead}
 use Rattle.parser_lexer.specs.declared.cursor.Cursor.{Cursor}
 use Rattle.parser_values.specs.declared.error.SyntaxError.{SyntaxError}
 use Rattle.parser_values.specs.Errors.{number, place}
-use Rattle.parser_values.specs.Reads.{End, goes_on, Ready}
+use Rattle.parser_values.specs.Reads.{End, goes_on, Ready, Stays}
 use Rattle.parser_items.specs.Lists.{put_cards}
 
 -- In the middle of a definition that began at b, and whose card so far is x: it has come to c, and the symbols qs are left of it. Its card's number is
@@ -33,6 +33,15 @@ pub record Defines (text : List ℕ) (b : Cursor) (r : End) (before after : List
   pub written : Written r before b.cards cards after
   pub goes : (ss : List Symbol) (cs : List Card) (h : ℕ) → standing text b.last (part Definition ∷ ss) 0 cs h ≡ goes_on text r ss 0 (cs ++ cards) (length cs)
   pub ready : Ready text (b.cards + length cards) r
+
+-- What is promised from c on, in the middle of a definition that began at b: if the symbols us are left of it there, and its card so far is x, it is read to
+-- its end or refused. As in parser_values, the premise is none of what is promised of places.
+abbrev pub ReadOn : Cursor → List Symbol → Cursor → Card → End → List ℕ → List ℕ → Type 0
+ReadOn b us c x r before after = (Heading c.text.now b us c x → Defines c.text.now b r before after) × Stays c.text.now c r
+
+-- The cursor stands behind the keyword of a definition that began at `first`, and its card is counted.
+abbrev pub Behind : Cursor → Cursor → Type 0
+Behind first c = (first.begins ≤ c.last) × (c.cards ≡ first.cards + 1)
 
 -- In the middle of a text: it has come to c, and the symbols qs are left of `Document`.
 pub record Definitions (text before : List ℕ) (qs : List Symbol) (c : Cursor) (after : List ℕ) : Type 0 where

@@ -2,6 +2,7 @@
 ghost use Rattle.std.specs.Prelude.{◌≡◌, [], ◌∷◌, ◌≤◌};
 ghost use Rattle.definition.specs.Grammar.{part, Roots?, DirectiveUse*};
 ghost use Rattle.definition.specs.Machine.{has, first_set_of};
+ghost use Rattle.parser_lexer.specs.Sorts.{sort_number};
 ghost use Rattle.parser_items.specs.Lists.{MayListed, Short};
 ghost use Rattle.parser.specs.Symbols.{last_of, body_of, more_of, rest_of};
 
@@ -14,7 +15,7 @@ use ast::kinds::{
 use parser_items::cards::Cards;
 use parser_items::{directive_uses, enum_values, fields, input_fields, interfaces, members, roots};
 use parser_lexer::Cursor;
-use parser_lexer::sorts::{AT, BRACE_OPENS, EQUALS, IMPLEMENTS};
+use parser_lexer::sorts::Sort;
 use parser_values::SyntaxError;
 
 // Roots, or none.
@@ -22,7 +23,7 @@ fn optional_roots<'a>(c: Cursor<'a>, cards: &mut Cards) -> Result<Cursor<'a>, Sy
     requires { Short c }
     ensures { MayListed (part Roots? ∷ []) c.entry result cards.old cards.new }
 {
-    if c.sort == BRACE_OPENS {
+    if c.sort == Sort::BraceOpens {
         return roots(c, cards);
     }
     Ok(c)
@@ -33,25 +34,15 @@ fn last_part<'a>(c: Cursor<'a>, cards: &mut Cards, kind: u32) -> Result<Cursor<'
     requires { Short c }
     ensures { MayListed (last_of kind) c.entry result cards.old cards.new }
 {
-    if kind <= SCHEMA_DEFINITION {
-        return roots(c, cards);
+    match kind {
+        0..=SCHEMA_DEFINITION => roots(c, cards),
+        SCALAR_TYPE_DEFINITION => Ok(c),
+        OBJECT_TYPE_DEFINITION..=INTERFACE_TYPE_DEFINITION => fields(c, cards),
+        UNION_TYPE_DEFINITION => members(c, cards),
+        ENUM_TYPE_DEFINITION => enum_values(c, cards),
+        INPUT_OBJECT_TYPE_DEFINITION => input_fields(c, cards),
+        _ => optional_roots(c, cards),
     }
-    if kind <= SCALAR_TYPE_DEFINITION {
-        return Ok(c);
-    }
-    if kind <= INTERFACE_TYPE_DEFINITION {
-        return fields(c, cards);
-    }
-    if kind <= UNION_TYPE_DEFINITION {
-        return members(c, cards);
-    }
-    if kind <= ENUM_TYPE_DEFINITION {
-        return enum_values(c, cards);
-    }
-    if kind <= INPUT_OBJECT_TYPE_DEFINITION {
-        return input_fields(c, cards);
-    }
-    optional_roots(c, cards)
 }
 
 // The directive uses, and what a body ends with.
@@ -68,41 +59,35 @@ fn body<'a>(c: Cursor<'a>, cards: &mut Cards, kind: u32) -> Result<Cursor<'a>, S
     requires { Short c }
     ensures { MayListed (body_of kind) c.entry result cards.old cards.new }
 {
-    if kind < OBJECT_TYPE_DEFINITION {
-        return uses_and_last(c, cards, kind);
+    match kind {
+        OBJECT_TYPE_DEFINITION..=INTERFACE_TYPE_DEFINITION => {
+            let k = interfaces(c, cards)?;
+            uses_and_last(k, cards, kind)
+        }
+        _ => uses_and_last(c, cards, kind),
     }
-    if INTERFACE_TYPE_DEFINITION < kind {
-        return uses_and_last(c, cards, kind);
-    }
-    let k = interfaces(c, cards)?;
-    uses_and_last(k, cards, kind)
 }
 
 // Whether a token of a sort begins something of an extension's body.
-fn begins_more(kind: u32, sort: u32) -> bool
+fn begins_more(kind: u32, sort: Sort) -> bool
     requires { (5 ≤ kind) ×
         (kind ≤ 11) }
-    ensures { result ≡ has (first_set_of (more_of kind)) sort }
+    ensures { result ≡ has (first_set_of (more_of kind)) (sort_number sort) }
 {
-    if sort == AT {
-        return true;
+    match sort {
+        Sort::At => true,
+        Sort::Equals => kind == UNION_TYPE_DEFINITION,
+        Sort::BraceOpens => match kind {
+            SCALAR_TYPE_DEFINITION => false,
+            UNION_TYPE_DEFINITION => false,
+            _ => true,
+        },
+        Sort::Implements => match kind {
+            OBJECT_TYPE_DEFINITION | INTERFACE_TYPE_DEFINITION => true,
+            _ => false,
+        },
+        _ => false,
     }
-    if sort == EQUALS {
-        return kind == UNION_TYPE_DEFINITION;
-    }
-    if sort == BRACE_OPENS {
-        if kind <= SCALAR_TYPE_DEFINITION {
-            return false;
-        }
-        return kind != UNION_TYPE_DEFINITION;
-    }
-    if sort == IMPLEMENTS {
-        if kind <= SCALAR_TYPE_DEFINITION {
-            return false;
-        }
-        return kind <= INTERFACE_TYPE_DEFINITION;
-    }
-    false
 }
 
 // The body of an extension, of which something must be there. Its kind is that of the definition which it extends, and 11 for the schema.
@@ -118,6 +103,9 @@ fn more<'a>(c: Cursor<'a>, cards: &mut Cards, kind: u32) -> Result<Cursor<'a>, S
     Err(SyntaxError::NotInGrammar(c.begins))
 }
 
+// How far the kind of a type's extension is from that of its definition.
+pub const TO_EXTENSION: u32 = SCALAR_TYPE_EXTENSION - SCALAR_TYPE_DEFINITION;
+
 // What follows the name of a heading, or the word `schema`.
 pub fn heading_rest<'a>(
     c: Cursor<'a>,
@@ -128,18 +116,10 @@ pub fn heading_rest<'a>(
         (kind ≤ 17) }
     ensures { MayListed (rest_of kind) c.entry result cards.old cards.new }
 {
-    if kind <= DIRECTIVE_DEFINITION {
-        return directive_rest(c);
+    match kind {
+        0..=DIRECTIVE_DEFINITION => directive_rest(c),
+        SCHEMA_DEFINITION..=INPUT_OBJECT_TYPE_DEFINITION => body(c, cards, kind),
+        SCHEMA_EXTENSION => more(c, cards, kind),
+        _ => more(c, cards, kind - TO_EXTENSION),
     }
-    if kind <= INPUT_OBJECT_TYPE_DEFINITION {
-        return body(c, cards, kind);
-    }
-    if kind <= SCHEMA_EXTENSION {
-        return more(c, cards, kind);
-    }
-    more(
-        c,
-        cards,
-        kind - (SCALAR_TYPE_EXTENSION - SCALAR_TYPE_DEFINITION),
-    )
 }

@@ -1,22 +1,24 @@
 // Definitions and extensions, each with its heading's card.
-ghost use Rattle.std.specs.Prelude.{◌≡◌, [], ◌∷◌, ◌++◌, ◌+◌, ◌≤◌};
+ghost use Rattle.std.specs.Prelude.{◌≡◌, [], ◌∷◌, ◌++◌, ◌+◌, ◌-◌, ◌≤◌};
 ghost use Rattle.definition.specs.Grammar.{part, mark, named, name, at, heading_ends, Described, Extended};
-ghost use Rattle.parser_values.specs.Reads.{Moves, Stays};
+ghost use Rattle.parser_values.specs.Reads.{Moves};
 ghost use Rattle.definition.specs.ItemCards.{ended};
 ghost use Rattle.definition.specs.Refusals.{card_capacity, text_capacity};
 ghost use Rattle.parser_lexer.specs.Ahead.{Ahead};
+ghost use Rattle.parser_lexer.specs.Sorts.{sort_number};
 ghost use Rattle.parser_items.specs.Lists.{Short, card_of, put_card};
 ghost use Rattle.parser.specs.Symbols.{rest_of};
-ghost use Rattle.parser.specs.Headings.{Heading, Defines};
+ghost use Rattle.parser.specs.Headings.{Heading, Defines, ReadOn, Behind};
 
-use crate::bodies::heading_rest;
+use crate::bodies::{TO_EXTENSION, heading_rest};
 use ast::Card;
 use ast::kinds::{
-    DIRECTIVE_DEFINITION, SCALAR_TYPE_DEFINITION, SCALAR_TYPE_EXTENSION, SCHEMA_DEFINITION,
-    SCHEMA_EXTENSION,
+    DIRECTIVE_DEFINITION, ENUM_TYPE_DEFINITION, INPUT_OBJECT_TYPE_DEFINITION,
+    INTERFACE_TYPE_DEFINITION, OBJECT_TYPE_DEFINITION, SCALAR_TYPE_DEFINITION, SCHEMA_DEFINITION,
+    SCHEMA_EXTENSION, UNION_TYPE_DEFINITION,
 };
 use parser_items::cards::{Cards, put_card};
-use parser_lexer::sorts::{AT, DIRECTIVE, EXTEND, FIRST_NAME, INPUT, NAME, SCALAR, SCHEMA, STRING};
+use parser_lexer::sorts::{FIRST_NAME, Sort};
 use parser_lexer::{Cursor, next_token};
 use parser_values::SyntaxError;
 
@@ -46,6 +48,7 @@ fn end_heading(
     put_card(cards, first.cards, card);
 }
 
+// Stays: that a heading's kind is at most 17 is a clause of four functions; kinds are the numbers of cards, which C gives and takes.
 // The rest of a heading that has no name: of the schema and of its extensions.
 fn unnamed<'a>(
     first: Cursor<'a>,
@@ -54,12 +57,9 @@ fn unnamed<'a>(
     kind: u32,
 ) -> Result<Cursor<'a>, SyntaxError>
     requires { Short c ×
-        (first.begins ≤ c.last) ×
-        (c.cards ≡ first.cards + 1) ×
+        Behind first c ×
         (kind ≤ 17) }
-    ensures { (Heading c.entry.text.now first.entry (rest_of kind ++ (mark heading_ends ∷ [])) c.entry (card_of kind first.entry.begins 0 0 0) →
-        Defines c.entry.text.now first.entry result cards.old cards.new) ×
-        Stays c.entry.text.now c.entry result }
+    ensures { ReadOn first.entry (rest_of kind ++ (mark heading_ends ∷ [])) c.entry (card_of kind first.entry.begins 0 0 0) result cards.old cards.new }
 {
     let k = heading_rest(c, cards, kind)?;
     end_heading(cards, kind, first, 0, 0, k);
@@ -74,14 +74,11 @@ fn named<'a>(
     kind: u32,
 ) -> Result<Cursor<'a>, SyntaxError>
     requires { Short c ×
-        (first.begins ≤ c.last) ×
-        (c.cards ≡ first.cards + 1) ×
+        Behind first c ×
         (kind ≤ 17) }
-    ensures { (Heading c.entry.text.now first.entry (mark named ∷ name ∷ (rest_of kind ++ (mark heading_ends ∷ []))) c.entry (card_of kind first.entry.begins 0 0 0) →
-        Defines c.entry.text.now first.entry result cards.old cards.new) ×
-        Stays c.entry.text.now c.entry result }
+    ensures { ReadOn first.entry (mark named ∷ name ∷ (rest_of kind ++ (mark heading_ends ∷ []))) c.entry (card_of kind first.entry.begins 0 0 0) result cards.old cards.new }
 {
-    if !matches!(c.sort, FIRST_NAME..=NAME) {
+    if !c.sort.is_within(FIRST_NAME, Sort::Name) {
         return Err(SyntaxError::NotInGrammar(c.begins));
     }
     let k = heading_rest(c.next(), cards, kind)?;
@@ -96,17 +93,30 @@ fn directive_definition<'a>(
     cards: &mut Cards,
 ) -> Result<Cursor<'a>, SyntaxError>
     requires { Short c ×
-        (first.begins ≤ c.last) ×
-        (c.cards ≡ first.cards + 1) }
-    ensures { (Heading c.entry.text.now first.entry (at ∷ mark named ∷ name ∷ (rest_of 3 ++ (mark heading_ends ∷ []))) c.entry (card_of 3 first.entry.begins 0 0 0) →
-        Defines c.entry.text.now first.entry result cards.old cards.new) ×
-        Stays c.entry.text.now c.entry result }
+        Behind first c }
+    ensures { ReadOn first.entry (at ∷ mark named ∷ name ∷ (rest_of 3 ++ (mark heading_ends ∷ []))) c.entry (card_of 3 first.entry.begins 0 0 0) result cards.old cards.new }
 {
-    if c.sort != AT {
+    if c.sort != Sort::At {
         return Err(SyntaxError::NotInGrammar(c.begins));
     }
     let k = c.next();
     named(first, k, cards, DIRECTIVE_DEFINITION)
+}
+
+// The kind of a type's definition, by its keyword.
+fn type_kind(sort: Sort) -> u32
+    requires { (21 ≤ sort_number sort) ×
+        (sort_number sort ≤ 26) }
+    ensures { result ≡ sort_number sort - 16 }
+{
+    match sort {
+        Sort::Scalar => SCALAR_TYPE_DEFINITION,
+        Sort::Type => OBJECT_TYPE_DEFINITION,
+        Sort::Interface => INTERFACE_TYPE_DEFINITION,
+        Sort::Union => UNION_TYPE_DEFINITION,
+        Sort::Enum => ENUM_TYPE_DEFINITION,
+        _ => INPUT_OBJECT_TYPE_DEFINITION,
+    }
 }
 
 // A definition that began at `first`, from its keyword on. Its card is counted with the keyword.
@@ -123,17 +133,15 @@ fn described<'a>(
         Moves c.entry.text.now c.entry result }
 {
     let sort = c.sort;
-    if !matches!(sort, SCHEMA..=DIRECTIVE) {
+    if !sort.is_within(Sort::Schema, Sort::Directive) {
         return Err(SyntaxError::NotInGrammar(c.begins));
     }
     let k = next_token(c.text, c.ends, first.cards + 1);
-    if sort == SCHEMA {
-        return unnamed(first, k, cards, SCHEMA_DEFINITION);
+    match sort {
+        Sort::Schema => unnamed(first, k, cards, SCHEMA_DEFINITION),
+        Sort::Directive => directive_definition(first, k, cards),
+        _ => named(first, k, cards, type_kind(sort)),
     }
-    if sort == DIRECTIVE {
-        return directive_definition(first, k, cards);
-    }
-    named(first, k, cards, sort - (SCALAR - SCALAR_TYPE_DEFINITION))
 }
 
 // An extension that began at `first`, behind the word `extend`.
@@ -150,14 +158,14 @@ fn extended<'a>(
         Moves c.entry.text.now c.entry result }
 {
     let sort = c.sort;
-    if !matches!(sort, SCHEMA..=INPUT) {
+    if !sort.is_within(Sort::Schema, Sort::Input) {
         return Err(SyntaxError::NotInGrammar(c.begins));
     }
     let k = next_token(c.text, c.ends, first.cards + 1);
-    if sort == SCHEMA {
-        return unnamed(first, k, cards, SCHEMA_EXTENSION);
+    match sort {
+        Sort::Schema => unnamed(first, k, cards, SCHEMA_EXTENSION),
+        _ => named(first, k, cards, type_kind(sort) + TO_EXTENSION),
     }
-    named(first, k, cards, sort - (SCALAR - SCALAR_TYPE_EXTENSION))
 }
 
 // A definition or an extension.
@@ -166,17 +174,10 @@ pub fn definition<'a>(c: Cursor<'a>, cards: &mut Cards) -> Result<Cursor<'a>, Sy
     ensures { (Ahead c.entry.text.now c.entry → Defines c.entry.text.now c.entry result cards.old cards.new) ×
         Moves c.entry.text.now c.entry result }
 {
-    let sort = c.sort;
-    if sort == EXTEND {
-        let k = next_token(c.text, c.ends, c.cards + 1);
-        return extended(c, k, cards);
+    match c.sort {
+        Sort::Extend => extended(c, next_token(c.text, c.ends, c.cards + 1), cards),
+        Sort::String => described(c, next_token(c.text, c.ends, c.cards + 1), cards),
+        sort if sort.is_within(Sort::Schema, Sort::Directive) => described(c, c, cards),
+        _ => Err(SyntaxError::NotInGrammar(c.begins)),
     }
-    if sort == STRING {
-        let k = next_token(c.text, c.ends, c.cards + 1);
-        return described(c, k, cards);
-    }
-    if !matches!(sort, SCHEMA..=DIRECTIVE) {
-        return Err(SyntaxError::NotInGrammar(c.begins));
-    }
-    described(c, c, cards)
 }

@@ -3,7 +3,7 @@ ghost use Rattle.parser_values.specs.Reads.{MayRead};
 ghost use Rattle.parser.specs.Symbols.{locations, directive_rest};
 
 use parser_lexer::Cursor;
-use parser_lexer::sorts::{BAR, FIRST_LOCATION, LAST_LOCATION, ON, REPEATABLE};
+use parser_lexer::sorts::{FIRST_LOCATION, LAST_LOCATION, Sort};
 use parser_values::input_values::argument_definitions;
 use parser_values::{SyntaxError, take, take_optional};
 
@@ -11,10 +11,10 @@ use parser_values::{SyntaxError, take, take_optional};
 fn directive_locations(c: Cursor) -> Result<Cursor, SyntaxError>
     ensures { MayRead locations c.entry 0 result }
 {
-    let mut k = take_optional(c, BAR);
+    let mut k = take_optional(c, Sort::Bar);
     loop {
         let j = take(k, FIRST_LOCATION, LAST_LOCATION)?;
-        if j.sort != BAR {
+        if j.sort != Sort::Bar {
             return Ok(j);
         }
         k = j.next();
@@ -26,7 +26,7 @@ pub fn directive_rest(c: Cursor) -> Result<Cursor, SyntaxError>
     ensures { MayRead directive_rest c.entry 0 result }
 {
     let k = argument_definitions(c)?;
-    let j = take_optional(k, REPEATABLE);
-    let e = take(j, ON, ON)?;
+    let j = take_optional(k, Sort::Repeatable);
+    let e = take(j, Sort::On, Sort::On)?;
     directive_locations(e)
 }

@@ -12,7 +12,7 @@ use definition::layout::{CARD_CAPACITY, CARD_WORDS, READ_CARDS_CAPACITY, TEXT_CA
 use definition::refusal::{Refusal, Refused};
 use parser_items::cards::Cards;
 use parser_lexer::next_token;
-use parser_lexer::sorts::END_OF_TEXT;
+use parser_lexer::sorts::Sort;
 use parser_values::SyntaxError;
 
 pub mod bodies;
@@ -27,7 +27,7 @@ fn read_document(text: &[u8], cards: &mut Cards) -> Result<usize, SyntaxError>
     let mut c = next_token(text, 0, 0);
     loop {
         let k = definition(c, cards)?;
-        if k.sort == END_OF_TEXT {
+        if k.sort == Sort::EndOfText {
             return Ok(k.cards);
         }
         c = k;

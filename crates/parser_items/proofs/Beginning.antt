@@ -19,6 +19,7 @@ use Rattle.parser_laws.proofs.Tests.{clash, both, within_bounds, subset, subset_
 use Rattle.parser_laws.proofs.Theory.{has_left, has_right}
 use Rattle.parser_laws.proofs.Steps.{by_mark}
 use Rattle.parser_laws.proofs.Ahead.{no_token_lem, open_part, skip_part, no_part}
+use Rattle.parser_lexer.specs.Sorts.{sort_number}
 use Rattle.parser_lexer.specs.Ahead.{Ahead}
 use Rattle.parser_lexer.specs.declared.cursor.Cursor.{Cursor}
 
@@ -105,11 +106,11 @@ up_to_54 : (ss : List Symbol) (s : ℕ) → subset (first_set_of ss) ((0, 54) �
 up_to_54 ss s u h = (within_bounds 0 54 s (sym (range 0 54 s) ∙ subset_has (first_set_of ss) ((0, 54) ∷ []) s u h)).1
 
 module _ (text : List ℕ) (c : Cursor) (a : Ahead text c) where
-  not_begun : (ps ss : List Symbol) → wants ps ≡ true → has (first_set_of ps) c.sort ≡ false → (cs : List Card) (h : ℕ) →
+  not_begun : (ps ss : List Symbol) → wants ps ≡ true → has (first_set_of ps) (sort_number c.sort) ≡ false → (cs : List Card) (h : ℕ) →
       standing text c.last (ps ++ ss) 0 cs h ≡ fails 29 c.begins
   unfolding wants first_set_of standing noting level_after empties
   not_begun [] ss w f cs h = clash w
-  not_begun (one lo hi ∷ ps) ss w f cs h = no_token_lem text c.last c.sort c.begins c.ends a (ps ++ ss) 0 cs h lo hi (sym (range lo hi c.sort) ∙ f)
+  not_begun (one lo hi ∷ ps) ss w f cs h = no_token_lem text c.last (sort_number c.sort) c.begins c.ends a (ps ++ ss) 0 cs h lo hi (sym (range lo hi (sort_number c.sort)) ∙ f)
   not_begun (mark (item k) ∷ ps) ss w f cs h = by_mark (from text c.last) (ps ++ ss) 0 (record { cards = cs; head = h; end = c.last }) (item k) ∙
       not_begun ps ss w f _ h
   not_begun (mark named ∷ ps) ss w f cs h = by_mark (from text c.last) (ps ++ ss) 0 (record { cards = cs; head = h; end = c.last }) named ∙
@@ -122,36 +123,36 @@ module _ (text : List ℕ) (c : Cursor) (a : Ahead text c) where
   not_begun (mark shallower ∷ ps) ss w f cs h = clash w
   not_begun (part n ∷ ps) ss w f cs h = go (nullable n) refl w f (not_begun ps ss)
     where
-      go : (t : Bool) → nullable n ≡ t → choose t (leaves (rule n) && wants ps) true ≡ true → has (first n ++ choose t (first_set_of ps) []) c.sort ≡ false →
-          (wants ps ≡ true → has (first_set_of ps) c.sort ≡ false → (cs : List Card) (h : ℕ) →
+      go : (t : Bool) → nullable n ≡ t → choose t (leaves (rule n) && wants ps) true ≡ true → has (first n ++ choose t (first_set_of ps) []) (sort_number c.sort) ≡ false →
+          (wants ps ≡ true → has (first_set_of ps) (sort_number c.sort) ≡ false → (cs : List Card) (h : ℕ) →
           standing text c.last (ps ++ ss) 0 cs h ≡ fails 29 c.begins) → standing text c.last (part n ∷ (ps ++ ss)) 0 cs h ≡ fails 29 c.begins
       go true e i k f =
           let b = both (leaves (rule n)) (wants ps) i in
-          skip_part text c.last c.sort c.begins c.ends a (ps ++ ss) 0 cs h n [] (leaves_among (rule n) b.0) refl
-          (not_left (first n) (first_set_of ps) c.sort k) ∙
-          f b.1 (not_right (first n) (first_set_of ps) c.sort k) cs h
-      go false e i k f = no_part text c.last c.sort c.begins c.ends a (ps ++ ss) 0 cs h n e (not_left (first n) [] c.sort k)
+          skip_part text c.last (sort_number c.sort) c.begins c.ends a (ps ++ ss) 0 cs h n [] (leaves_among (rule n) b.0) refl
+          (not_left (first n) (first_set_of ps) (sort_number c.sort) k) ∙
+          f b.1 (not_right (first n) (first_set_of ps) (sort_number c.sort) k) cs h
+      go false e i k f = no_part text c.last (sort_number c.sort) c.begins c.ends a (ps ++ ss) 0 cs h n e (not_left (first n) [] (sort_number c.sort) k)
 
   -- Two things to be shown of symbols that want a token: where one is ahead; and where none is, that both sides are refused.
   pub by_token : (ps qs ss : List Symbol) (cs ds : List Card) (h : ℕ) → wanting ps ≡ true → wanting qs ≡ true →
-      (c.sort ≤ 54 → standing text c.last (ps ++ ss) 0 cs h ≡ standing text c.last (qs ++ ss) 0 ds h) →
+      (sort_number c.sort ≤ 54 → standing text c.last (ps ++ ss) 0 cs h ≡ standing text c.last (qs ++ ss) 0 ds h) →
       standing text c.last (ps ++ ss) 0 cs h ≡ standing text c.last (qs ++ ss) 0 ds h
   unfolding wanting
-  by_token ps qs ss cs ds h w v f = go (leb c.sort 54) refl
+  by_token ps qs ss cs ds h w v f = go (leb (sort_number c.sort) 54) refl
     where
-      none : (rs : List Symbol) → subset (first_set_of rs) ((0, 54) ∷ []) ≡ true → 54 < c.sort → (t : Bool) → has (first_set_of rs) c.sort ≡ t → t ≡ false
-      none rs u l true e = absurd (omega (arith, up_to_54 rs c.sort u e))
+      none : (rs : List Symbol) → subset (first_set_of rs) ((0, 54) ∷ []) ≡ true → 54 < (sort_number c.sort) → (t : Bool) → has (first_set_of rs) (sort_number c.sort) ≡ t → t ≡ false
+      none rs u l true e = absurd (omega (arith, up_to_54 rs (sort_number c.sort) u e))
       none rs u l false e = refl
 
-      refusal : (rs : List Symbol) → (wants rs && subset (first_set_of rs) ((0, 54) ∷ [])) ≡ true → 54 < c.sort → (es : List Card) →
+      refusal : (rs : List Symbol) → (wants rs && subset (first_set_of rs) ((0, 54) ∷ [])) ≡ true → 54 < (sort_number c.sort) → (es : List Card) →
           standing text c.last (rs ++ ss) 0 es h ≡ fails 29 c.begins
       refusal rs i l es =
           let b = both (wants rs) (subset (first_set_of rs) ((0, 54) ∷ [])) i in
-          not_begun rs ss b.0 (none rs b.1 l (has (first_set_of rs) c.sort) refl) es h
+          not_begun rs ss b.0 (none rs b.1 l (has (first_set_of rs) (sort_number c.sort)) refl) es h
 
-      go : (t : Bool) → leb c.sort 54 ≡ t → standing text c.last (ps ++ ss) 0 cs h ≡ standing text c.last (qs ++ ss) 0 ds h
-      go true e = f (leb-true c.sort 54 e)
-      go false e = let l = leb-false c.sort 54 e in refusal ps w l cs ∙ sym (refusal qs v l ds)
+      go : (t : Bool) → leb (sort_number c.sort) 54 ≡ t → standing text c.last (ps ++ ss) 0 cs h ≡ standing text c.last (qs ++ ss) 0 ds h
+      go true e = f (leb-true (sort_number c.sort) 54 e)
+      go false e = let l = leb-false (sort_number c.sort) 54 e in refusal ps w l cs ∙ sym (refusal qs v l ds)
 
 -- A part with one alternative that is not empty.
 pub record Sole (n : Part) (r : List Symbol) : Type 0 where
@@ -164,17 +165,17 @@ pub record Sole (n : Part) (r : List Symbol) : Type 0 where
 pub as_sole : (text : List ℕ) (c : Cursor) → Ahead text c → (n : Part) (r ss : List Symbol) (cs : List Card) (h : ℕ) → Sole n r →
     standing text c.last (part n ∷ ss) 0 cs h ≡ standing text c.last (r ++ ss) 0 cs h
 unfolding wanting
-as_sole text c a n r ss cs h t = go (has (first_set_of r) c.sort) refl
+as_sole text c a n r ss cs h t = go (has (first_set_of r) (sort_number c.sort)) refl
   where
     w : (wants r ≡ true) × (subset (first_set_of r) ((0, 54) ∷ []) ≡ true)
     w = both (wants r) (subset (first_set_of r) ((0, 54) ∷ [])) t.wants_token
 
-    none : has (first_set_of r) c.sort ≡ false → (u : Bool) → has (first n) c.sort ≡ u → u ≡ false
-    none k true e = clash (sym k ∙ covers_has (first n) (first_set_of r) 57 c.sort t.covered (omega (arith, a.told)) e)
+    none : has (first_set_of r) (sort_number c.sort) ≡ false → (u : Bool) → has (first n) (sort_number c.sort) ≡ u → u ≡ false
+    none k true e = clash (sym k ∙ covers_has (first n) (first_set_of r) 57 (sort_number c.sort) t.covered (omega (arith, a.told)) e)
     none k false e = refl
 
-    go : (u : Bool) → has (first_set_of r) c.sort ≡ u → standing text c.last (part n ∷ ss) 0 cs h ≡ standing text c.last (r ++ ss) 0 cs h
-    go true k = open_part text c.last c.sort c.begins c.ends a ss 0 cs h n r (up_to_54 r c.sort w.1 k) t.among k
+    go : (u : Bool) → has (first_set_of r) (sort_number c.sort) ≡ u → standing text c.last (part n ∷ ss) 0 cs h ≡ standing text c.last (r ++ ss) 0 cs h
+    go true k = open_part text c.last (sort_number c.sort) c.begins c.ends a ss 0 cs h n r (up_to_54 r (sort_number c.sort) w.1 k) t.among k
     go false k =
-        no_part text c.last c.sort c.begins c.ends a ss 0 cs h n t.never_empty (none k (has (first n) c.sort) refl) ∙
+        no_part text c.last (sort_number c.sort) c.begins c.ends a ss 0 cs h n t.never_empty (none k (has (first n) (sort_number c.sort)) refl) ∙
         sym (not_begun text c a r ss w.0 k cs h)

@@ -12,6 +12,7 @@ use Rattle.definition.specs.Cards.{Card}
 use Rattle.definition.specs.ItemCards.{begun, named_by, ended}
 use Rattle.definition.specs.Refusals.{card_capacity}
 use Rattle.parser_laws.proofs.Ahead.{token_of}
+use Rattle.parser_lexer.specs.Sorts.{sort_number}
 use Rattle.parser_lexer.specs.Ahead.{Ahead, Next}
 use Rattle.parser_lexer.specs.declared.cursor.Cursor.{Cursor}
 use Rattle.std.specs.Prelude.{Ok, Err}
@@ -84,7 +85,7 @@ module _ (text : List ℕ) where
 
   -- The token ahead is its name.
   pub called : {b c : Cursor} {x : Card} {m : ℕ} (ps us : List Symbol) → wanting us ≡ true → InItem m ps text b (mark named ∷ us) c x →
-      InItem m ps text b us c (named_by (token_of c.sort c.begins c.ends) x)
+      InItem m ps text b us c (named_by (token_of (sort_number c.sort) c.begins c.ends) x)
   called ps us w i = (λ a. joining.item_named text ps us w (i.0 a), i.1, i.2)
 
   -- It is refused.
@@ -96,7 +97,7 @@ module _ (text : List ℕ) where
 
   -- It ends, and its card is written: its name was the token ahead of n.
   pub ends : {b k r : Cursor} {before after : List ℕ} {m : ℕ} (ps : List Symbol) (kind : ℕ) (n : Cursor) →
-      InItem (m + 1) ps text b (mark item_ends ∷ []) k (named_by (token_of n.sort n.begins n.ends) (begun kind b.begins)) → b.last ≤ m →
+      InItem (m + 1) ps text b (mark item_ends ∷ []) k (named_by (token_of (sort_number n.sort) n.begins n.ends) (begun kind b.begins)) → b.last ≤ m →
       (after ≡ put_card before card_capacity b.cards (item_card kind b n k.last)) × OneMore b k r → MustList ps text b (Ok r) before after
   unfolding begun named_by ended
   ends {b} {k} {r} {before} {after} {m} ps kind n i l w = (
@@ -132,21 +133,21 @@ module _ (text : List ℕ) where
   alone n r t f = (λ a. joining.alone text a n r t (f.0 a), f.1)
 
   pub chosen : {c : Cursor} {e : End} {before after : List ℕ} {P : Type 0} (n : Part) (r : List Symbol) (x : ℕ) → Among r (rule n) →
-      has (first_set_of r) x ≡ true → x ≤ 54 → c.sort ≡ x → (Ahead text c → Lists r text c e before after) × P →
+      has (first_set_of r) x ≡ true → x ≤ 54 → sort_number c.sort ≡ x → (Ahead text c → Lists r text c e before after) × P →
       (Ahead text c → Lists (part n ∷ []) text c e before after) × P
   chosen n r x i w s k f = (λ a. joining.opens text a n r (omega arith) i (ap (has (first_set_of r)) k ∙ w) (f.0 a), f.1)
 
   pub list_chosen : {b c : Cursor} {before after : List ℕ} (ps us : List Symbol) (n : Part) (r : List Symbol) (x : ℕ) → Among r (rule n) →
-      has (first_set_of r) x ≡ true → x ≤ 54 → c.sort ≡ x → InList ps text b before (part n ∷ us) c after → InList ps text b before (r ++ us) c after
+      has (first_set_of r) x ≡ true → x ≤ 54 → sort_number c.sort ≡ x → InList ps text b before (part n ∷ us) c after → InList ps text b before (r ++ us) c after
   list_chosen ps us n r x i w s k f = (λ a. joining.opened text ps us n r (omega arith) i (ap (has (first_set_of r)) k ∙ w) (f.0 a), f.1, f.2)
 
   -- ---- A repeated part before its closer.
   module _ (n m : Part) (y : ℕ) (t : Repeated n m y) where
-    pub again : {b c : Cursor} {before after : List ℕ} (ps us : List Symbol) → (c.sort ≡ y → ⊥) → InList ps text b before (part m ∷ one y y ∷ us) c after →
+    pub again : {b c : Cursor} {before after : List ℕ} (ps us : List Symbol) → (sort_number c.sort ≡ y → ⊥) → InList ps text b before (part m ∷ one y y ∷ us) c after →
         InList ps text b before (part n ∷ part m ∷ one y y ∷ us) c after
     again ps us k i = (λ a. joining.once_more text ps us n m t.more t.none t.never_empty t.begins t.tokens y k (i.0 a), i.1, i.2)
 
-    pub closes : {b c k : Cursor} {before after : List ℕ} (ps : List Symbol) → c.sort ≡ y → Next c.text.now c.ends c.cards k →
+    pub closes : {b c k : Cursor} {before after : List ℕ} (ps : List Symbol) → sort_number c.sort ≡ y → Next c.text.now c.ends c.cards k →
         InList ps text b before (part m ∷ one y y ∷ []) c after → MayList ps text b (Ok k) before after
     closes {b} {c} {k} {before} {after} ps e x i =
         let skip : May (part m ∷ []) c.text.now c 0 (Ok c) = (λ a. skips c.text.now 0 c a m t.none (ap (has (first m)) e ∙ t.closed), (refl, omega arith)) in

@@ -5,6 +5,7 @@ use Prim.Native.Nat.{ℕ, ◌≤◌}
 use native.Mathlib.Omega.{arith}
 use Rattle.definition.specs.Grammar.{Symbol, one, part}
 use Rattle.definition.specs.Machine.{first_set_of}
+use Rattle.parser_lexer.specs.Sorts.{sort_number}
 use Rattle.parser_lexer.specs.Ahead.{Next}
 use Rattle.parser_lexer.specs.declared.cursor.Cursor.{Cursor}
 use Rattle.std.specs.Prelude.{Ok, Err}
@@ -35,11 +36,11 @@ module _ (text : List ℕ) (x y k : ℕ) (l : NameList) (t : Joined x y k l) whe
       MayList (part l.name ∷ []) c.text.now c e before after
   each {c} e f = may_list c.text.now (part l.name ∷ []) e (alone c.text.now l.name (name_item k) sole f)
 
-  pub absent : {c : Cursor} (before : List ℕ) → (c.sort ≡ x → ⊥) → c.text.now ≡ text → MayList (part l.optional ∷ []) text c (Ok c) before before
+  pub absent : {c : Cursor} (before : List ℕ) → (sort_number c.sort ≡ x → ⊥) → c.text.now ≡ text → MayList (part l.optional ∷ []) text c (Ok c) before before
   absent before n i = no_cards text (part l.optional ∷ []) before (not_there l.optional x t.absent t.opener n i)
 
   -- From the first name on.
-  pub opened : {c i k : Cursor} {before after : List ℕ} (e : End) → x ≤ 54 → c.sort ≡ x → c.text.now ≡ text → Next text c.ends c.cards i →
+  pub opened : {c i k : Cursor} {before after : List ℕ} (e : End) → x ≤ 54 → sort_number c.sort ≡ x → c.text.now ≡ text → Next text c.ends c.cards i →
       May (part l.lead ∷ []) i.text.now i 0 (Ok k) → MayList (rest l) k.text.now k e before after → MayList (part l.optional ∷ []) text c e before after
   opened {c} {i} {k} {before} e s z u n m f =
       let first : May (one x x ∷ []) text c 0 (Ok i) = may (token x z s (omega arith) u n) in
@@ -59,13 +60,13 @@ module _ (text : List ℕ) (x y k : ℕ) (l : NameList) (t : Joined x y k l) whe
       left : InList (rest l) text b before (part l.more ∷ []) j after
       left = list_on text (rest l) (part l.name ∷ []) (part l.more ∷ []) i (each (Ok j) f)
 
-      pub follows : {n : Cursor} → y ≤ 54 → j.sort ≡ y → Next j.text.now j.ends j.cards n → InList (rest l) text b before (rest l) n after
+      pub follows : {n : Cursor} → y ≤ 54 → sort_number j.sort ≡ y → Next j.text.now j.ends j.cards n → InList (rest l) text b before (rest l) n after
       follows {n} s z m =
           let next : May (one y y ∷ []) j.text.now j 0 (Ok n) = may (token y z s (omega arith) refl m) in
           let more = list_chosen text (rest l) [] l.more (one y y ∷ rest l) y t.again (begins_with y y (rest l) refl) s z left in
           list_on text (rest l) (one y y ∷ []) (rest l) more (cardless text (one y y ∷ []) after next)
 
-      pub is_last : (j.sort ≡ y → ⊥) → MayList (rest l) text b (Ok j) before after
+      pub is_last : (sort_number j.sort ≡ y → ⊥) → MayList (rest l) text b (Ok j) before after
       is_last z =
           let none = cardless text (part l.more ∷ []) after (not_there l.more y t.done t.joiner z refl) in
           list_ends text (rest l) (part l.more ∷ []) (Ok j) left none

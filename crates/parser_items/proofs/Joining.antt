@@ -15,6 +15,7 @@ use Rattle.definition.specs.Refusals.{card_capacity}
 use Rattle.parser_laws.specs.Standing.{standing}
 use Rattle.parser_laws.proofs.Tests.{subset}
 use Rattle.parser_laws.proofs.Ahead.{token_of, open_part, repeats, begin_item, name_item_lem, end_item}
+use Rattle.parser_lexer.specs.Sorts.{sort_number}
 use Rattle.parser_lexer.specs.Ahead.{Ahead}
 use Rattle.parser_lexer.specs.declared.cursor.Cursor.{Cursor}
 use Rattle.parser_values.specs.Reads.{goes_on, Ready, Reads}
@@ -120,24 +121,24 @@ module _ (text : List ℕ) where
     ready = f.ready;
   }
 
-  pub opens : {c : Cursor} {e : End} {before after : List ℕ} → Ahead text c → (n : Part) (r : List Symbol) → c.sort ≤ 54 → Among r (rule n) →
-      has (first_set_of r) c.sort ≡ true → Lists r text c e before after → Lists (part n ∷ []) text c e before after
+  pub opens : {c : Cursor} {e : End} {before after : List ℕ} → Ahead text c → (n : Part) (r : List Symbol) → sort_number c.sort ≤ 54 → Among r (rule n) →
+      has (first_set_of r) (sort_number c.sort) ≡ true → Lists r text c e before after → Lists (part n ∷ []) text c e before after
   opens {c} a n r k i w f = record {
     cards = f.cards;
     written = f.written;
-    goes = λ ss cs h. open_part text c.last c.sort c.begins c.ends a ss 0 cs h n r k i w ∙ f.goes ss cs h;
+    goes = λ ss cs h. open_part text c.last (sort_number c.sort) c.begins c.ends a ss 0 cs h n r k i w ∙ f.goes ss cs h;
     ready = f.ready;
   }
 
   -- The same of the part that is next in the middle.
-  pub opened : {b c : Cursor} {before after : List ℕ} (ps us : List Symbol) (n : Part) (r : List Symbol) → c.sort ≤ 54 → Among r (rule n) →
-      has (first_set_of r) c.sort ≡ true → Listing ps text b before (part n ∷ us) c after → Listing ps text b before (r ++ us) c after
+  pub opened : {b c : Cursor} {before after : List ℕ} (ps us : List Symbol) (n : Part) (r : List Symbol) → sort_number c.sort ≤ 54 → Among r (rule n) →
+      has (first_set_of r) (sort_number c.sort) ≡ true → Listing ps text b before (part n ∷ us) c after → Listing ps text b before (r ++ us) c after
   opened {b} {c} ps us n r k i w f = record {
     cards = f.cards;
     written = f.written;
     goes = λ ss cs h.
         f.goes ss cs h ∙
-        open_part text c.last c.sort c.begins c.ends f.ahead (us ++ ss) 0 (cs ++ f.cards) h n r k i w ∙
+        open_part text c.last (sort_number c.sort) c.begins c.ends f.ahead (us ++ ss) 0 (cs ++ f.cards) h n r k i w ∙
         ap (λ (x : List Symbol). standing text c.last x 0 (cs ++ f.cards) h) (sym (append_assoc r us ss));
     ahead = f.ahead;
     counted = f.counted;
@@ -145,12 +146,12 @@ module _ (text : List ℕ) where
 
   -- A repeated part m = n m before its closer x, which does not stand ahead: n comes first.
   pub once_more : {b c : Cursor} {before after : List ℕ} (ps us : List Symbol) (n m : Part) → Among (part n ∷ part m ∷ []) (rule m) → Among [] (rule m) →
-      nullable n ≡ false → subset (first m) (first n) ≡ true → subset (first n) ((0, 54) ∷ []) ≡ true → (x : ℕ) → (c.sort ≡ x → ⊥) →
+      nullable n ≡ false → subset (first m) (first n) ≡ true → subset (first n) ((0, 54) ∷ []) ≡ true → (x : ℕ) → (sort_number c.sort ≡ x → ⊥) →
       Listing ps text b before (part m ∷ one x x ∷ us) c after → Listing ps text b before (part n ∷ part m ∷ one x x ∷ us) c after
   once_more {b} {c} ps us n m i j u f g x z w = record {
     cards = w.cards;
     written = w.written;
-    goes = λ ss cs h. w.goes ss cs h ∙ repeats text c.last c.sort c.begins c.ends w.ahead (us ++ ss) 0 (cs ++ w.cards) h n m i j u f g x z;
+    goes = λ ss cs h. w.goes ss cs h ∙ repeats text c.last (sort_number c.sort) c.begins c.ends w.ahead (us ++ ss) 0 (cs ++ w.cards) h n m i j u f g x z;
     ahead = w.ahead;
     counted = w.counted;
   }
@@ -161,7 +162,7 @@ module _ (text : List ℕ) where
   unfolding wanting
   item_begins b a k qs w = record {
     goes = λ ss cs h. by_token text b a (mark (item k) ∷ qs) qs ss cs (cs ++ (begun k b.begins ∷ [])) h w w
-        (begin_item text b.last b.sort b.begins b.ends a (qs ++ ss) 0 cs h k);
+        (begin_item text b.last (sort_number b.sort) b.begins b.ends a (qs ++ ss) 0 cs h k);
     ahead = a;
     counted = refl;
   }
@@ -192,13 +193,13 @@ module _ (text : List ℕ) where
 
   -- The token ahead is its name.
   pub item_named : {b c : Cursor} {x : Card} (ps us : List Symbol) → wanting us ≡ true → Item ps text b (mark named ∷ us) c x →
-      Item ps text b us c (named_by (token_of c.sort c.begins c.ends) x)
+      Item ps text b us c (named_by (token_of (sort_number c.sort) c.begins c.ends) x)
   unfolding wanting
   item_named {b} {c} {x} ps us w i = record {
     goes = λ ss cs h.
         i.goes ss cs h ∙
-        by_token text c i.ahead (mark named ∷ us) us ss (cs ++ (x ∷ [])) (cs ++ (named_by (token_of c.sort c.begins c.ends) x ∷ [])) h w w
-        (name_item_lem text c.last c.sort c.begins c.ends i.ahead (us ++ ss) 0 cs h x);
+        by_token text c i.ahead (mark named ∷ us) us ss (cs ++ (x ∷ [])) (cs ++ (named_by (token_of (sort_number c.sort) c.begins c.ends) x ∷ [])) h w w
+        (name_item_lem text c.last (sort_number c.sort) c.begins c.ends i.ahead (us ++ ss) 0 cs h x);
     ahead = i.ahead;
     counted = i.counted;
   }

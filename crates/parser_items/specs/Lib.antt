@@ -3,3 +3,4 @@ pub mod Lists
 pub mod Names
 pub mod Definitions
 pub mod Braces
+pub mod Operations

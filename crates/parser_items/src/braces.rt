@@ -8,7 +8,7 @@ use crate::cards::Cards;
 use crate::definitions::{ItemDefinition, definition};
 use crate::operations::root;
 use parser_lexer::Cursor;
-use parser_lexer::sorts::{BRACE_CLOSES, BRACE_OPENS};
+use parser_lexer::sorts::Sort;
 use parser_values::{SyntaxError, take};
 
 // What the list is of.
@@ -33,10 +33,10 @@ fn items<'a>(c: Cursor<'a>, cards: &mut Cards, list: Braced) -> Result<Cursor<'a
     requires { Short c }
     ensures { MustListed (part (list_of list) ∷ []) c.entry result cards.old cards.new }
 {
-    let mut k = take(c, BRACE_OPENS, BRACE_OPENS)?;
+    let mut k = take(c, Sort::BraceOpens, Sort::BraceOpens)?;
     loop {
         let j = item(k, cards, list)?;
-        if j.sort == BRACE_CLOSES {
+        if j.sort == Sort::BraceCloses {
             return Ok(j.next());
         }
         k = j;
@@ -52,7 +52,7 @@ fn optional_items<'a>(
     requires { Short c }
     ensures { MayListed (part (optional_of list) ∷ []) c.entry result cards.old cards.new }
 {
-    if c.sort != BRACE_OPENS {
+    if c.sort != Sort::BraceOpens {
         return Ok(c);
     }
     items(c, cards, list)

@@ -1,6 +1,7 @@
 // The definitions that stand in braces, each with its card: of a field (3.6 of the specification), an enum value (3.9) and an input field (3.10).
 ghost use Rattle.std.specs.Prelude.{◌≡◌, [], ◌∷◌};
 ghost use Rattle.definition.specs.Grammar.{part};
+ghost use Rattle.parser_lexer.specs.Sorts.{sort_number};
 ghost use Rattle.parser_values.specs.Reads.{MayRead};
 ghost use Rattle.parser_items.specs.Lists.{MustListed, Short};
 ghost use Rattle.parser_items.specs.Definitions.{part_of, kind_of, first_name, field_rest, rest_of};
@@ -9,7 +10,7 @@ use crate::cards::Cards;
 use crate::ending::end_item;
 use ast::kinds::{ENUM_VALUE_DEFINITION, FIELD_DEFINITION, INPUT_VALUE_DEFINITION};
 use parser_lexer::Cursor;
-use parser_lexer::sorts::{COLON, ENUM_NAME, FIRST_NAME, NAME};
+use parser_lexer::sorts::{ENUM_NAME, FIRST_NAME, Sort};
 use parser_values::description::description;
 use parser_values::directives::directives;
 use parser_values::input_values::{argument_definitions, input_value_type};
@@ -35,8 +36,8 @@ fn kind_of(d: ItemDefinition) -> u32
 }
 
 // The first sort that its name may have: no enum value is named `true`, `false` or `null`.
-fn first_name(d: ItemDefinition) -> u32
-    ensures { result ≡ first_name d }
+fn first_name(d: ItemDefinition) -> Sort
+    ensures { sort_number result ≡ first_name d }
 {
     match d {
         ItemDefinition::Field => FIRST_NAME,
@@ -50,7 +51,7 @@ fn field_rest(c: Cursor) -> Result<Cursor, SyntaxError>
     ensures { MayRead field_rest c.entry 0 result }
 {
     let k = argument_definitions(c)?;
-    let j = take(k, COLON, COLON)?;
+    let j = take(k, Sort::Colon, Sort::Colon)?;
     let i = type_reference(j, 32)?;
     directives(i)
 }
@@ -76,7 +77,7 @@ pub fn definition<'a>(
     ensures { MustListed (part (part_of d) ∷ []) c.entry result cards.old cards.new }
 {
     let name = description(c);
-    let k = take(name, first_name(d), NAME)?;
+    let k = take(name, first_name(d), Sort::Name)?;
     let j = rest(k, d)?;
     Ok(end_item(cards, kind_of(d), c, name, j))
 }

@@ -7,7 +7,7 @@ use crate::cards::Cards;
 use crate::ending::end_item;
 use ast::kinds::DIRECTIVE;
 use parser_lexer::Cursor;
-use parser_lexer::sorts::{AT, FIRST_NAME, NAME};
+use parser_lexer::sorts::{FIRST_NAME, Sort};
 use parser_values::arguments::arguments;
 use parser_values::{SyntaxError, take};
 
@@ -16,8 +16,8 @@ fn directive_use<'a>(c: Cursor<'a>, cards: &mut Cards) -> Result<Cursor<'a>, Syn
     requires { Short c }
     ensures { MustListed (part DirectiveUse ∷ []) c.entry result cards.old cards.new }
 {
-    let name = take(c, AT, AT)?;
-    let k = take(name, FIRST_NAME, NAME)?;
+    let name = take(c, Sort::At, Sort::At)?;
+    let k = take(name, FIRST_NAME, Sort::Name)?;
     let j = arguments(k)?;
     Ok(end_item(cards, DIRECTIVE, c, name, j))
 }
@@ -28,7 +28,7 @@ pub fn directive_uses<'a>(c: Cursor<'a>, cards: &mut Cards) -> Result<Cursor<'a>
     ensures { MayListed (part DirectiveUse* ∷ []) c.entry result cards.old cards.new }
 {
     let mut k = c;
-    while k.sort == AT {
+    while k.sort == Sort::At {
         let j = directive_use(k, cards)?;
         k = j;
     }

@@ -1,6 +1,7 @@
 // Items that are a name alone, joined by a token: the interfaces of a type and the members of a union.
 ghost use Rattle.std.specs.Prelude.{[], ◌∷◌, ◌≤◌};
 ghost use Rattle.definition.specs.Grammar.{part, Implements?, Members?};
+ghost use Rattle.parser_lexer.specs.Sorts.{sort_number};
 ghost use Rattle.parser_items.specs.Lists.{MustListed, MayListed, Short};
 ghost use Rattle.parser_items.specs.Names.{name_item, NamesListed};
 
@@ -8,7 +9,7 @@ use crate::cards::Cards;
 use crate::ending::end_item;
 use ast::kinds::{IMPLEMENTS_INTERFACE, UNION_MEMBER};
 use parser_lexer::Cursor;
-use parser_lexer::sorts::{AMP, BAR, EQUALS, FIRST_NAME, IMPLEMENTS, NAME};
+use parser_lexer::sorts::{FIRST_NAME, Sort};
 use parser_values::{SyntaxError, take, take_optional};
 
 // A name, with a card of a kind.
@@ -16,7 +17,7 @@ fn name_item<'a>(c: Cursor<'a>, cards: &mut Cards, kind: u32) -> Result<Cursor<'
     requires { Short c }
     ensures { MustListed (name_item kind) c.entry result cards.old cards.new }
 {
-    let k = take(c, FIRST_NAME, NAME)?;
+    let k = take(c, FIRST_NAME, Sort::Name)?;
     Ok(end_item(cards, kind, c, c, k))
 }
 
@@ -24,14 +25,14 @@ fn name_item<'a>(c: Cursor<'a>, cards: &mut Cards, kind: u32) -> Result<Cursor<'
 fn names<'a>(
     c: Cursor<'a>,
     cards: &mut Cards,
-    opener: u32,
-    joiner: u32,
+    opener: Sort,
+    joiner: Sort,
     kind: u32,
 ) -> Result<Cursor<'a>, SyntaxError>
     requires { Short c ×
-        (opener ≤ 54) ×
-        (joiner ≤ 54) }
-    ensures { NamesListed opener joiner kind c.entry result cards.old cards.new }
+        (sort_number opener ≤ 54) ×
+        (sort_number joiner ≤ 54) }
+    ensures { NamesListed (sort_number opener) (sort_number joiner) kind c.entry result cards.old cards.new }
 {
     if c.sort != opener {
         return Ok(c);
@@ -52,7 +53,7 @@ pub fn interfaces<'a>(c: Cursor<'a>, cards: &mut Cards) -> Result<Cursor<'a>, Sy
     requires { Short c }
     ensures { MayListed (part Implements? ∷ []) c.entry result cards.old cards.new }
 {
-    names(c, cards, IMPLEMENTS, AMP, IMPLEMENTS_INTERFACE)
+    names(c, cards, Sort::Implements, Sort::Amp, IMPLEMENTS_INTERFACE)
 }
 
 // The members of a union, or none: 3.8, UnionMemberTypes.
@@ -60,5 +61,5 @@ pub fn members<'a>(c: Cursor<'a>, cards: &mut Cards) -> Result<Cursor<'a>, Synta
     requires { Short c }
     ensures { MayListed (part Members? ∷ []) c.entry result cards.old cards.new }
 {
-    names(c, cards, EQUALS, BAR, UNION_MEMBER)
+    names(c, cards, Sort::Equals, Sort::Bar, UNION_MEMBER)
 }

@@ -1,23 +1,27 @@
 -- The laws of a comment.
-use mathlib.Core.Path.{◌≡◌, refl, ◌∙◌}
+use mathlib.Core.Path.{◌≡◌, refl, sym, ap, ◌∙◌}
 use mathlib.Core.List.{List, [], ◌∷◌}
 use mathlib.Core.Logic.{inl, inr}
 use mathlib.Core.Bool.{Bool, true, false, ◌||◌}
 use Prim.Native.Nat.{ℕ, zero, suc, ◌+◌, ◌-◌, ◌≤◌, ◌<◌}
 use native.Mathlib.Omega.{arith}
-use borrow.Author.Tests.{ne_eqb}
-use lib.Dec.{eqb}
+use borrow.Author.Tests.{eq-eqb, ne_eqb, eqb-true, eqb-false, leb-true, le-leb}
+use lib.Dec.{eqb, leb}
 use lib.ListN.{length, get_or, drop, length-drop}
 use lib.Seq.{drop-drop}
+use Rattle.std.proofs.lemmas.List.Sums.{prefix_len-le-length}
 use types.Run.{OneOf}
 use Rattle.definition.specs.Lists.{choose}
-use Rattle.definition.specs.Lexical.{character, ends_line, comment}
+use Rattle.definition.specs.Lexical.{between, run, character, ends_line, comment}
 use Rattle.parser_laws.proofs.Gluing.{character_size}
+use Rattle.parser_laws.proofs.Tests.{both}
+use Rattle.parser_lexer.specs.Comments.{CommentPart}
 use Rattle.parser_lexer.proofs.CharacterLaws.{by_three, of_one}
+use Rattle.parser_lexer.proofs.NameLaws.{run_prefix}
 
 -- ---- The bytes that a character takes.
 
-pub line_ends : (b : ℕ) → OneOf (10 ∷ 13 ∷ []) b → ends_line b ≡ true
+line_ends : (b : ℕ) → OneOf (10 ∷ 13 ∷ []) b → ends_line b ≡ true
 unfolding ends_line
 line_ends b (inl e) = rw e
 line_ends b (inr e) = rw e
@@ -37,15 +41,8 @@ passing (suc k) (x ∷ bs) h = let g = passing k bs (omega arith) in omega arith
 abbrev taken : List ℕ → ℕ
 taken bs = choose (ends_line (get_or bs 0 0)) 0 (character bs)
 
--- One of ASCII takes one.
-pub plain_taken : (bs : List ℕ) → 32 ≤ get_or bs 0 0 → get_or bs 0 0 ≤ 127 → 1 ≡ taken bs
-plain_taken bs h k = rw (no_end (get_or bs 0 0) (omega arith) (omega arith), by_three bs, of_one (get_or bs 0 0) (get_or bs 1 0) (get_or bs 2 0) h k)
-
-pub other_taken : (bs : List ℕ) → (OneOf (10 ∷ 13 ∷ []) (get_or bs 0 0) → ⊥) → character bs ≡ taken bs
-other_taken bs n = rw (no_end (get_or bs 0 0) (λ e. n (inl e)) (λ e. n (inr e)))
-
-pub wide_taken : (bs : List ℕ) → 127 < get_or bs 0 0 → character bs ≡ taken bs
-wide_taken bs h = rw (no_end (get_or bs 0 0) (omega arith) (omega arith))
+one_of_ascii : (bs : List ℕ) → 32 ≤ get_or bs 0 0 → get_or bs 0 0 ≤ 127 → 1 ≡ taken bs
+one_of_ascii bs h k = rw (no_end (get_or bs 0 0) (omega arith) (omega arith), by_three bs, of_one (get_or bs 0 0) (get_or bs 1 0) (get_or bs 2 0) h k)
 
 -- A character that ends the comment, and one that goes it on.
 here : (bs : List ℕ) → 0 < length bs → comment 0 bs ≡ choose (eqb (taken bs) 0) 0 (1 + comment (taken bs - 1) (drop 1 bs))
@@ -68,10 +65,10 @@ taken_size (b ∷ bs) l = go (ends_line b) (character_size b bs)
     go true h = omega arith
     go false h = h
 
-pub comment_stops : (bs : List ℕ) → 0 < length bs → taken bs ≡ 0 → comment 0 bs ≡ 0
+comment_stops : (bs : List ℕ) → 0 < length bs → taken bs ≡ 0 → comment 0 bs ≡ 0
 comment_stops bs l e = here bs l ∙ rw e
 
-pub comment_on : (bs : List ℕ) (n : ℕ) → 0 < length bs → n ≡ taken bs → (n ≡ 0 → ⊥) → (n ≤ length bs) × (comment 0 bs ≡ n + comment 0 (drop n bs))
+comment_on : (bs : List ℕ) (n : ℕ) → 0 < length bs → n ≡ taken bs → (n ≡ 0 → ⊥) → (n ≤ length bs) × (comment 0 bs ≡ n + comment 0 (drop n bs))
 comment_on bs n l e z =
     let most : n ≤ length bs = rw e (taken_size bs l) in
     let m : n - 1 ≤ length (drop 1 bs) = rw (length-drop 1 bs) (omega arith) in
@@ -79,6 +76,61 @@ comment_on bs n l e z =
     let g : comment 0 bs ≡ n + comment 0 (drop n bs) = here bs l ∙
     rw (← e, ne_eqb n 0 z, passing (n - 1) (drop 1 bs) m, drop-drop (n - 1) 1 bs, q) (omega arith) in
     (most, g)
+
+-- A part is one character.
+one_taken : (bs : List ℕ) (n : ℕ) → 0 < length bs → n ≡ taken bs → CommentPart bs n
+one_taken bs n l p = record { within = rw p (taken_size bs l); goes = go (eqb n 0) refl }
+  where
+    go : (t : Bool) → eqb n 0 ≡ t → comment 0 bs ≡ choose t 0 (n + comment 0 (drop n bs))
+    go true e = comment_stops bs l (sym p ∙ eqb-true n 0 e)
+    go false e = (comment_on bs n l p (eqb-false n 0 e)).1
+
+pub line_taken : (bs : List ℕ) → 0 < length bs → OneOf (10 ∷ 13 ∷ []) (get_or bs 0 0) → CommentPart bs 0
+line_taken bs l o = one_taken bs 0 l (rw (line_ends (get_or bs 0 0) o))
+
+pub other_taken : (bs : List ℕ) → 0 < length bs → (OneOf (10 ∷ 13 ∷ []) (get_or bs 0 0) → ⊥) → CommentPart bs (character bs)
+other_taken bs l n = one_taken bs (character bs) l (rw (no_end (get_or bs 0 0) (λ e. n (inl e)) (λ e. n (inr e))))
+
+-- A row of ASCII takes as many bytes as it has.
+one_on : (b : ℕ) (bs : List ℕ) → between 32 127 b ≡ true → comment 0 (b ∷ bs) ≡ 1 + comment 0 bs
+one_on b bs e =
+    let p = both (leb 32 b) (leb b 127) e in
+    (comment_on (b ∷ bs) 1 (omega arith) (one_of_ascii (b ∷ bs) (leb-true 32 b p.0) (leb-true b 127 p.1)) (omega arith)).1
+
+row_on : (bs : List ℕ) → comment 0 bs ≡ run (between 32 127) bs + comment 0 (drop (run (between 32 127) bs) bs)
+unfolding run
+row_on [] = omega arith
+row_on (b ∷ bs) = go (between 32 127 b) refl (row_on bs)
+  where
+    n : ℕ
+    n = run (between 32 127) bs
+
+    go : (t : Bool) → between 32 127 b ≡ t → comment 0 bs ≡ n + comment 0 (drop n bs) →
+        comment 0 (b ∷ bs) ≡ choose t (1 + n) 0 + comment 0 (drop (choose t (1 + n) 0) (b ∷ bs))
+    go true e h =
+        let z : suc n ≡ 1 + n = omega arith in
+        let k : comment 0 (drop (suc n) (b ∷ bs)) ≡ comment 0 (drop (1 + n) (b ∷ bs)) = ap (λ (m : ℕ). comment 0 (drop m (b ∷ bs))) z in
+        omega (arith, one_on b bs e)
+    go false e h = omega arith
+
+pub row_taken : (bs : List ℕ) (n : ℕ) → 32 ≤ get_or bs 0 0 → get_or bs 0 0 ≤ 127 → n ≡ run (between 32 127) bs → CommentPart bs n
+unfolding run
+row_taken bs n h k p = record {
+  within = rw (p, run_prefix (between 32 127) bs) (prefix_len-le-length (between 32 127) bs);
+  goes = rw (ne_eqb n 0 (positive bs h k p), p) (row_on bs);
+}
+  where
+    positive : (bs : List ℕ) → 32 ≤ get_or bs 0 0 → get_or bs 0 0 ≤ 127 → n ≡ run (between 32 127) bs → n ≡ 0 → ⊥
+    positive [] h k p z = omega arith
+    positive (b ∷ bs) h k p z = let q : run (between 32 127) (b ∷ bs) ≡ 1 + run (between 32 127) bs = rw (le-leb 32 b h, le-leb b 127 k) in omega arith
+
+-- ---- A turn.
+
+pub comment_stops_at : (bs : List ℕ) (n : ℕ) → CommentPart bs n → n ≡ 0 → comment 0 bs ≡ 0
+comment_stops_at bs n p e = p.goes ∙ rw (eq-eqb n 0 e)
+
+pub comment_goes : (bs : List ℕ) (n : ℕ) → CommentPart bs n → (n ≡ 0 → ⊥) → comment 0 bs ≡ n + comment 0 (drop n bs)
+comment_goes bs n p e = p.goes ∙ rw (ne_eqb n 0 e)
 
 pub comment_ends : (bs : List ℕ) → length bs ≡ 0 → comment 0 bs ≡ 0
 unfolding comment

@@ -7,3 +7,4 @@ pub mod StringLaws
 pub mod LexemeLaws
 pub mod SizeLaws
 pub mod AheadLaws
+pub mod SortLaws

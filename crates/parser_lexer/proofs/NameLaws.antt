@@ -2,9 +2,9 @@
 use mathlib.Core.Path.{◌≡◌, refl, sym, ap, ◌∙◌}
 use mathlib.Core.List.{List, [], ◌∷◌}
 use mathlib.Core.Bool.{Bool, true, false, ◌&&◌, ◌||◌, not, cond}
-use Prim.Native.Nat.{ℕ, suc, ◌+◌, ◌≤◌}
+use Prim.Native.Nat.{ℕ, suc, ◌+◌, ◌≤◌, ◌<◌}
 use native.Mathlib.Omega.{arith}
-use borrow.Author.Tests.{eq-eqb, ne_eqb, le-leb}
+use borrow.Author.Tests.{eq-eqb, ne_eqb, le-leb, lt-leb}
 use lib.Dec.{eqb, ltb}
 use lib.ListN.{length, get_or}
 use Rattle.std.specs.Cmp.Lexicographic.{pointwise}
@@ -12,10 +12,11 @@ use Rattle.std.specs.List.{prefix_len}
 use Rattle.std.specs.Prelude.{nat_eq}
 use Rattle.std.proofs.lemmas.Slice.Eq.{bytes_eq-Decides}
 use Rattle.definition.specs.Lists.{choose, all, any}
-use Rattle.definition.specs.Names.{is_name_byte, same_name}
+use Rattle.definition.specs.Names.{is_name_start, is_name_byte, same_name}
 use Rattle.definition.specs.Grammar.{words, place_of, sort_of_name}
 use Rattle.definition.specs.Lexical.{byte, run}
 use Rattle.definition.proofs.Lists.{same_name_eq, same_name_refl}
+use Rattle.parser_lexer.specs.Words.{telling_place}
 use Rattle.name.proofs.Laws.{start_lower, continue_start}
 use Rattle.parser_laws.proofs.Tests.{clash, both}
 
@@ -23,6 +24,15 @@ use Rattle.parser_laws.proofs.Tests.{clash, both}
 
 pub lower : (b : ℕ) → 97 ≤ b → b ≤ 122 → is_name_byte b ≡ true
 lower b h k = continue_start b (start_lower b h ∙ le-leb b 122 k)
+
+-- What lies below the letters begins no name, and what lies below the digits goes on none.
+pub below_letters : (b : ℕ) → b < 65 → is_name_start b ≡ false
+unfolding is_name_start
+below_letters b h = simp (lt-leb 65 b h, lt-leb 97 b (omega arith), ne_eqb b 95 (omega arith))
+
+pub below_digits : (b : ℕ) → b < 48 → is_name_byte b ≡ false
+unfolding is_name_byte
+below_digits b h = simp (below_letters b (omega arith), lt-leb 48 b h)
 
 -- How many bytes pass a test, in the words of std.
 pub run_prefix : (p : ℕ → Bool) (bs : List ℕ) → run p bs ≡ prefix_len p bs
@@ -80,9 +90,6 @@ sizes ns = all (λ y. any (eqb (length y)) ns) words
 abbrev elsewhere : List ℕ → ℕ → ℕ → List ℕ → Bool
 elsewhere x n i y = not (eqb (length y) n) || not (eqb (byte i y) (byte i x))
 
-unfoldable pub lone : List ℕ → Bool
-lone x = all (λ y. same_name y x || not (eqb (length y) (length x))) words
-
 unfoldable pub alone : List ℕ → ℕ → ℕ → Bool
 alone x n i = ltb i n && all (λ y. same_name y x || elsewhere x n i y) words
 
@@ -104,25 +111,27 @@ marked n i bs y = not (eqb (length y) n) || any (eqb (byte i y)) bs
 unfoldable pub deciding : ℕ → ℕ → List ℕ → Bool
 deciding n i bs = ltb i n && all (marked n i bs) words
 
-pub only : (w : List ℕ) (n : ℕ) → length w ≡ n → (x : List ℕ) (i : ℕ) → alone x n i ≡ true → get_or w i 0 ≡ byte i x →
-    choose (same_name w x) (sort_of_name x) 54 ≡ sort_of_name w
+-- The byte that tells, of a name of a size.
+told_byte : (w : List ℕ) (n : ℕ) → length w ≡ n → (k : ℕ) → k ≡ get_or w (telling_place (length w)) 0 → get_or w (telling_place n) 0 ≡ k
+told_byte w n l k e = ap (λ (m : ℕ). get_or w (telling_place m) 0) (sym l) ∙ sym e
+
+pub only : (w : List ℕ) (n : ℕ) → length w ≡ n → (x : List ℕ) → alone x n (telling_place n) ≡ true → {k : ℕ} →
+    k ≡ get_or w (telling_place (length w)) 0 → k ≡ byte (telling_place n) x → choose (same_name w x) (sort_of_name x) 54 ≡ sort_of_name w
 unfolding alone
-only w n l x i a e =
+only w n l x a {k} t e =
+    let i = telling_place n in
     let b = both (ltb i n) (all (λ y. same_name y x || elsewhere x n i y) words) a in
-    let f : elsewhere x n i w ≡ false = rw (eq-eqb _ _ l, eq-eqb _ _ e) in
+    let f : elsewhere x n i w ≡ false = rw (eq-eqb _ _ l, eq-eqb _ _ (told_byte w n l k t ∙ e)) in
     one_word (elsewhere x n i) x w f b.1
 
-pub only_size : (w x : List ℕ) → length w ≡ length x → lone x ≡ true → choose (same_name w x) (sort_of_name x) 54 ≡ sort_of_name w
-unfolding lone
-only_size w x e a =
-    let f : not (eqb (length w) (length x)) ≡ false = rw (eq-eqb _ _ e) in
-    one_word (λ y. not (eqb (length y) (length x))) x w f a
-
-pub no_byte : (w : List ℕ) (n : ℕ) → length w ≡ n → (i : ℕ) (bs : List ℕ) → deciding n i bs ≡ true → Passed bs (get_or w i 0) → 54 ≡ sort_of_name w
+pub no_byte : (w : List ℕ) (n : ℕ) → length w ≡ n → (bs : List ℕ) → deciding n (telling_place n) bs ≡ true → {k : ℕ} →
+    k ≡ get_or w (telling_place (length w)) 0 → Passed bs k → 54 ≡ sort_of_name w
 unfolding deciding
-no_byte w n l i bs a h =
+no_byte w n l bs a {k} t h =
+    let i = telling_place n in
     let b = both (ltb i n) (all (marked n i bs) words) a in
-    let f : marked n i bs w ≡ false = rw (eq-eqb _ _ l, passed bs (get_or w i 0) h) in
+    let g : Passed bs (get_or w i 0) = rw (sym (told_byte w n l k t)) at h in
+    let f : marked n i bs w ≡ false = rw (eq-eqb _ _ l, passed bs (get_or w i 0) g) in
     sym (no_word (marked n i bs) w f b.1)
 
 pub no_size : (w ns : List ℕ) → sizes ns ≡ true → Passed ns (length w) → 54 ≡ sort_of_name w

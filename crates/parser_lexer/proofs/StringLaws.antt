@@ -11,14 +11,14 @@ use borrow.Author.Tests.{eq-eqb, ne_eqb, eqb-true, eqb-false, leb-true, le-leb}
 use lib.Dec.{eqb, leb}
 use lib.ListN.{length, get_or, drop, length-drop}
 use Rattle.std.proofs.lemmas.List.Sums.{prefix_len-le-length}
-use Rattle.std.specs.List.{prefix_len}
 use types.Run.{OneOf}
 use Rattle.definition.specs.Lists.{choose, found, any}
-use Rattle.definition.specs.Lexical.{byte, between, character, ends_line, is_digit, is_hex, escape, plain, tripled, block, lexed, unreadable, string}
+use Rattle.definition.specs.Lexical.{byte, between, run, character, ends_line, is_digit, is_hex, escape, plain, tripled, block, lexed, unreadable, string}
 use Rattle.parser_laws.proofs.Tests.{both, clash}
 use Rattle.parser_laws.proofs.Gluing.{test_there, character_size}
-use Rattle.parser_lexer.specs.Strings.{is_simple, is_code, later, plain_part, BlockPart, string_token}
+use Rattle.parser_lexer.specs.Strings.{is_simple, is_code, later, PlainPart, BlockPart, string_token}
 use Rattle.parser_lexer.proofs.CharacterLaws.{by_three, of_one}
+use Rattle.parser_lexer.proofs.NameLaws.{run_prefix}
 
 -- ---- Bytes that are passed over.
 
@@ -110,44 +110,31 @@ most (b ∷ bs) l = character_size b bs
 
 -- ---- What goes on a string.
 
+-- How many bytes of a plain string stand for one character, or for an escape with its `\`; 0 where neither stands.
+unfoldable plain_part : List ℕ → ℕ
+plain_part bs =
+    let e = escape (drop 1 bs) in
+    let escaped : ℕ = choose (eqb e 0) 0 (1 + e) in
+    let other : ℕ = choose (ends_line (byte 0 bs)) 0 (character bs) in
+    choose (eqb (byte 0 bs) 92) escaped other
+
 no_line : (b : ℕ) → (b ≡ 10 → ⊥) → (b ≡ 13 → ⊥) → ends_line b ≡ false
 unfolding ends_line
 no_line b e f = simp (ne_eqb b 10 e, ne_eqb b 13 f)
 
-module _ (bs : List ℕ) where
-  module _ (e : ℕ) (measured : e ≡ escape (drop 1 bs)) (begun : get_or bs 0 0 ≡ 92) where
-    pub part_broken : e ≡ 0 → 0 ≡ plain_part bs
-    unfolding plain_part
-    part_broken z = rw (eq-eqb _ _ begun, ← measured, eq-eqb _ _ z)
+part_ascii : (bs : List ℕ) → (get_or bs 0 0 ≡ 92 → ⊥) → 32 ≤ get_or bs 0 0 → get_or bs 0 0 ≤ 127 → 1 ≡ plain_part bs
+unfolding plain_part
+part_ascii bs n h k = rw (ne_eqb _ _ n, no_line (get_or bs 0 0) (omega arith) (omega arith)) (sym (ascii bs h k))
 
-    pub part_escape : (e ≡ 0 → ⊥) → 1 + e ≡ plain_part bs
-    unfolding plain_part
-    part_escape z = rw (eq-eqb _ _ begun, ← measured, ne_eqb _ _ z)
-
-  pub part_line : OneOf (10 ∷ 13 ∷ []) (get_or bs 0 0) → 0 ≡ plain_part bs
-  unfolding plain_part ends_line
-  part_line (inl e) = rw e
-  part_line (inr e) = rw e
-
-  pub part_character : (get_or bs 0 0 ≡ 92 → ⊥) → (get_or bs 0 0 ≡ 10 → ⊥) → (get_or bs 0 0 ≡ 13 → ⊥) → character bs ≡ plain_part bs
-  unfolding plain_part
-  part_character n e f = rw (ne_eqb _ _ n, no_line (get_or bs 0 0) e f)
-
-  pub part_other : (get_or bs 0 0 ≡ 92 → ⊥) → (OneOf (10 ∷ 13 ∷ []) (get_or bs 0 0) → ⊥) → character bs ≡ plain_part bs
-  part_other n o = part_character n (λ e. o (inl e)) (λ e. o (inr e))
-
-  pub part_ascii : (get_or bs 0 0 ≡ 92 → ⊥) → 32 ≤ get_or bs 0 0 → get_or bs 0 0 ≤ 127 → 1 ≡ plain_part bs
-  part_ascii n h k = sym (ascii bs h k) ∙ part_character n (omega arith) (omega arith)
-
-  pub part_size : 0 < length bs → plain_part bs ≤ length bs
-  unfolding plain_part
-  part_size l = go (eqb (get_or bs 0 0) 92) (ends_line (get_or bs 0 0)) (eqb (escape (drop 1 bs)) 0)
-    where
-      go : (t u v : Bool) → choose t (choose v 0 (1 + escape (drop 1 bs))) (choose u 0 (character bs)) ≤ length bs
-      go true u true = omega arith
-      go true u false = omega (arith, escape_size (drop 1 bs), length-drop 1 bs)
-      go false true v = omega arith
-      go false false v = omega (arith, most bs l)
+part_size : (bs : List ℕ) → 0 < length bs → plain_part bs ≤ length bs
+unfolding plain_part
+part_size bs l = go (eqb (get_or bs 0 0) 92) (ends_line (get_or bs 0 0)) (eqb (escape (drop 1 bs)) 0)
+  where
+    go : (t u v : Bool) → choose t (choose v 0 (1 + escape (drop 1 bs))) (choose u 0 (character bs)) ≤ length bs
+    go true u true = omega arith
+    go true u false = omega (arith, escape_size (drop 1 bs), length-drop 1 bs)
+    go false true v = omega arith
+    go false false v = omega (arith, most bs l)
 
 -- ---- A turn along a string.
 
@@ -184,20 +171,43 @@ unfolding plain
 plain_closes [] l e = absurd (omega arith)
 plain_closes (b ∷ bs) l e = rw e
 
-module _ (bs : List ℕ) (l : 0 < length bs) (more : get_or bs 0 0 ≡ 34 → ⊥) (n : ℕ) (part : n ≡ plain_part bs) where
-  pub plain_broken : n ≡ 0 → plain 0 bs ≡ none
-  plain_broken z = go bs l more part
-    where
-      go : (bs : List ℕ) → 0 < length bs → (get_or bs 0 0 ≡ 34 → ⊥) → n ≡ plain_part bs → plain 0 bs ≡ none
-      go [] l m p = absurd (omega arith)
-      go (b ∷ bs) l m p = plain_none b bs (ne_eqb _ _ m) (sym p ∙ z)
+-- One character, or an escape.
+one_plain : (bs : List ℕ) (n : ℕ) → 0 < length bs → eqb (get_or bs 0 0) 34 ≡ false → n ≡ plain_part bs → PlainPart bs n
+one_plain [] n l q p = absurd (omega arith)
+one_plain (b ∷ bs) n l q p = record {
+  within = rw p (part_size (b ∷ bs) l);
+  goes = go (eqb n 0) refl;
+}
+  where
+    go : (t : Bool) → eqb n 0 ≡ t → plain 0 (b ∷ bs) ≡ choose t none (later n (plain 0 (drop n (b ∷ bs))))
+    go true e = plain_none b bs q (sym p ∙ eqb-true n 0 e)
+    go false e = plain_some b bs n q p (eqb-false n 0 e)
 
-  pub plain_goes : (n ≡ 0 → ⊥) → plain 0 bs ≡ later n (plain 0 (drop n bs))
-  plain_goes z = go bs l more part
-    where
-      go : (bs : List ℕ) → 0 < length bs → (get_or bs 0 0 ≡ 34 → ⊥) → n ≡ plain_part bs → plain 0 bs ≡ later n (plain 0 (drop n bs))
-      go [] l m p = absurd (omega arith)
-      go (b ∷ bs) l m p = plain_some b bs n (ne_eqb _ _ m) p z
+module _ (bs : List ℕ) (l : 0 < length bs) (more : eqb (get_or bs 0 0) 34 ≡ false) where
+  module _ (e : ℕ) (measured : e ≡ escape (drop 1 bs)) (begun : get_or bs 0 0 ≡ 92) where
+    pub plain_no_escape : e ≡ 0 → PlainPart bs 0
+    unfolding plain_part
+    plain_no_escape z = one_plain bs 0 l more (rw (eq-eqb _ _ begun, ← measured, eq-eqb _ _ z))
+
+    pub plain_escape : (e ≡ 0 → ⊥) → PlainPart bs (1 + e)
+    unfolding plain_part
+    plain_escape z = one_plain bs (1 + e) l more (rw (eq-eqb _ _ begun, ← measured, ne_eqb _ _ z))
+
+  pub plain_line : OneOf (10 ∷ 13 ∷ []) (get_or bs 0 0) → PlainPart bs 0
+  unfolding plain_part ends_line
+  plain_line (inl e) = one_plain bs 0 l more (rw e)
+  plain_line (inr e) = one_plain bs 0 l more (rw e)
+
+  pub plain_character : (get_or bs 0 0 ≡ 92 → ⊥) → (OneOf (10 ∷ 13 ∷ []) (get_or bs 0 0) → ⊥) → PlainPart bs (character bs)
+  unfolding plain_part
+  plain_character n o = one_plain bs (character bs) l more (rw (ne_eqb _ _ n, no_line (get_or bs 0 0) (λ e. o (inl e)) (λ e. o (inr e))))
+
+-- A part of no byte breaks a plain string, and else it goes on.
+pub plain_broken : (bs : List ℕ) (n : ℕ) → PlainPart bs n → n ≡ 0 → plain 0 bs ≡ none
+plain_broken bs n p e = p.goes ∙ rw (eq-eqb n 0 e)
+
+pub plain_goes : (bs : List ℕ) (n : ℕ) → PlainPart bs n → (n ≡ 0 → ⊥) → plain 0 bs ≡ later n (plain 0 (drop n bs))
+plain_goes bs n p e = p.goes ∙ rw (ne_eqb n 0 e)
 
 pub plain_end : (bs : List ℕ) → length bs ≡ 0 → plain 0 bs ≡ none
 unfolding plain
@@ -295,45 +305,74 @@ module _ (bs : List ℕ) (l : 0 < length bs) (more : tripled bs ≡ false) where
   unfolding block_part
   block_character e = one_part bs (character bs) l more (rw (ne_eqb _ _ e))
 
-simple_one : (b : ℕ) (bs : List ℕ) → between 32 127 b ≡ true → not (eqb b 34) ≡ true → not (eqb b 92) ≡ true → block 0 (b ∷ bs) ≡ later 1 (block 0 bs)
-unfolding block_part tripled
-simple_one b bs h q s =
-    let p = both (leb 32 b) (leb b 127) h in
-    let e : character (b ∷ bs) ≡ 1 = ascii (b ∷ bs) (leb-true 32 b p.0) (leb-true b 127 p.1) in
-    block_some b bs 1 (no_triple (eqb b 34) refl q) (rw (no_test (eqb b 92) s) (sym e)) (omega arith)
+-- ---- A row of bytes that stand for themselves.
+
+-- What such a byte is not.
+pub record Simple (b : ℕ) : Type 0 where
+  pub ascii_least : 32 ≤ b
+  pub ascii_most : b ≤ 127
+  pub quote : eqb b 34 ≡ false
+  pub backslash : eqb b 92 ≡ false
+
+simple : (b : ℕ) → is_simple b ≡ true → Simple b
+simple b e =
+    let p = both (between 32 127 b && not (eqb b 34)) (not (eqb b 92)) e in
+    let q = both (between 32 127 b) (not (eqb b 34)) p.0 in
+    let r = both (leb 32 b) (leb b 127) q.0 in
+    record {
+      ascii_least = leb-true 32 b r.0;
+      ascii_most = leb-true b 127 r.1;
+      quote = no_test (eqb b 34) q.1;
+      backslash = no_test (eqb b 92) p.1;
+    }
   where
     no_test : (t : Bool) → not t ≡ true → t ≡ false
     no_test true e = clash e
     no_test false e = refl
 
-    no_triple : (t : Bool) → eqb b 34 ≡ t → not t ≡ true → tripled (b ∷ bs) ≡ false
-    no_triple true e f = clash f
-    no_triple false e f = rw e
+block_one : (b : ℕ) (bs : List ℕ) → is_simple b ≡ true → block 0 (b ∷ bs) ≡ later 1 (block 0 bs)
+unfolding block_part tripled
+block_one b bs e =
+    let s = simple b e in
+    block_some b bs 1 (rw s.quote) (rw s.backslash (sym (ascii (b ∷ bs) s.ascii_least s.ascii_most))) (omega arith)
 
--- A row of bytes that stand for themselves.
-simple_row : (bs : List ℕ) → block 0 bs ≡ later (prefix_len is_simple bs) (block 0 (drop (prefix_len is_simple bs) bs))
-simple_row [] = later_zero (block 0 [])
-simple_row (b ∷ bs) = go (is_simple b) refl (simple_row bs)
-  where
-    go : (t : Bool) → is_simple b ≡ t → block 0 bs ≡ later (prefix_len is_simple bs) (block 0 (drop (prefix_len is_simple bs) bs)) →
-        block 0 (b ∷ bs) ≡ later (cond t (1 + prefix_len is_simple bs) 0) (block 0 (drop (cond t (1 + prefix_len is_simple bs) 0) (b ∷ bs)))
-    go true e h =
-        let p = both (between 32 127 b && not (eqb b 34)) (not (eqb b 92)) e in
-        let q = both (between 32 127 b) (not (eqb b 34)) p.0 in
-        let z : suc (prefix_len is_simple bs) ≡ 1 + prefix_len is_simple bs = omega arith in
-        simple_one b bs q.0 q.1 p.1 ∙ ap (later 1) h ∙ later_later 1 (prefix_len is_simple bs) (block 0 (drop (prefix_len is_simple bs) bs)) ∙
-        ap (λ (m : ℕ). later (1 + prefix_len is_simple bs) (block 0 (drop m (b ∷ bs)))) z
-    go false e h = later_zero (block 0 (b ∷ bs))
+plain_one : (b : ℕ) (bs : List ℕ) → is_simple b ≡ true → plain 0 (b ∷ bs) ≡ later 1 (plain 0 bs)
+plain_one b bs e =
+    let s = simple b e in
+    plain_some b bs 1 s.quote (part_ascii (b ∷ bs) (eqb-false b 92 s.backslash) s.ascii_least s.ascii_most) (omega arith)
 
-pub block_row : (bs : List ℕ) (n : ℕ) → is_simple (get_or bs 0 0) ≡ true → n ≡ prefix_len is_simple bs → BlockPart bs n
-block_row [] n e p = clash e
-block_row (b ∷ bs) n e p = record {
-  within = rw p (prefix_len-le-length is_simple (b ∷ bs));
-  goes = rw (ne_eqb n 0 positive, p) (simple_row (b ∷ bs));
-}
-  where
-    positive : n ≡ 0 → ⊥
-    positive z = let q : prefix_len is_simple (b ∷ bs) ≡ 1 + prefix_len is_simple bs = rw e in absurd (omega arith)
+-- A measure that each such byte goes on by one goes on by a row of them.
+module _ (f : List ℕ → Option ℕ) (one : (b : ℕ) (bs : List ℕ) → is_simple b ≡ true → f (b ∷ bs) ≡ later 1 (f bs)) where
+  goes_by : (bs : List ℕ) → f bs ≡ later (run is_simple bs) (f (drop (run is_simple bs) bs))
+  unfolding run
+  goes_by [] = later_zero (f [])
+  goes_by (b ∷ bs) = go (is_simple b) refl (goes_by bs)
+    where
+      go : (t : Bool) → is_simple b ≡ t → f bs ≡ later (run is_simple bs) (f (drop (run is_simple bs) bs)) →
+          f (b ∷ bs) ≡ later (choose t (1 + run is_simple bs) 0) (f (drop (choose t (1 + run is_simple bs) 0) (b ∷ bs)))
+      go true e h =
+          let z : suc (run is_simple bs) ≡ 1 + run is_simple bs = omega arith in
+          one b bs e ∙ ap (later 1) h ∙ later_later 1 (run is_simple bs) (f (drop (run is_simple bs) bs)) ∙
+          ap (λ (m : ℕ). later (1 + run is_simple bs) (f (drop m (b ∷ bs)))) z
+      go false e h = later_zero (f (b ∷ bs))
+
+  row_goes : (bs : List ℕ) (n : ℕ) → is_simple (get_or bs 0 0) ≡ true → n ≡ run is_simple bs → f bs ≡ choose (eqb n 0) none (later n (f (drop n bs)))
+  unfolding run
+  row_goes [] n e p = clash e
+  row_goes (b ∷ bs) n e p = rw (ne_eqb n 0 positive, p) (goes_by (b ∷ bs))
+    where
+      positive : n ≡ 0 → ⊥
+      positive z = let q : run is_simple (b ∷ bs) ≡ 1 + run is_simple bs = rw e in absurd (omega arith)
+
+module _ (bs : List ℕ) (n : ℕ) (first : is_simple (get_or bs 0 0) ≡ true) (row : n ≡ run is_simple bs) where
+  row_within : n ≤ length bs
+  row_within = rw (row, run_prefix is_simple bs) (prefix_len-le-length is_simple bs)
+
+  pub block_row : BlockPart bs n
+  block_row = record { within = row_within; goes = row_goes (block 0) block_one bs n first row }
+
+  pub plain_row : PlainPart bs n
+  plain_row = record { within = row_within; goes = row_goes (plain 0) plain_one bs n first row }
 
 pub block_end : (bs : List ℕ) → length bs ≡ 0 → block 0 bs ≡ none
 unfolding block

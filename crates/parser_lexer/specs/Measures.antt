@@ -2,6 +2,8 @@
 use Rattle.std.proofs.Math.Option as math
 use Rattle.std.specs.Prelude.{ℕ, Option, Some, None}
 use Rattle.definition.specs.Lexical.{Lexeme, lexed, unreadable}
+use Rattle.parser_lexer.specs.Sorts.{sort_number}
+use Rattle.parser_lexer.specs.declared.sorts.Sort.{Sort}
 
 -- So many bytes; or none, where what was begun is broken.
 abbrev pub measured : Option ℕ → math.Option ℕ
@@ -9,6 +11,6 @@ measured (Some n) = math.some n
 measured None = math.none
 
 -- A number of a sort with so many bytes, or nothing readable.
-abbrev pub numbered : Option (ℕ × ℕ) → Lexeme
-numbered (Some (sort, size)) = lexed sort size
+abbrev pub numbered : Option (Sort × ℕ) → Lexeme
+numbered (Some (sort, size)) = lexed (sort_number sort) size
 numbered None = unreadable

@@ -2,21 +2,13 @@
 use Rattle.std.specs.Prelude.{◌≡◌, List, Bool, ◌&&◌, not, ℕ, ◌+◌, ◌≤◌, eqb, drop, length}
 use Rattle.std.proofs.Math.Option.{Option, none, some}
 use Rattle.definition.specs.Lists.{choose, found}
-use Rattle.definition.specs.Lexical.{byte, between, character, ends_line, is_hex, escape, block, Lexeme, lexed, unreadable}
+use Rattle.definition.specs.Lexical.{byte, between, is_hex, plain, block, Lexeme, lexed, unreadable}
 
 -- Whether four hexadecimal digits follow the first byte.
 abbrev pub is_code : List ℕ → Bool
 is_code bs = is_hex (byte 1 bs) && is_hex (byte 2 bs) && is_hex (byte 3 bs) && is_hex (byte 4 bs)
 
--- How many bytes go on a string where it is not closed: an escape with its `\`, or a character that does not end a line; 0 where neither stands.
-unfoldable pub plain_part : List ℕ → ℕ
-plain_part bs =
-    let e = escape (drop 1 bs) in
-    let escaped : ℕ = choose (eqb e 0) 0 (1 + e) in
-    let other : ℕ = choose (ends_line (byte 0 bs)) 0 (character bs) in
-    choose (eqb (byte 0 bs) 92) escaped other
-
--- A byte of a block string that stands for itself alone, whatever comes after it.
+-- A byte of a string that stands for itself alone, whatever comes after it.
 abbrev pub is_simple : ℕ → Bool
 is_simple b = between 32 127 b && not (eqb b 34) && not (eqb b 92)
 
@@ -32,3 +24,8 @@ string_token o = found o (λ n. lexed 16 n) unreadable
 pub record BlockPart (bs : List ℕ) (n : ℕ) : Type 0 where
   pub within : n ≤ length bs
   pub goes : block 0 bs ≡ choose (eqb n 0) none (later n (block 0 (drop n bs)))
+
+-- The same of a plain string.
+pub record PlainPart (bs : List ℕ) (n : ℕ) : Type 0 where
+  pub within : n ≤ length bs
+  pub goes : plain 0 bs ≡ choose (eqb n 0) none (later n (plain 0 (drop n bs)))

@@ -80,6 +80,7 @@ fn wide(b: u8, c: u8, d: u8) -> usize
     }
 }
 
+// Stays: that there is a byte is a clause of each function that reads the first; a type for bytes that are not empty would be made and opened at each call.
 // How many bytes the character has that the bytes begin with; 0 where they begin with none.
 pub fn character(bytes: &[u8]) -> usize
     requires { 0 < length bytes.now }

@@ -1,18 +1,24 @@
 // What is ignored between tokens and has more than a byte: comments.
-ghost use Rattle.std.specs.Prelude.{◌≡◌, ◌<◌, length, get_or};
-ghost use Rattle.definition.specs.Lists.{choose};
+ghost use Rattle.std.specs.Prelude.{◌≡◌, ◌<◌, length};
 ghost use Rattle.definition.specs.Lexical as lexical;
+ghost use Rattle.parser_lexer.specs.Comments.{CommentPart};
 
 use crate::characters::{CARRIAGE_RETURN, LAST_OF_ONE, LINE_FEED, SPACE, character};
 
-// How many bytes of the first character a comment takes: none where the line ends, or where no character stands. Most are characters of one byte, so those
-// are told first.
+// Whether a byte is a character by itself that no line ends with; so is DEL.
+fn is_plain(b: u8) -> bool
+    ensures { result ≡ lexical.between 32 127 b }
+{
+    matches!(b, SPACE..=LAST_OF_ONE)
+}
+
+// How many bytes go on a comment: a row of such characters, or one character; none where the line ends, or where no character stands.
 fn taken(bytes: &[u8]) -> usize
     requires { 0 < length bytes.now }
-    ensures { result ≡ choose (lexical.ends_line (get_or bytes.now 0 0)) 0 (lexical.character bytes.now) }
+    ensures { CommentPart bytes.now result }
 {
     match bytes[0] {
-        SPACE..=LAST_OF_ONE => 1,
+        SPACE..=LAST_OF_ONE => bytes.iter().take_while(|b| is_plain(**b)).count(),
         LINE_FEED | CARRIAGE_RETURN => 0,
         _ => character(bytes),
     }

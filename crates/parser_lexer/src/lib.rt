@@ -14,10 +14,12 @@ pub mod strings;
 pub mod tokens;
 pub mod words;
 
+use characters::SPACE;
 pub use cursor::Cursor;
 use lexeme::Lexeme;
+use sorts::Sort;
 
-// The token ahead of `at`, where so many cards were listed before it.
+// The token ahead of `at`, where so many cards were listed before it. Most of what is ignored are spaces, so those are passed over first.
 // Stays: the place is counted on by hand, since each step is as long as what it passes over, and the place is what the cursor tells.
 pub fn next_token(text: &[u8], at: usize, cards: usize) -> Cursor
     requires { (at ≤ length text.now) ×
@@ -26,6 +28,10 @@ pub fn next_token(text: &[u8], at: usize, cards: usize) -> Cursor
 {
     let mut i = at;
     while i < text.len() {
+        if text[i] == SPACE {
+            i += 1;
+            continue;
+        }
         match tokens::lexeme(&text[i..]) {
             Lexeme::Ignored(size) => i += size,
             Lexeme::Token(sort, size) => {
@@ -41,7 +47,7 @@ pub fn next_token(text: &[u8], at: usize, cards: usize) -> Cursor
             Lexeme::Unreadable => {
                 return Cursor {
                     text,
-                    sort: sorts::UNREADABLE,
+                    sort: Sort::Unreadable,
                     begins: i,
                     ends: i,
                     last: at,
@@ -52,7 +58,7 @@ pub fn next_token(text: &[u8], at: usize, cards: usize) -> Cursor
     }
     Cursor {
         text,
-        sort: sorts::END_OF_TEXT,
+        sort: Sort::EndOfText,
         begins: i,
         ends: i,
         last: at,

@@ -8,7 +8,7 @@ ghost use Rattle.parser_lexer.specs.Numbers.{is_attached, number_from};
 
 use crate::characters::byte_at;
 use crate::lexeme::Lexeme;
-use crate::sorts::{FLOAT, INT};
+use crate::sorts::Sort;
 
 // How many digits the bytes begin with.
 fn digits(bytes: &[u8]) -> usize
@@ -85,7 +85,7 @@ fn is_attached(b: u8) -> bool
 }
 
 // A number whose sign and digits are so many bytes: its sort and all its bytes. A fraction or an exponent makes it a float.
-fn number_from(bytes: &[u8], whole: usize) -> Option<(u32, usize)>
+fn number_from(bytes: &[u8], whole: usize) -> Option<(Sort, usize)>
     requires { whole ≤ length bytes.now }
     ensures { numbered result ≡ number_from whole bytes.now }
 {
@@ -95,7 +95,11 @@ fn number_from(bytes: &[u8], whole: usize) -> Option<(u32, usize)>
     if is_attached(byte_at(bytes, size)) {
         return None;
     }
-    let sort = if fraction + exponent == 0 { INT } else { FLOAT };
+    let sort = if fraction + exponent == 0 {
+        Sort::Int
+    } else {
+        Sort::Float
+    };
     Some((sort, size))
 }
 

@@ -1,129 +1,97 @@
 // The sorts of tokens, numbered as Grammar has them (2.1.8, 2.1.9 and 2.9 of the specification), and what stands ahead where there is no token.
+ghost use Rattle.std.specs.Prelude.{◌≡◌};
+ghost use Rattle.definition.specs.Grammar.{within};
+ghost use Rattle.parser_lexer.specs.Sorts.{sort_number};
 
-// Punctuators.
-pub const BANG: u32 = 0;
+// Each with its number, which specs/Sorts.antt gives too. The order tells which sorts are names and which are locations.
+#[derive(Clone, Copy, PartialEq, Eq)]
+pub enum Sort {
+    // Punctuators.
+    Bang = 0,
+    Dollar = 1,
+    Amp = 2,
+    ParenOpens = 3,
+    ParenCloses = 4,
+    Dots = 5,
+    Colon = 6,
+    Equals = 7,
+    At = 8,
+    BracketOpens = 9,
+    BracketCloses = 10,
+    BraceOpens = 11,
+    Bar = 12,
+    BraceCloses = 13,
+    // Values that are no names; a block string is a string.
+    Int = 14,
+    Float = 15,
+    String = 16,
+    // Names: from here on up to `Name`. The first three name no enum value; those from `Schema` on may.
+    True = 17,
+    False = 18,
+    Null = 19,
+    Schema = 20,
+    Scalar = 21,
+    Type = 22,
+    Interface = 23,
+    Union = 24,
+    Enum = 25,
+    Input = 26,
+    Directive = 27,
+    Extend = 28,
+    Implements = 29,
+    Repeatable = 30,
+    On = 31,
+    Query = 32,
+    Mutation = 33,
+    Subscription = 34,
+    // The locations of directives, up to `InputFieldDefinitionLocation`.
+    QueryLocation = 35,
+    MutationLocation = 36,
+    SubscriptionLocation = 37,
+    FieldLocation = 38,
+    FragmentDefinitionLocation = 39,
+    FragmentSpreadLocation = 40,
+    InlineFragmentLocation = 41,
+    VariableDefinitionLocation = 42,
+    SchemaLocation = 43,
+    ScalarLocation = 44,
+    ObjectLocation = 45,
+    FieldDefinitionLocation = 46,
+    ArgumentDefinitionLocation = 47,
+    InterfaceLocation = 48,
+    UnionLocation = 49,
+    EnumLocation = 50,
+    EnumValueLocation = 51,
+    InputObjectLocation = 52,
+    InputFieldDefinitionLocation = 53,
+    // Any name that is no word of the grammar.
+    Name = 54,
+    // No token: the end of the text, and a place where nothing readable stands.
+    EndOfText = 55,
+    Unreadable = 56,
+}
 
-pub const DOLLAR: u32 = 1;
+// The sorts of names: all of them, those that an enum value may have (not `true`, `false` or `null`), and those of locations.
+pub const FIRST_NAME: Sort = Sort::True;
 
-pub const AMP: u32 = 2;
+pub const ENUM_NAME: Sort = Sort::Schema;
 
-pub const PAREN_OPENS: u32 = 3;
+pub const FIRST_LOCATION: Sort = Sort::QueryLocation;
 
-pub const PAREN_CLOSES: u32 = 4;
+pub const LAST_LOCATION: Sort = Sort::InputFieldDefinitionLocation;
 
-pub const DOTS: u32 = 5;
+impl Sort {
+    pub fn number(self) -> u32
+        ensures { result ≡ sort_number self }
+    {
+        self as u32
+    }
 
-pub const COLON: u32 = 6;
-
-pub const EQUALS: u32 = 7;
-
-pub const AT: u32 = 8;
-
-pub const BRACKET_OPENS: u32 = 9;
-
-pub const BRACKET_CLOSES: u32 = 10;
-
-pub const BRACE_OPENS: u32 = 11;
-
-pub const BAR: u32 = 12;
-
-pub const BRACE_CLOSES: u32 = 13;
-
-// Values that are no names; a block string is a string.
-pub const INT: u32 = 14;
-
-pub const FLOAT: u32 = 15;
-
-pub const STRING: u32 = 16;
-
-// Names: from here on up to NAME. The first three (`true`, `false`, `null`) name no enum value; those from ENUM_NAME on may.
-pub const FIRST_NAME: u32 = 17;
-
-pub const TRUE: u32 = 17;
-
-pub const FALSE: u32 = 18;
-
-pub const NULL: u32 = 19;
-
-pub const ENUM_NAME: u32 = 20;
-
-pub const SCHEMA: u32 = 20;
-
-pub const SCALAR: u32 = 21;
-
-pub const TYPE: u32 = 22;
-
-pub const INTERFACE: u32 = 23;
-
-pub const UNION: u32 = 24;
-
-pub const ENUM: u32 = 25;
-
-pub const INPUT: u32 = 26;
-
-pub const DIRECTIVE: u32 = 27;
-
-pub const EXTEND: u32 = 28;
-
-pub const IMPLEMENTS: u32 = 29;
-
-pub const REPEATABLE: u32 = 30;
-
-pub const ON: u32 = 31;
-
-pub const QUERY: u32 = 32;
-
-pub const MUTATION: u32 = 33;
-
-pub const SUBSCRIPTION: u32 = 34;
-
-// The locations of directives.
-pub const FIRST_LOCATION: u32 = 35;
-
-pub const LAST_LOCATION: u32 = 53;
-
-pub const QUERY_LOCATION: u32 = 35;
-
-pub const MUTATION_LOCATION: u32 = 36;
-
-pub const SUBSCRIPTION_LOCATION: u32 = 37;
-
-pub const FIELD_LOCATION: u32 = 38;
-
-pub const FRAGMENT_DEFINITION_LOCATION: u32 = 39;
-
-pub const FRAGMENT_SPREAD_LOCATION: u32 = 40;
-
-pub const INLINE_FRAGMENT_LOCATION: u32 = 41;
-
-pub const VARIABLE_DEFINITION_LOCATION: u32 = 42;
-
-pub const SCHEMA_LOCATION: u32 = 43;
-
-pub const SCALAR_LOCATION: u32 = 44;
-
-pub const OBJECT_LOCATION: u32 = 45;
-
-pub const FIELD_DEFINITION_LOCATION: u32 = 46;
-
-pub const ARGUMENT_DEFINITION_LOCATION: u32 = 47;
-
-pub const INTERFACE_LOCATION: u32 = 48;
-
-pub const UNION_LOCATION: u32 = 49;
-
-pub const ENUM_LOCATION: u32 = 50;
-
-pub const ENUM_VALUE_LOCATION: u32 = 51;
-
-pub const INPUT_OBJECT_LOCATION: u32 = 52;
-
-pub const INPUT_FIELD_DEFINITION_LOCATION: u32 = 53;
-
-// Any name that is no word of the grammar.
-pub const NAME: u32 = 54;
-
-// No token: the end of the text, and a place where nothing readable stands.
-pub const END_OF_TEXT: u32 = 55;
-
-pub const UNREADABLE: u32 = 56;
+    // Whether it lies in a range.
+    #[tactic(auto, unfolding(definition::specs::Grammar::within))]
+    pub fn is_within(self, lo: Sort, hi: Sort) -> bool
+        ensures { result ≡ within (sort_number lo) (sort_number hi) (sort_number self) }
+    {
+        lo.number() <= self.number() && self.number() <= hi.number()
+    }
+}

@@ -1,15 +1,15 @@
 // Strings and block strings: StringValue (2.9.4).
-ghost use Rattle.std.specs.Prelude.{◌≡◌, false, ◌≤◌, ◌<◌, length, get_or, drop};
+ghost use Rattle.std.specs.Prelude.{◌≡◌, false, ◌≤◌, ◌<◌, eqb, length, get_or, drop};
 ghost use Rattle.definition.specs.Lexical as lexical;
 ghost use Rattle.parser_lexer.specs.Lexemes.{told};
 ghost use Rattle.parser_lexer.specs.Measures.{measured};
-ghost use Rattle.parser_lexer.specs.Strings.{is_simple, is_code, later, plain_part, BlockPart, string_token};
+ghost use Rattle.parser_lexer.specs.Strings.{is_simple, is_code, later, PlainPart, BlockPart, string_token};
 
 use crate::characters::{
     CARRIAGE_RETURN, LAST_OF_ONE, LINE_FEED, SPACE, byte_at, character, is_followed,
 };
 use crate::lexeme::Lexeme;
-use crate::sorts::STRING;
+use crate::sorts::Sort;
 
 // Whether a hexadecimal digit stands at a place.
 fn is_hex(bytes: &[u8], i: usize) -> bool
@@ -39,17 +39,32 @@ fn escape(bytes: &[u8]) -> usize
     }
 }
 
-// How many bytes go on a string where it is not closed; 0 where it is broken. Most are ASCII, and are asked for first.
+// Whether a byte of a string stands for itself alone, whatever comes after it.
+fn is_simple(b: u8) -> bool
+    ensures { result ≡ is_simple b }
+{
+    matches!(b, b' '..=b'!' | b'#'..=b'[' | b']'..=LAST_OF_ONE)
+}
+
+// How many of them stand in a row.
+fn simple_row(bytes: &[u8]) -> usize
+    ensures { result ≡ lexical.run is_simple bytes.now }
+{
+    bytes.iter().take_while(|b| is_simple(**b)).count()
+}
+
+// How many bytes go on a string where it is not closed; 0 where it is broken. Most are ASCII, and stand in rows.
 fn plain_part(bytes: &[u8]) -> usize
-    requires { 0 < length bytes.now }
-    ensures { result ≡ plain_part bytes.now }
+    requires { (0 < length bytes.now) ×
+        (eqb (get_or bytes.now 0 0) 34 ≡ false) }
+    ensures { PlainPart bytes.now result }
 {
     match bytes[0] {
         b'\\' => match escape(&bytes[1..]) {
             0 => 0,
             size => 1 + size,
         },
-        SPACE..=LAST_OF_ONE => 1,
+        SPACE..=LAST_OF_ONE => simple_row(bytes),
         LINE_FEED | CARRIAGE_RETURN => 0,
         _ => character(bytes),
     }
@@ -81,13 +96,6 @@ fn is_tripled(bytes: &[u8]) -> bool
     byte_at(bytes, 0) == b'"' && is_followed(bytes, b'"', b'"')
 }
 
-// Whether a byte of a block string stands for itself alone, whatever comes after it.
-fn is_simple(b: u8) -> bool
-    ensures { result ≡ is_simple b }
-{
-    matches!(b, b' '..=b'!' | b'#'..=b'[' | b']'..=LAST_OF_ONE)
-}
-
 // How many bytes go on a block string where it is not closed; 0 where it is broken. Most are ASCII, and stand in rows.
 fn block_part(bytes: &[u8]) -> usize
     requires { (0 < length bytes.now) ×
@@ -97,7 +105,7 @@ fn block_part(bytes: &[u8]) -> usize
     match bytes[0] {
         b'\\' if is_tripled(&bytes[1..]) => 4,
         b'"' | b'\\' => 1,
-        SPACE..=LAST_OF_ONE => bytes.iter().take_while(|b| is_simple(**b)).count(),
+        SPACE..=LAST_OF_ONE => simple_row(bytes),
         _ => character(bytes),
     }
 }
@@ -126,7 +134,7 @@ fn token(size: Option<usize>) -> Lexeme
     ensures { told result ≡ string_token (measured size) }
 {
     match size {
-        Some(size) => Lexeme::Token(STRING, size),
+        Some(size) => Lexeme::Token(Sort::String, size),
         None => Lexeme::Unreadable,
     }
 }

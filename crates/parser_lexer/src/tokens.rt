@@ -5,7 +5,8 @@ ghost use Rattle.parser_lexer.specs.Lexemes.{told};
 
 use crate::characters::is_followed;
 use crate::lexeme::Lexeme;
-use crate::{ignored, numbers, sorts, strings, words};
+use crate::sorts::Sort;
+use crate::{ignored, numbers, strings, words};
 
 // The bytes of the byte order mark, U+FEFF.
 const FIRST_OF_MARK: u8 = 239;
@@ -19,19 +20,19 @@ fn punctuator(byte: u8) -> Lexeme
     ensures { told result ≡ lexical.punctuator byte lexical.punctuators }
 {
     let sort = match byte {
-        b':' => sorts::COLON,
-        b'!' => sorts::BANG,
-        b'{' => sorts::BRACE_OPENS,
-        b'}' => sorts::BRACE_CLOSES,
-        b'(' => sorts::PAREN_OPENS,
-        b')' => sorts::PAREN_CLOSES,
-        b'[' => sorts::BRACKET_OPENS,
-        b']' => sorts::BRACKET_CLOSES,
-        b'@' => sorts::AT,
-        b'=' => sorts::EQUALS,
-        b'|' => sorts::BAR,
-        b'&' => sorts::AMP,
-        b'$' => sorts::DOLLAR,
+        b':' => Sort::Colon,
+        b'!' => Sort::Bang,
+        b'{' => Sort::BraceOpens,
+        b'}' => Sort::BraceCloses,
+        b'(' => Sort::ParenOpens,
+        b')' => Sort::ParenCloses,
+        b'[' => Sort::BracketOpens,
+        b']' => Sort::BracketCloses,
+        b'@' => Sort::At,
+        b'=' => Sort::Equals,
+        b'|' => Sort::Bar,
+        b'&' => Sort::Amp,
+        b'$' => Sort::Dollar,
         _ => return Lexeme::Unreadable,
     };
     Lexeme::Token(sort, 1)
@@ -43,7 +44,7 @@ pub fn lexeme(bytes: &[u8]) -> Lexeme
     ensures { told result ≡ lexical.lexeme bytes.now }
 {
     let byte = bytes[0];
-    if name::is_name_start(byte) {
+    if words::begins(byte) {
         let size = words::name_size(bytes);
         return Lexeme::Token(words::word_sort(&bytes[..size]), size);
     }
@@ -53,7 +54,7 @@ pub fn lexeme(bytes: &[u8]) -> Lexeme
         b'#' => Lexeme::Ignored(1 + ignored::comment(&bytes[1..])),
         b'-' => numbers::number(bytes),
         b'0'..=b'9' => numbers::number(bytes),
-        b'.' if is_followed(bytes, b'.', b'.') => Lexeme::Token(sorts::DOTS, 3),
+        b'.' if is_followed(bytes, b'.', b'.') => Lexeme::Token(Sort::Dots, 3),
         FIRST_OF_MARK if is_followed(bytes, SECOND_OF_MARK, THIRD_OF_MARK) => Lexeme::Ignored(3),
         _ => punctuator(byte),
     }

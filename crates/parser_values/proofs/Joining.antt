@@ -12,6 +12,7 @@ use Rattle.definition.specs.Cards.{Card}
 use Rattle.parser_laws.specs.Standing.{standing}
 use Rattle.parser_laws.proofs.Tests.{subset}
 use Rattle.parser_laws.proofs.Ahead.{take_token, no_token_lem, open_deep, open_part, skip_part, no_part, go_deeper, go_back, repeats}
+use Rattle.parser_lexer.specs.Sorts.{sort_number}
 use Rattle.parser_lexer.specs.Ahead.{Ahead}
 use Rattle.parser_lexer.specs.declared.cursor.Cursor.{Cursor}
 use Rattle.parser_values.specs.Reads.{End, goes_on, Ready, Reads, Within}
@@ -49,52 +50,52 @@ module _ (text : List ℕ) (level : ℕ) where
   -- ---- A token: k is the cursor behind it.
 
   pub reads_token : (c k : Cursor) → Ahead text c → Ahead text k → k.last ≡ c.ends → k.cards ≡ c.cards → (lo hi : ℕ) → hi ≤ 54 →
-      within lo hi c.sort ≡ true → level ≤ 32 → Reads (one lo hi ∷ []) text c level (Ok k)
+      within lo hi (sort_number c.sort) ≡ true → level ≤ 32 → Reads (one lo hi ∷ []) text c level (Ok k)
   reads_token c k a b e f lo hi i w l = record {
     goes = λ ss cs h.
-        take_token text c.last c.sort c.begins c.ends a ss level cs h lo hi i w l ∙
+        take_token text c.last (sort_number c.sort) c.begins c.ends a ss level cs h lo hi i w l ∙
         ap (λ (n : ℕ). standing text n ss level cs h) (sym e);
     ready = (b, f);
   }
 
-  pub lacks_token : (c : Cursor) → Ahead text c → (lo hi : ℕ) → within lo hi c.sort ≡ false → (qs : List Symbol) →
+  pub lacks_token : (c : Cursor) → Ahead text c → (lo hi : ℕ) → within lo hi (sort_number c.sort) ≡ false → (qs : List Symbol) →
       Reads (one lo hi ∷ qs) text c level (Err (NotInGrammar c.begins))
   lacks_token c a lo hi w qs = record {
-    goes = λ ss cs h. no_token_lem text c.last c.sort c.begins c.ends a (qs ++ ss) level cs h lo hi w;
+    goes = λ ss cs h. no_token_lem text c.last (sort_number c.sort) c.begins c.ends a (qs ++ ss) level cs h lo hi w;
     ready = tt;
   }
 
   -- A token of two ranges is read by either.
-  pub narrower : {c : Cursor} {e : End} → Ahead text c → (lo hi lo' hi' : ℕ) → hi ≤ 54 → hi' ≤ 54 → within lo hi c.sort ≡ true →
-      within lo' hi' c.sort ≡ true → level ≤ 32 → Reads (one lo' hi' ∷ []) text c level e → Reads (one lo hi ∷ []) text c level e
+  pub narrower : {c : Cursor} {e : End} → Ahead text c → (lo hi lo' hi' : ℕ) → hi ≤ 54 → hi' ≤ 54 → within lo hi (sort_number c.sort) ≡ true →
+      within lo' hi' (sort_number c.sort) ≡ true → level ≤ 32 → Reads (one lo' hi' ∷ []) text c level e → Reads (one lo hi ∷ []) text c level e
   narrower {c} a lo hi lo' hi' i i' w w' l f = record {
     goes = λ ss cs h.
-        take_token text c.last c.sort c.begins c.ends a ss level cs h lo hi i w l ∙
-        sym (take_token text c.last c.sort c.begins c.ends a ss level cs h lo' hi' i' w' l) ∙
+        take_token text c.last (sort_number c.sort) c.begins c.ends a ss level cs h lo hi i w l ∙
+        sym (take_token text c.last (sort_number c.sort) c.begins c.ends a ss level cs h lo' hi' i' w' l) ∙
         f.goes ss cs h;
     ready = f.ready;
   }
 
   -- ---- A part: by the alternative that the token ahead begins; by the empty one; or refused.
 
-  pub opens : {c : Cursor} {e : End} → Ahead text c → (n : Part) (r : List Symbol) → c.sort ≤ 54 → Among r (rule n) → has (first_set_of r) c.sort ≡ true →
+  pub opens : {c : Cursor} {e : End} → Ahead text c → (n : Part) (r : List Symbol) → sort_number c.sort ≤ 54 → Among r (rule n) → has (first_set_of r) (sort_number c.sort) ≡ true →
       Reads r text c level e → Reads (part n ∷ []) text c level e
   opens {c} a n r k i w f = record {
-    goes = λ ss cs h. open_part text c.last c.sort c.begins c.ends a ss level cs h n r k i w ∙ f.goes ss cs h;
+    goes = λ ss cs h. open_part text c.last (sort_number c.sort) c.begins c.ends a ss level cs h n r k i w ∙ f.goes ss cs h;
     ready = f.ready;
   }
 
-  pub skips : (c : Cursor) → Ahead text c → (n : Part) → Among [] (rule n) → has (first n) c.sort ≡ false → Reads (part n ∷ []) text c level (Ok c)
+  pub skips : (c : Cursor) → Ahead text c → (n : Part) → Among [] (rule n) → has (first n) (sort_number c.sort) ≡ false → Reads (part n ∷ []) text c level (Ok c)
   unfolding empties
   skips c a n i w = record {
-    goes = λ ss cs h. skip_part text c.last c.sort c.begins c.ends a ss level cs h n [] i refl w;
+    goes = λ ss cs h. skip_part text c.last (sort_number c.sort) c.begins c.ends a ss level cs h n [] i refl w;
     ready = (a, refl);
   }
 
-  pub refuses : (c : Cursor) → Ahead text c → (n : Part) → nullable n ≡ false → has (first n) c.sort ≡ false →
+  pub refuses : (c : Cursor) → Ahead text c → (n : Part) → nullable n ≡ false → has (first n) (sort_number c.sort) ≡ false →
       Reads (part n ∷ []) text c level (Err (NotInGrammar c.begins))
   refuses c a n i w = record {
-    goes = λ ss cs h. no_part text c.last c.sort c.begins c.ends a ss level cs h n i w;
+    goes = λ ss cs h. no_part text c.last (sort_number c.sort) c.begins c.ends a ss level cs h n i w;
     ready = tt;
   }
 
@@ -118,12 +119,12 @@ module _ (text : List ℕ) (level : ℕ) where
       back (Err x) ss cs h = refl
 
   -- The opener of a 33rd level.
-  pub too_deep_lem : (c : Cursor) → Ahead text c → (lo hi : ℕ) → hi ≤ 54 → within lo hi c.sort ≡ true → 32 ≤ level → (qs : List Symbol) →
+  pub too_deep_lem : (c : Cursor) → Ahead text c → (lo hi : ℕ) → hi ≤ 54 → within lo hi (sort_number c.sort) ≡ true → 32 ≤ level → (qs : List Symbol) →
       Reads (mark deeper ∷ one lo hi ∷ qs) text c level (Err (NestedTooDeep c.begins))
   too_deep_lem c a lo hi i w l qs = record {
     goes = λ ss cs h.
         go_deeper text c.last level (one lo hi ∷ (qs ++ ss)) cs h ∙
-        open_deep text c.last c.sort c.begins c.ends a (qs ++ ss) (level + 1) cs h lo hi i w (omega arith);
+        open_deep text c.last (sort_number c.sort) c.begins c.ends a (qs ++ ss) (level + 1) cs h lo hi i w (omega arith);
     ready = tt;
   }
 
@@ -158,21 +159,21 @@ module _ (text : List ℕ) (level : ℕ) where
 
   -- A repeated part m = n m before its closer x, which does not stand ahead: n comes first.
   pub once_more : {b c : Cursor} (ps us : List Symbol) (n m : Part) → Among (part n ∷ part m ∷ []) (rule m) → Among [] (rule m) → nullable n ≡ false →
-      subset (first m) (first n) ≡ true → subset (first n) ((0, 54) ∷ []) ≡ true → (x : ℕ) → (c.sort ≡ x → ⊥) →
+      subset (first m) (first n) ≡ true → subset (first n) ((0, 54) ∷ []) ≡ true → (x : ℕ) → (sort_number c.sort ≡ x → ⊥) →
       Within ps text b level (part m ∷ one x x ∷ us) c → Within ps text b level (part n ∷ part m ∷ one x x ∷ us) c
   once_more {b} {c} ps us n m i j u f g x z w = record {
-    goes = λ ss cs h. w.goes ss cs h ∙ repeats text c.last c.sort c.begins c.ends w.ahead (us ++ ss) level cs h n m i j u f g x z;
+    goes = λ ss cs h. w.goes ss cs h ∙ repeats text c.last (sort_number c.sort) c.begins c.ends w.ahead (us ++ ss) level cs h n m i j u f g x z;
     ahead = w.ahead;
     cards = w.cards;
   }
 
   -- An alternative of the part that is next.
-  pub opened : {b c : Cursor} (ps us : List Symbol) (n : Part) (r : List Symbol) → c.sort ≤ 54 → Among r (rule n) → has (first_set_of r) c.sort ≡ true →
+  pub opened : {b c : Cursor} (ps us : List Symbol) (n : Part) (r : List Symbol) → sort_number c.sort ≤ 54 → Among r (rule n) → has (first_set_of r) (sort_number c.sort) ≡ true →
       Within ps text b level (part n ∷ us) c → Within ps text b level (r ++ us) c
   opened {b} {c} ps us n r k i w f = record {
     goes = λ ss cs h.
         f.goes ss cs h ∙
-        open_part text c.last c.sort c.begins c.ends f.ahead (us ++ ss) level cs h n r k i w ∙
+        open_part text c.last (sort_number c.sort) c.begins c.ends f.ahead (us ++ ss) level cs h n r k i w ∙
         ap (λ (x : List Symbol). standing text c.last x level cs h) (sym (append_assoc r us ss));
     ahead = f.ahead;
     cards = f.cards;

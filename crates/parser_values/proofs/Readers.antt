@@ -12,6 +12,7 @@ use Rattle.definition.specs.GrammarSets.{nullable, first}
 use Rattle.definition.specs.Machine.{has, first_set_of}
 use Rattle.parser_laws.proofs.Tests.{clash, within_is, within_bounds, subset, subset_has, has_append}
 use Rattle.parser_laws.proofs.Picking.{other}
+use Rattle.parser_lexer.specs.Sorts.{sort_number}
 use Rattle.parser_lexer.specs.Ahead.{Ahead, Next}
 use Rattle.parser_lexer.specs.Places.{Lies}
 use Rattle.parser_lexer.specs.declared.cursor.Cursor.{Cursor}
@@ -34,8 +35,8 @@ pub handed : (r : End) (e : SyntaxError) → IsErr r × IsErrAnd r (λ x. x ≡ 
 handed r e h = let p = err_from_is_err_and r h.1 in p.1 ∙ ap Err p.2
 
 -- The places of a cursor of a text lie in it.
-pub lies : {text : List ℕ} (c : Cursor) → c.text.now ≡ text → Lies (length text) c.sort c.begins c.ends c.last c.cards
-lies c e = subst (λ (t : List ℕ). Lies (length t) c.sort c.begins c.ends c.last c.cards) e c.lies
+pub lies : {text : List ℕ} (c : Cursor) → c.text.now ≡ text → Lies (length text) (sort_number c.sort) c.begins c.ends c.last c.cards
+lies c e = subst (λ (t : List ℕ). Lies (length t) (sort_number c.sort) c.begins c.ends c.last c.cards) e c.lies
 
 pub stays : (text : List ℕ) (c : Cursor) (e : End) → Moves text c e → Stays text c e
 stays text c (Ok k) m = (m.0, omega arith)
@@ -124,10 +125,10 @@ module _ {text : List ℕ} {level : ℕ} where
 
   -- ---- A token whose sort the code has seen.
 
-  pub token : {c k : Cursor} (x : ℕ) → c.sort ≡ x → x ≤ 54 → level ≤ 32 → c.text.now ≡ text → Next text c.ends c.cards k → Must (one x x ∷ []) text c level (Ok k)
+  pub token : {c k : Cursor} (x : ℕ) → sort_number c.sort ≡ x → x ≤ 54 → level ≤ 32 → c.text.now ≡ text → Next text c.ends c.cards k → Must (one x x ∷ []) text c level (Ok k)
   token {c} {k} x i s l m n =
       let p = lies c m in (
-        λ a. reads_token text level c k a n.0 n.2 n.3 x x s (within_is x x c.sort (omega arith) (omega arith)) l,
+        λ a. reads_token text level c k a n.0 n.2 n.3 x x s (within_is x x (sort_number c.sort) (omega arith) (omega arith)) l,
         (n.1, omega (arith, p.4 (omega arith), n.2)),
       )
 
@@ -135,12 +136,12 @@ module _ {text : List ℕ} {level : ℕ} where
 
   -- By the alternative r, where no other begins with the token ahead. If r does not begin so either, both are refused.
   pub by_rest : {c : Cursor} {e : End} → Ahead text c → (n : Part) (r : List Symbol) → Among r (rule n) → nullable n ≡ false →
-      subset (first_set_of r) ((0, 54) ∷ []) ≡ true → (has (first_set_of r) c.sort ≡ false →
-      (has (first n) c.sort ≡ false) × Reads r text c level (Err (NotInGrammar c.begins))) → Reads r text c level e → Reads (part n ∷ []) text c level e
-  by_rest {c} {e} a n r i u g q h = go (has (first_set_of r) c.sort) refl
+      subset (first_set_of r) ((0, 54) ∷ []) ≡ true → (has (first_set_of r) (sort_number c.sort) ≡ false →
+      (has (first n) (sort_number c.sort) ≡ false) × Reads r text c level (Err (NotInGrammar c.begins))) → Reads r text c level e → Reads (part n ∷ []) text c level e
+  by_rest {c} {e} a n r i u g q h = go (has (first_set_of r) (sort_number c.sort)) refl
     where
-      go : (t : Bool) → has (first_set_of r) c.sort ≡ t → Reads (part n ∷ []) text c level e
-      go true k = opens text level a n r (a_token c.sort (subset_has (first_set_of r) ((0, 54) ∷ []) c.sort g k)) i k h
+      go : (t : Bool) → has (first_set_of r) (sort_number c.sort) ≡ t → Reads (part n ∷ []) text c level e
+      go true k = opens text level a n r (a_token (sort_number c.sort) (subset_has (first_set_of r) ((0, 54) ∷ []) (sort_number c.sort) g k)) i k h
       go false k =
           let z = q k in
           record {
@@ -150,41 +151,41 @@ module _ {text : List ℕ} {level : ℕ} where
 
   -- The same of an alternative that begins with a token; what begins the part and not r lies in `others`.
   pub by_token : {c : Cursor} {e : End} (n : Part) (lo hi : ℕ) (rest : List Symbol) (others : List (ℕ × ℕ)) → Among (one lo hi ∷ rest) (rule n) →
-      nullable n ≡ false → subset (first n) ((lo, hi) ∷ others) ≡ true → subset ((lo, hi) ∷ []) ((0, 54) ∷ []) ≡ true → has others c.sort ≡ false →
+      nullable n ≡ false → subset (first n) ((lo, hi) ∷ others) ≡ true → subset ((lo, hi) ∷ []) ((0, 54) ∷ []) ≡ true → has others (sort_number c.sort) ≡ false →
       Must (one lo hi ∷ rest) text c level e → Must (part n ∷ []) text c level e
   unfolding first_set_of
   by_token {c} n lo hi rest others i u f g w h = (
     λ a. by_rest a n (one lo hi ∷ rest) i u g (λ k. (
-      none k (has (first n) c.sort) refl,
-      lacks_token text level c a lo hi (lacking lo hi c.sort k) rest,
+      none k (has (first n) (sort_number c.sort)) refl,
+      lacks_token text level c a lo hi (lacking lo hi (sort_number c.sort) k) rest,
     )) (h.0 a),
     h.1,
   )
     where
-      none : has ((lo, hi) ∷ []) c.sort ≡ false → (t : Bool) → has (first n) c.sort ≡ t → t ≡ false
-      none k true z = meet (has_append ((lo, hi) ∷ []) others c.sort (subset_has (first n) ((lo, hi) ∷ others) c.sort f z))
+      none : has ((lo, hi) ∷ []) (sort_number c.sort) ≡ false → (t : Bool) → has (first n) (sort_number c.sort) ≡ t → t ≡ false
+      none k true z = meet (has_append ((lo, hi) ∷ []) others (sort_number c.sort) (subset_has (first n) ((lo, hi) ∷ others) (sort_number c.sort) f z))
         where
-          meet : (has ((lo, hi) ∷ []) c.sort ≡ true) ⊎ (has others c.sort ≡ true) → true ≡ false
+          meet : (has ((lo, hi) ∷ []) (sort_number c.sort) ≡ true) ⊎ (has others (sort_number c.sort) ≡ true) → true ≡ false
           meet (inl p) = clash (sym k ∙ p)
           meet (inr p) = clash (sym w ∙ p)
       none k false z = refl
 
   -- By the alternative that the token ahead begins.
-  pub chosen : {c : Cursor} {e : End} (n : Part) (r : List Symbol) (x : ℕ) → Among r (rule n) → has (first_set_of r) x ≡ true → x ≤ 54 → c.sort ≡ x →
+  pub chosen : {c : Cursor} {e : End} (n : Part) (r : List Symbol) (x : ℕ) → Among r (rule n) → has (first_set_of r) x ≡ true → x ≤ 54 → sort_number c.sort ≡ x →
       Must r text c level e → Must (part n ∷ []) text c level e
   chosen n r x i w s k h = (λ a. opens text level a n r (omega arith) i (ap (has (first_set_of r)) k ∙ w) (h.0 a), h.1)
 
   -- A part of one alternative, or empty: it stands there, from its first token on, which the code has seen; or not.
-  pub there_it_is : {c k : Cursor} {e : End} (n : Part) (x : ℕ) (rest : List Symbol) → Among (one x x ∷ rest) (rule n) → x ≤ 54 → level ≤ 32 → c.sort ≡ x →
+  pub there_it_is : {c k : Cursor} {e : End} (n : Part) (x : ℕ) (rest : List Symbol) → Among (one x x ∷ rest) (rule n) → x ≤ 54 → level ≤ 32 → sort_number c.sort ≡ x →
       c.text.now ≡ text → Next text c.ends c.cards k → May rest k.text.now k level e → May (part n ∷ []) text c level e
   there_it_is {c} {k} {e} n x rest i s l q p z f =
       let h : Must (one x x ∷ rest) text c level e = joined_may (token x q s l p z) f in
-      (λ a. opens text level a n (one x x ∷ rest) (omega arith) i (begins_with x c.sort rest q) (h.0 a), stays text c e h.1)
+      (λ a. opens text level a n (one x x ∷ rest) (omega arith) i (begins_with x (sort_number c.sort) rest q) (h.0 a), stays text c e h.1)
 
-  pub not_there : {c : Cursor} (n : Part) (x : ℕ) → Among [] (rule n) → first n ≡ (x, x) ∷ [] → (c.sort ≡ x → ⊥) → c.text.now ≡ text →
+  pub not_there : {c : Cursor} (n : Part) (x : ℕ) → Among [] (rule n) → first n ≡ (x, x) ∷ [] → (sort_number c.sort ≡ x → ⊥) → c.text.now ≡ text →
       May (part n ∷ []) text c level (Ok c)
   not_there {c} n x i f k l =
-      (λ a. skips text level c a n i (ap (λ (l : List (ℕ × ℕ)). has l c.sort) f ∙ not_among x c.sort k), (l, omega arith))
+      (λ a. skips text level c a n i (ap (λ (l : List (ℕ × ℕ)). has l (sort_number c.sort)) f ∙ not_among x (sort_number c.sort) k), (l, omega arith))
 
   -- ---- A level; and the opener of a 33rd.
 
@@ -194,11 +195,11 @@ module _ {text : List ℕ} {level : ℕ} where
       let f : Must ps text c (level + 1) e = rw i at h in
       (λ a. a_level_deeper text level ps (f.0 a), f.1)
 
-  pub no_level : {c : Cursor} (x : ℕ) (qs : List Symbol) → c.sort ≡ x → x ≤ 54 → 32 ≤ level → c.text.now ≡ text →
+  pub no_level : {c : Cursor} (x : ℕ) (qs : List Symbol) → sort_number c.sort ≡ x → x ≤ 54 → 32 ≤ level → c.text.now ≡ text →
       Must (mark deeper ∷ one x x ∷ qs) text c level (Err (NestedTooDeep c.begins))
   no_level {c} x qs k s l i =
       let p = lies c i in
-      (λ a. too_deep_lem text level c a x x s (within_is x x c.sort (omega arith) (omega arith)) l qs, omega (arith, p.1, p.2))
+      (λ a. too_deep_lem text level c a x x s (within_is x x (sort_number c.sort) (omega arith) (omega arith)) l qs, omega (arith, p.1, p.2))
 
   -- ---- In the middle, and loops.
 
@@ -214,7 +215,7 @@ module _ {text : List ℕ} {level : ℕ} where
 
   -- The alternative that the token ahead begins of the part that is next.
   pub opening : {b c : Cursor} {ps : List Symbol} (us : List Symbol) (n : Part) (r : List Symbol) (x : ℕ) → Among r (rule n) → has (first_set_of r) x ≡ true →
-      x ≤ 54 → c.sort ≡ x → Mid ps text b level (part n ∷ us) c → Mid ps text b level (r ++ us) c
+      x ≤ 54 → sort_number c.sort ≡ x → Mid ps text b level (part n ∷ us) c → Mid ps text b level (r ++ us) c
   opening {b} {c} {ps} us n r x i w s k m =
       (λ a. opened text level ps us n r (omega arith) i (ap (has (first_set_of r)) k ∙ w) (m.0 a), m.1, m.2)
 
@@ -239,15 +240,15 @@ step_falls text k j i m =
     let n = lies k i in
     omega (arith, l, n, m.1)
 
-pub takes : (lo hi : ℕ) (c k : Cursor) → hi ≤ 54 → within lo hi c.sort ≡ true → Next c.text.now c.ends c.cards k → FlatRead (one lo hi ∷ []) c (Ok k)
+pub takes : (lo hi : ℕ) (c k : Cursor) → hi ≤ 54 → within lo hi (sort_number c.sort) ≡ true → Next c.text.now c.ends c.cards k → FlatRead (one lo hi ∷ []) c (Ok k)
 takes lo hi c k i w n =
     let p = lies c refl in
-    let b = within_bounds lo hi c.sort w in (
+    let b = within_bounds lo hi (sort_number c.sort) w in (
       λ a level s. reads_token c.text.now level c k a n.0 n.2 n.3 lo hi i w s,
       (n.1, omega (arith, p.4 (omega arith), n.2)),
     )
 
-pub lacks : (lo hi : ℕ) (c : Cursor) → within lo hi c.sort ≡ false → FlatRead (one lo hi ∷ []) c (Err (NotInGrammar c.begins))
+pub lacks : (lo hi : ℕ) (c : Cursor) → within lo hi (sort_number c.sort) ≡ false → FlatRead (one lo hi ∷ []) c (Err (NotInGrammar c.begins))
 lacks lo hi c w =
     let p = lies c refl in
     (λ a level s. lacks_token c.text.now level c a lo hi w [], omega (arith, p.1, p.2))
@@ -285,7 +286,7 @@ pub record Repeated (n m : Part) (y : ℕ) : Type 0 where
 
 module _ {text : List ℕ} {level : ℕ} {n m : Part} {y : ℕ} (t : Repeated n m y) where
   -- No closer: another n. (If none begins so, both are refused.)
-  another : {b c : Cursor} {ps : List Symbol} → (c.sort ≡ y → ⊥) → Mid ps text b level (any_of m y) c → Mid ps text b level (some_of n m y) c
+  another : {b c : Cursor} {ps : List Symbol} → (sort_number c.sort ≡ y → ⊥) → Mid ps text b level (any_of m y) c → Mid ps text b level (some_of n m y) c
   another {b} {c} {ps} k i = (λ a. once_more text level ps [] n m t.more t.none t.never_empty t.begins t.tokens y k (i.0 a), i.1, i.2)
 
   read : {b c j : Cursor} {ps : List Symbol} → Mid ps text b level (some_of n m y) c → Must (part n ∷ []) c.text.now c level (Ok j) →
@@ -297,7 +298,7 @@ module _ {text : List ℕ} {level : ℕ} {n m : Part} {y : ℕ} (t : Repeated n 
   refuse i f = fails (any_of m y) i (f.0, f.1)
 
   -- Any number, with the closer or an n next at c.
-  pub any_closes : {b c k : Cursor} {ps : List Symbol} → level ≤ 32 → c.sort ≡ y → Next c.text.now c.ends c.cards k → Mid ps text b level (any_of m y) c →
+  pub any_closes : {b c k : Cursor} {ps : List Symbol} → level ≤ 32 → sort_number c.sort ≡ y → Next c.text.now c.ends c.cards k → Mid ps text b level (any_of m y) c →
       May ps text b level (Ok k)
   any_closes {b} {c} {k} {ps} l e x i =
       let skip : May (part m ∷ []) c.text.now c level (Ok c) = (λ a. skips c.text.now level c a m t.none (ap (has (first m)) e ∙ t.closed), (refl, omega arith)) in
@@ -305,11 +306,11 @@ module _ {text : List ℕ} {level : ℕ} {n m : Part} {y : ℕ} (t : Repeated n 
       let both : Must (any_of m y) c.text.now c level (Ok k) = may_joined skip close in
       ends i (may (must_in i.1 both))
 
-  pub any_refused : {b c : Cursor} {e : SyntaxError} → (c.sort ≡ y → ⊥) → Mid (any_of m y) text b level (any_of m y) c →
+  pub any_refused : {b c : Cursor} {e : SyntaxError} → (sort_number c.sort ≡ y → ⊥) → Mid (any_of m y) text b level (any_of m y) c →
       Must (part n ∷ []) c.text.now c level (Err e) → May (any_of m y) text b level (Err e)
   any_refused k i f = refuse (another k i) f
 
-  pub any_next : {b c j : Cursor} → (c.sort ≡ y → ⊥) → Mid (any_of m y) text b level (any_of m y) c →
+  pub any_next : {b c j : Cursor} → (sort_number c.sort ≡ y → ⊥) → Mid (any_of m y) text b level (any_of m y) c →
       Must (part n ∷ []) c.text.now c level (Ok j) → Mid (any_of m y) text b level (any_of m y) j
   any_next k i f = read (another k i) f
 
@@ -318,18 +319,18 @@ module _ {text : List ℕ} {level : ℕ} {n m : Part} {y : ℕ} (t : Repeated n 
       May (some_of n m y) text b level (Err e)
   some_refused i f = refuse i f
 
-  pub some_closes : {b c j k : Cursor} → level ≤ 32 → j.sort ≡ y → Next j.text.now j.ends j.cards k →
+  pub some_closes : {b c j k : Cursor} → level ≤ 32 → sort_number j.sort ≡ y → Next j.text.now j.ends j.cards k →
       Mid (some_of n m y) text b level (some_of n m y) c → Must (part n ∷ []) c.text.now c level (Ok j) → May (some_of n m y) text b level (Ok k)
   some_closes l z x i f = any_closes l z x (read i f)
 
-  pub some_next : {b c j : Cursor} → (j.sort ≡ y → ⊥) → Mid (some_of n m y) text b level (some_of n m y) c →
+  pub some_next : {b c j : Cursor} → (sort_number j.sort ≡ y → ⊥) → Mid (some_of n m y) text b level (some_of n m y) c →
       Must (part n ∷ []) c.text.now c level (Ok j) → Mid (some_of n m y) text b level (some_of n m y) j
   some_next z i f = another z (read i f)
 
 -- ---- A part that is a repeated part in brackets, which are a level: from the opener on, and at a level too deep.
 
 module _ {text : List ℕ} {level : ℕ} {c : Cursor} (n m : Part) (x y : ℕ)
-    (i : Among (mark deeper ∷ one x x ∷ part m ∷ one y y ∷ mark shallower ∷ []) (rule n)) (s : x ≤ 54) (k : c.sort ≡ x) (p : c.text.now ≡ text) where
+    (i : Among (mark deeper ∷ one x x ∷ part m ∷ one y y ∷ mark shallower ∷ []) (rule n)) (s : x ≤ 54) (k : sort_number c.sort ≡ x) (p : c.text.now ≡ text) where
   pub bracketed : {k : Cursor} {inner : ℕ} {e : End} → inner ≡ level + 1 → inner ≤ 32 → Next text c.ends c.cards k → May (any_of m y) k.text.now k inner e →
       Must (part n ∷ []) text c level e
   bracketed {k = j} {inner} {e} q l z f =

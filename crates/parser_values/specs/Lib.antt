@@ -1,3 +1,4 @@
 -- What the parser's functions promise.
 pub mod Errors
+pub mod Parentheses
 pub mod Reads

@@ -5,11 +5,11 @@ ghost use Rattle.parser_values.specs.Reads.{MayRead};
 
 use crate::take_optional;
 use parser_lexer::Cursor;
-use parser_lexer::sorts::STRING;
+use parser_lexer::sorts::Sort;
 
 // A description, or none.
 pub fn description(c: Cursor) -> Cursor
     ensures { MayRead (part Description? ∷ []) c.entry 0 (Ok result) }
 {
-    take_optional(c, STRING)
+    take_optional(c, Sort::String)
 }

@@ -6,14 +6,14 @@ ghost use Rattle.parser_values.specs.Reads.{MustRead, MayRead};
 use crate::arguments::arguments;
 use crate::{SyntaxError, take};
 use parser_lexer::Cursor;
-use parser_lexer::sorts::{AT, FIRST_NAME, NAME};
+use parser_lexer::sorts::{FIRST_NAME, Sort};
 
 // A directive: `@`, a name, and arguments or none.
 fn directive(c: Cursor) -> Result<Cursor, SyntaxError>
     ensures { MustRead (part Directive ∷ []) c.entry 0 result }
 {
-    let k = take(c, AT, AT)?;
-    let j = take(k, FIRST_NAME, NAME)?;
+    let k = take(c, Sort::At, Sort::At)?;
+    let j = take(k, FIRST_NAME, Sort::Name)?;
     arguments(j)
 }
 
@@ -22,7 +22,7 @@ pub fn directives(c: Cursor) -> Result<Cursor, SyntaxError>
     ensures { MayRead (part Directive* ∷ []) c.entry 0 result }
 {
     let mut k = c;
-    while k.sort == AT {
+    while k.sort == Sort::At {
         let j = directive(k)?;
         k = j;
     }

@@ -5,7 +5,7 @@ ghost use Rattle.parser_values.specs.Reads.{MustRead};
 
 use crate::{SyntaxError, take, take_optional};
 use parser_lexer::Cursor;
-use parser_lexer::sorts::{BANG, BRACKET_CLOSES, BRACKET_OPENS, FIRST_NAME, NAME};
+use parser_lexer::sorts::{FIRST_NAME, Sort};
 
 // A type reference, with depth levels left: a name, or a type reference in brackets, which is a level; and `!` after it, or none.
 #[tactic(auto, using(crate::proofs::TypeReferences::list_deep))]
@@ -13,15 +13,15 @@ pub fn type_reference(c: Cursor, depth: usize) -> Result<Cursor, SyntaxError>
     requires { depth ≤ 32 }
     ensures { MustRead (part TypeReference ∷ []) c.entry (32 - depth) result }
 {
-    if c.sort != BRACKET_OPENS {
-        let k = take(c, FIRST_NAME, NAME)?;
-        return Ok(take_optional(k, BANG));
+    if c.sort != Sort::BracketOpens {
+        let k = take(c, FIRST_NAME, Sort::Name)?;
+        return Ok(take_optional(k, Sort::Bang));
     }
     if depth == 0 {
         return Err(SyntaxError::NestedTooDeep(c.begins));
     }
     let k = c.next();
     let j = type_reference(k, depth - 1)?;
-    let e = take(j, BRACKET_CLOSES, BRACKET_CLOSES)?;
-    Ok(take_optional(e, BANG))
+    let e = take(j, Sort::BracketCloses, Sort::BracketCloses)?;
+    Ok(take_optional(e, Sort::Bang))
 }

@@ -5,28 +5,27 @@ ghost use Rattle.parser_values.specs.Reads.{MustRead, MayRead};
 
 use crate::{SyntaxError, name_and_colon, take};
 use parser_lexer::Cursor;
-use parser_lexer::sorts::{
-    BRACE_CLOSES, BRACE_OPENS, BRACKET_CLOSES, BRACKET_OPENS, EQUALS, INT, NAME,
-};
+use parser_lexer::sorts::Sort;
 
+// Stays: that a depth is at most 32 is one clause of three functions; a type for it would be the same number behind the same clause, made at each level.
 // A value, with depth levels left: one token; a list, which is a level; or an object.
 #[cycle(object_value_value)]
 pub fn value(c: Cursor, depth: usize) -> Result<Cursor, SyntaxError>
     requires { depth ≤ 32 }
     ensures { MustRead (part Value ∷ []) c.entry (32 - depth) result }
 {
-    if c.sort == BRACE_OPENS {
+    if c.sort == Sort::BraceOpens {
         return object_value(c, depth);
     }
-    if c.sort != BRACKET_OPENS {
-        return take(c, INT, NAME);
+    if c.sort != Sort::BracketOpens {
+        return take(c, Sort::Int, Sort::Name);
     }
     if depth == 0 {
         return Err(SyntaxError::NestedTooDeep(c.begins));
     }
     let mut k = c.next();
     loop {
-        if k.sort == BRACKET_CLOSES {
+        if k.sort == Sort::BracketCloses {
             return Ok(k.next());
         }
         let j = value(k, depth - 1)?;
@@ -40,7 +39,7 @@ pub fn object_value(c: Cursor, depth: usize) -> Result<Cursor, SyntaxError>
     requires { depth ≤ 32 }
     ensures { MustRead (part ObjectValue ∷ []) c.entry (32 - depth) result }
 {
-    if c.sort != BRACE_OPENS {
+    if c.sort != Sort::BraceOpens {
         return Err(SyntaxError::NotInGrammar(c.begins));
     }
     if depth == 0 {
@@ -48,7 +47,7 @@ pub fn object_value(c: Cursor, depth: usize) -> Result<Cursor, SyntaxError>
     }
     let mut k = c.next();
     loop {
-        if k.sort == BRACE_CLOSES {
+        if k.sort == Sort::BraceCloses {
             return Ok(k.next());
         }
         let j = name_and_colon(k)?;
@@ -61,7 +60,7 @@ pub fn object_value(c: Cursor, depth: usize) -> Result<Cursor, SyntaxError>
 pub fn default_value(c: Cursor) -> Result<Cursor, SyntaxError>
     ensures { MayRead (part Default? ∷ []) c.entry 0 result }
 {
-    if c.sort != EQUALS {
+    if c.sort != Sort::Equals {
         return Ok(c);
     }
     let k = c.next();

@@ -4,7 +4,7 @@ ghost use Rattle.definition.specs.Answers.{field_refusal, field_number, field_me
 ghost use Rattle.definition.specs.Numbers.{field_lookup};
 
 use crate::case::FILE_CAPACITY;
-use api::answers::{field_card, field_meta, field_number, field_refusal};
+use api::answers::FieldAnswer;
 use definition::build_error::ERROR_NUMBERS;
 use definition::layout::READ_CARDS_CAPACITY;
 use definition::{Answer, Drawing, FieldFound, FieldLookupError, Tallies};
@@ -81,10 +81,11 @@ pub fn hold_field(
     ensures meta { OnOk result (field_meta (field_lookup answer) ≡ meta) }
     ensures card { OnOk result (field_card (field_lookup answer) ≡ card) }
 {
-    let came_refusal = field_refusal(answer) as usize;
-    let came_kind = field_number(answer) as usize;
-    let came_meta = field_meta(answer) as usize;
-    let came_card = field_card(answer) as usize;
+    let came = FieldAnswer::from(answer);
+    let came_refusal = came.refusal as usize;
+    let came_kind = came.number as usize;
+    let came_meta = came.meta as usize;
+    let came_card = came.card as usize;
     if came_refusal != refusal || came_kind != kind || came_meta != meta || came_card != card {
         return Err(Failure::Field {
             refusal: came_refusal,

@@ -1,6 +1,6 @@
 // Lookups over the store and the rows that are lent, and what is expected of them.
 use crate::held::{LIST_CAPACITY, hold_answer, hold_field, hold_list, hold_name, unwritten};
-use api::answers::{subtype_number, subtype_refusal};
+use api::answers::SubtypeAnswer;
 use definition::{Answer, OperationType};
 use replay_calls::command::{Filling, Lookup};
 use replay_calls::failure::Failure;
@@ -62,9 +62,10 @@ impl Lent<'_> {
     fn is_subtype(&self, line: &Line) -> Result<(), Failure> {
         let [number, yes] = line.numbers::<2>(3)?;
         let answer = api::is_subtype(self.text, self.words, self.rows, line.word(1), line.word(2));
+        let told = SubtypeAnswer::from(answer);
         let came = Answer {
-            number: subtype_refusal(answer),
-            card: subtype_number(answer) as usize,
+            number: told.refusal,
+            card: told.yes as usize,
         };
         hold_answer(came, number, yes)
     }

@@ -8,7 +8,6 @@ use native.Mathlib.Omega.{arith}
 use borrow.Author.Tests.{eq-eqb, eqb-true, eqb-false, not-true, not-false}
 use lib.Dec.{eqb}
 use lib.ListN.{length, length-map, take, drop, length-append}
-use lib.Seq.{take_at, take-length}
 use Rattle.definition.specs.Lists.{choose, any, filter, firsts, flat_map, written, All}
 use Rattle.definition.specs.Answers.{absent}
 use Rattle.definition.specs.Cards.{is_root}
@@ -369,16 +368,8 @@ module _ (text words rows : List ℕ) (ok : sound text words ≡ true) (e : rows
       let b = pair_length (all_implementing (stored_parts text words) (lent_rows rows)) in
       omega arith
 
-  -- The first words of an array are the pairs.
-  module _ (pairs₀ pairs lent : List ℕ) (n : ℕ) (m : n ≡ length (pair_words (all_implementing (stored_parts text words) (lent_rows rows))))
-      (w : pairs ≡ written pairs₀ 0 (pair_words (all_implementing (stored_parts text words) (lent_rows rows)))) (l : lent ≡ take n pairs) where
-    lent_is : lent ≡ pair_words (all_implementing (stored_parts text words) (lent_rows rows))
-    unfolding written
-    lent_is =
-        let ps = pair_words (all_implementing (stored_parts text words) (lent_rows rows)) in
-        l ∙ ap (take n) w ∙ ap (λ (k : ℕ). take k (take (length ps) ps ++ drop (0 + length ps) pairs₀)) m
-        ∙ take_at (take (length ps) ps) (drop (0 + length ps) pairs₀) (length ps) (ap length (take-length ps)) ∙ take-length ps
-
+  -- What was collected is lent again.
+  module _ (lent : List ℕ) (lent_is : lent ≡ pair_words (all_implementing (stored_parts text words) (lent_rows rows))) where
     rows_are : lent_rows lent ≡ map as_row (all_implementing (stored_parts text words) (lent_rows rows))
     rows_are = ap lent_rows lent_is ∙ pair_rows (all_implementing (stored_parts text words) (lent_rows rows))
 

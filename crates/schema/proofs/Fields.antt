@@ -6,7 +6,7 @@ use mathlib.Core.Option.{Option, none, some}
 use Prim.Native.Nat.{ℕ, suc, ◌+◌, ◌*◌}
 use lib.ListN.{drop, get_or}
 use Rattle.definition.specs.declared.FieldFound.TheVariants.{Explicit}
-use Rattle.definition.specs.declared.FieldLookup.TheVariants.{Found, NoSuchType, NoSuchField}
+use Rattle.definition.specs.Answers.{Found, NoSuchType, NoSuchField}
 use Rattle.definition.specs.Lists.{found, find}
 use Rattle.definition.specs.Headings.{NamedCard}
 use Rattle.definition.specs.Catalogue.{Row}

@@ -7,11 +7,9 @@ pub mod Subtypes
 -- iter_origins and extensions: the turns of their walks, and that the lists fit.
 pub mod OriginsLaws
 pub mod OriginsFit
--- implementers_map. SearchStops: which interfaces count. Gather: the walk over the rows. Pairs: its turns. ThreeWords: three words at once.
 -- Groups: the groups over the pairs. AllGroups: all of them.
 pub mod SearchStops
 pub mod Gather
 pub mod Pairs
-pub mod ThreeWords
 pub mod Groups
 pub mod AllGroups

@@ -1,70 +1,114 @@
--- The origins of the schema definition's parts: the next part of the rows before the first type row, and the turns of the walks over the parts.
+-- The origins of the schema definition's parts: the rows before the first type row, and the turns of the walks over them.
 use mathlib.Core.Path.{◌≡◌, refl, sym, ◌∙◌, ap}
 use mathlib.Core.List.{List, [], ◌∷◌, ◌++◌, map}
 use mathlib.Core.Bool.{Bool, true, false, ◌&&◌, ◌||◌, not}
-use Prim.Native.Nat.{ℕ, ◌+◌, ◌*◌, ◌/◌, ◌≤◌, ◌<◌}
+use Prim.Native.Nat.{ℕ, zero, suc, ◌+◌, ◌*◌, ◌/◌, ◌≤◌, ◌<◌}
 use native.Mathlib.Omega.{arith}
 use borrow.Author.Tests.{eq-eqb, ne_eqb, eqb-true, eqb-false}
 use lib.Dec.{eqb}
-use lib.ListN.{length, take, drop, get_or, set}
-use Rattle.definition.specs.Lists.{choose, filter, any, firsts}
+use lib.ListN.{length, take, drop, length-drop}
+use lib.Seq.{take-length, length-take-le}
+use Rattle.std.proofs.lemmas.List.{get_or-take, drop-take}
+use Rattle.definition.specs.Lists.{choose, chunks, filter, any, firsts}
 use Rattle.definition.specs.Answers.{absent}
-use Rattle.definition.specs.Cards.{is_type}
-use Rattle.definition.specs.Catalogue.{Row}
-use Rattle.definition.specs.LentRows.{lent_rows, is_type_row}
+use Rattle.definition.specs.Catalogue.{Row, row}
+use Rattle.definition.specs.LentRows.{lent_row, lent_rows, is_type_row}
 use Rattle.definition.specs.Lookups.{blocks, is_schema_part, origin_of, origin_list, is_card, extension_list}
 use Rattle.std.specs.List.{list_any}
-use Rattle.schema_rows.specs.Rows.{row_at}
-use Rattle.std.specs.List.{list_any}
-use Rattle.schema_rows.specs.Rows.{row_at}
-use Rattle.schema_rows.proofs.Rows.{row_next, row_end}
+use Rattle.schema_rows.specs.Rows.{row_at, found_from}
+use Rattle.std.specs.Prelude.{Option as Place, Some, None}
+use Rattle.std.specs.Option.{unwrap_or}
+use Rattle.schema_rows.proofs.Rows.{length_rows, found_some, found_inside, never, never_row}
+use Rattle.schema.proofs.Groups.{filter_end, filter_here, filter_over}
 use Rattle.schema.specs.Extensions.{is_new}
 use Rattle.schema_rows.proofs.SearchLaws.{blocks_type, blocks_under, blocks_nil}
-use Rattle.schema_rows.proofs.Listing.{Listing, listing_start, listing_push, listing_length, pushed_words}
 
--- ---- The parts of the schema definition, row by row.
+-- ---- The rows before the first type row.
 
-module _ (x : Row) (xs : List Row) where
-  kept_stop : is_type_row x ≡ true → filter is_schema_part (blocks (x ∷ xs)).0 ≡ []
-  unfolding filter
-  kept_stop s = rw (blocks_type x xs s)
+chunks_taken : (k n : ℕ) (ws : List ℕ) → k ≤ n → 3 * n ≤ length ws → chunks 3 lent_row k (take (3 * k) ws) ≡ take k (chunks 3 lent_row n ws)
+unfolding chunks lent_row
+chunks_taken zero n ws h l = refl
+chunks_taken (suc k) zero ws h l = absurd (omega arith)
+chunks_taken (suc k) (suc n) ws h l =
+    λ j. head j ∷ (ap (chunks 3 lent_row k) tail ∙ chunks_taken k n (drop 3 ws) (omega arith) (omega (arith, length-drop 3 ws))) j
+  where
+    head : lent_row (take (3 * suc k) ws) ≡ lent_row ws
+    head = λ j. row (get_or-take (3 * suc k) ws 0 0 (omega arith) j) (get_or-take (3 * suc k) ws 1 0 (omega arith) j) (get_or-take (3 * suc k) ws 2 0 (omega arith) j)
 
-  kept_part : is_type_row x ≡ false → is_schema_part x ≡ true → filter is_schema_part (blocks (x ∷ xs)).0 ≡ x ∷ filter is_schema_part (blocks xs).0
-  unfolding filter
-  kept_part s t = rw (blocks_under x xs s, t)
+    tail : drop 3 (take (3 * suc k) ws) ≡ take (3 * k) (drop 3 ws)
+    tail = let z : 3 * suc k ≡ 3 + 3 * k = omega arith in ap (λ (m : ℕ). drop 3 (take m ws)) z ∙ drop-take 3 (3 * k) ws
 
-  kept_other : is_type_row x ≡ false → is_schema_part x ≡ false → filter is_schema_part (blocks (x ∷ xs)).0 ≡ filter is_schema_part (blocks xs).0
-  unfolding filter
-  kept_other s t = rw (blocks_under x xs s, t)
+rows_taken : (k : ℕ) (ws : List ℕ) → k ≤ length ws / 3 → lent_rows (take (3 * k) ws) ≡ take k (lent_rows ws)
+unfolding lent_rows
+rows_taken k ws h =
+    let z : length (take (3 * k) ws) / 3 ≡ k = omega (arith, length-take-le (3 * k) ws (omega arith)) in
+    ap (λ (m : ℕ). chunks 3 lent_row m (take (3 * k) ws)) z ∙ chunks_taken k (length ws / 3) ws h (omega arith)
 
-kept_end : filter is_schema_part (blocks []).0 ≡ []
-unfolding filter
-kept_end = rw blocks_nil
+block_before : (i : ℕ) (xs : List Row) (t m : ℕ) → found_from is_type_row i xs ≡ Some t → t ≡ i + m → take m xs ≡ (blocks xs).0
+unfolding found_from
+block_before i [] t m e h = never e
+block_before i (x ∷ xs) t m e h = go (is_type_row x) refl e (block_before (i + 1) xs t)
+  where
+    go : (b : Bool) → is_type_row x ≡ b → choose b (Some i) (found_from is_type_row (i + 1) xs) ≡ Some t →
+        ((m : ℕ) → found_from is_type_row (i + 1) xs ≡ Some t → t ≡ i + 1 + m → take m xs ≡ (blocks xs).0) → take m (x ∷ xs) ≡ (blocks (x ∷ xs)).0
+    go true s e ih =
+        let q : i ≡ t = cc in
+        let z : m ≡ 0 = omega arith in
+        rw (z, blocks_type x xs s)
+    go false s e ih = later m h
+      where
+        later : (m : ℕ) → t ≡ i + m → take m (x ∷ xs) ≡ (blocks (x ∷ xs)).0
+        later zero h = absurd (let k = (found_some is_type_row (i + 1) xs t e).place in omega arith)
+        later (suc m) h = rw (blocks_under x xs s) (ap (λ (l : List Row). x ∷ l) (ih m e (omega arith)))
 
--- Of lent rows.
-module _ (rows : List ℕ) (i : ℕ) where
-  pub origins_end : length rows / 3 ≤ i → origin_list (drop i (lent_rows rows)) ≡ []
-  unfolding origin_list
-  origins_end h = ap (λ (l : List Row). map origin_of (filter is_schema_part (blocks l).0)) (row_end rows i h) ∙ ap (map origin_of) kept_end
+block_all : (i : ℕ) (xs : List Row) → found_from is_type_row i xs ≡ None → xs ≡ (blocks xs).0
+unfolding found_from
+block_all i [] e = rw blocks_nil
+block_all i (x ∷ xs) e = go (is_type_row x) refl e (block_all (i + 1) xs)
+  where
+    go : (b : Bool) → is_type_row x ≡ b → choose b (Some i) (found_from is_type_row (i + 1) xs) ≡ None →
+        (found_from is_type_row (i + 1) xs ≡ None → xs ≡ (blocks xs).0) → x ∷ xs ≡ (blocks (x ∷ xs)).0
+    go true s e ih = never_row e
+    go false s e ih = rw (blocks_under x xs s) (ap (λ (l : List Row). x ∷ l) (ih e))
 
-  module _ (h : i < length rows / 3) where
-    at_hand : origin_list (drop i (lent_rows rows)) ≡ map origin_of (filter is_schema_part (blocks (row_at rows i ∷ drop (i + 1) (lent_rows rows))).0)
-    unfolding origin_list
-    at_hand = ap (λ (l : List Row). map origin_of (filter is_schema_part (blocks l).0)) (row_next rows i h)
+module _ (rows : List ℕ) where
+  pub block_fits : (f : Place ℕ) → f ≡ found_from is_type_row 0 (lent_rows rows) → 3 * unwrap_or f (length rows / 3) ≤ length rows
+  block_fits None e = omega arith
+  block_fits (Some t) e = let h : t < length rows / 3 = found_inside is_type_row rows (Some t) e in omega arith
 
-    pub origins_stop : is_type (get_or rows (3 * i) 0) ≡ true → origin_list (drop i (lent_rows rows)) ≡ []
-    unfolding is_type_row
-    origins_stop s = at_hand ∙ ap (map origin_of) (kept_stop (row_at rows i) (drop (i + 1) (lent_rows rows)) s)
+  pub block_rows : (f : Place ℕ) → f ≡ found_from is_type_row 0 (lent_rows rows) →
+      lent_rows (take (3 * unwrap_or f (length rows / 3)) rows) ≡ (blocks (lent_rows rows)).0
+  block_rows None e =
+      rows_taken (length rows / 3) rows (omega arith)
+      ∙ ap (λ (k : ℕ). take k (lent_rows rows)) (sym (length_rows rows))
+      ∙ take-length (lent_rows rows)
+      ∙ block_all 0 (lent_rows rows) (sym e)
+  block_rows (Some t) e =
+      let h : t < length rows / 3 = found_inside is_type_row rows (Some t) e in
+      rows_taken t rows (omega arith) ∙ block_before 0 (lent_rows rows) t t (sym e) (omega arith)
 
-    module _ (s : is_type (get_or rows (3 * i) 0) ≡ false) where
-      pub origins_here : is_schema_part (row_at rows i) ≡ true →
-          origin_list (drop i (lent_rows rows)) ≡ get_or rows (3 * i + 2) 0 ∷ origin_list (drop (i + 1) (lent_rows rows))
-      unfolding is_type_row origin_list origin_of
-      origins_here t = at_hand ∙ ap (map origin_of) (kept_part (row_at rows i) (drop (i + 1) (lent_rows rows)) s t)
+-- ---- The origins of the parts from a row on.
 
-      pub origins_over : is_schema_part (row_at rows i) ≡ false → origin_list (drop i (lent_rows rows)) ≡ origin_list (drop (i + 1) (lent_rows rows))
-      unfolding is_type_row origin_list
-      origins_over t = at_hand ∙ ap (map origin_of) (kept_other (row_at rows i) (drop (i + 1) (lent_rows rows)) s t)
+unfoldable pub origins_left : List ℕ → ℕ → List ℕ
+origins_left rows i = map origin_of (filter is_schema_part (drop i (lent_rows rows)))
+
+module _ (rows : List ℕ) where
+  pub left_start : (rs : List Row) → lent_rows rows ≡ (blocks rs).0 → origins_left rows 0 ≡ origin_list rs
+  unfolding origins_left origin_list
+  left_start rs e = ap (λ (l : List Row). map origin_of (filter is_schema_part l)) e
+
+  module _ (i : ℕ) where
+    pub left_end : length rows / 3 ≤ i → origins_left rows i ≡ []
+    unfolding origins_left
+    left_end h = ap (map origin_of) (filter_end is_schema_part rows i h)
+
+    pub left_here : i < length rows / 3 → (r : Row) → r ≡ row_at rows i → is_schema_part r ≡ true → origins_left rows i ≡ r.origin ∷ origins_left rows (i + 1)
+    unfolding origins_left origin_of
+    left_here h r e t = rw e (ap (map origin_of) (filter_here is_schema_part rows i h (rw e at t)))
+
+    pub left_over : i < length rows / 3 → (r : Row) → r ≡ row_at rows i → is_schema_part r ≡ false → origins_left rows i ≡ origins_left rows (i + 1)
+    unfolding origins_left
+    left_over h r e t = ap (map origin_of) (filter_over is_schema_part rows i h (rw e at t))
 
 -- ---- A word among words, as std's `contains` tells it.
 
@@ -80,30 +124,9 @@ among x (y ∷ ys) = go (eqb y x) refl (among x ys)
 -- ---- A turn of the walk that keeps each extension once.
 
 module _ (seen : List ℕ) (origin : ℕ) where
-  pub new_absent : origin ≡ absent → is_new seen origin ≡ false
+  pub new_told : (origin ≡ absent → ⊥) → not (any (eqb origin) seen) ≡ is_new seen origin
   unfolding is_new is_card
-  new_absent e = rw (eq-eqb origin absent e)
-
-  pub new_seen : any (eqb origin) seen ≡ true → is_new seen origin ≡ false
-  unfolding is_new
-  new_seen e = rw e (none (is_card origin))
-    where
-      none : (b : Bool) → (b && false) ≡ false
-      none true = refl
-      none false = refl
-
-  pub new_fresh : (origin ≡ absent → ⊥) → any (eqb origin) seen ≡ false → is_new seen origin ≡ true
-  unfolding is_new is_card
-  new_fresh e f = rw (ne_eqb origin absent e, f)
-
-  -- What adding it leaves.
-  module _ (list : List ℕ) (n : ℕ) where
-    pub extension_kept : is_new seen origin ≡ false → (n ≡ choose (is_new seen origin) (n + 1) n) × (list ≡ choose (is_new seen origin) (set list n origin) list)
-    extension_kept e = (sym (ap (λ (b : Bool). choose b (n + 1) n) e), sym (ap (λ (b : Bool). choose b (set list n origin) list) e))
-
-    pub extension_added : is_new seen origin ≡ true →
-        (n + 1 ≡ choose (is_new seen origin) (n + 1) n) × (set list n origin ≡ choose (is_new seen origin) (set list n origin) list)
-    extension_added e = (sym (ap (λ (b : Bool). choose b (n + 1) n) e), sym (ap (λ (b : Bool). choose b (set list n origin) list) e))
+  new_told e = rw (ne_eqb origin absent e)
 
   module _ (rest : List ℕ) where
     left_out : is_new seen origin ≡ false → firsts eqb seen (filter is_card (origin ∷ rest)) ≡ firsts eqb seen (filter is_card rest)
@@ -126,34 +149,17 @@ module _ (seen : List ℕ) (origin : ℕ) where
         go true true s t e = absurd (let z : true ≡ false = sym e in let y : ◌≡◌ {A = ℕ} 0 1 = cc in omega arith)
         go false b s t e = absurd (let z : true ≡ false = sym e in let y : ◌≡◌ {A = ℕ} 0 1 = cc in omega arith)
 
-module _ (list₀ list : List ℕ) (n origin : ℕ) (rest whole : List ℕ)
-    (l : Listing list₀ list n (firsts eqb (take n list) (filter is_card (origin ∷ rest))) whole) where
-  pushing : is_new (take n list) origin ≡ true → Listing list₀ list n (origin ∷ firsts eqb (take n list ++ (origin ∷ [])) (filter is_card rest)) whole
-  pushing e = rw (taken_in (take n list) origin rest e) at l
+-- What is left to list where the next origin is one of the extensions, and where it is none.
+module _ (seen os more : List ℕ) (origin : ℕ) (e : os ≡ origin ∷ more) where
+  pub extension_here : is_new seen origin ≡ true → firsts eqb seen (filter is_card os) ≡ origin ∷ firsts eqb (seen ++ (origin ∷ [])) (filter is_card more)
+  extension_here n = ap (λ (l : List ℕ). firsts eqb seen (filter is_card l)) e ∙ taken_in seen origin more n
 
-  pub extension_capacity : length whole ≤ length list₀ → is_new (take n list) origin ≡ true → n < length list
-  extension_capacity h e =
-      let a = listing_length list₀ list n (origin ∷ firsts eqb (take n list ++ (origin ∷ [])) (filter is_card rest)) whole (pushing e) in
-      let b = l.kept in
-      omega arith
+  pub extension_over : is_new seen origin ≡ false → firsts eqb seen (filter is_card os) ≡ firsts eqb seen (filter is_card more)
+  extension_over n = ap (λ (l : List ℕ). firsts eqb seen (filter is_card l)) e ∙ left_out seen origin more n
 
-  pub extension_turn : length whole ≤ length list₀ → (r : ℕ) (list' : List ℕ) →
-      r ≡ choose (is_new (take n list) origin) (n + 1) n → list' ≡ choose (is_new (take n list) origin) (set list n origin) list →
-      Listing list₀ list' r (firsts eqb (take r list') (filter is_card rest)) whole
-  extension_turn h r list' p q = go (is_new (take n list) origin) refl p q
-    where
-      go : (b : Bool) → is_new (take n list) origin ≡ b → r ≡ choose b (n + 1) n → list' ≡ choose b (set list n origin) list →
-          Listing list₀ list' r (firsts eqb (take r list') (filter is_card rest)) whole
-      go false e p q = rw (p, q) (rw (left_out (take n list) origin rest e) at l)
-      go true e p q =
-          let capacity = extension_capacity h e in
-          let more = firsts eqb (take n list ++ (origin ∷ [])) (filter is_card rest) in
-          rw (p, q) (rw (pushed_words list₀ list n origin more whole (pushing e) capacity) (listing_push list₀ list n origin more whole (pushing e) capacity))
-
-pub extension_start : (rows list : List ℕ) →
-    Listing list list 0 (firsts eqb (take 0 list) (filter is_card (origin_list (drop 0 (lent_rows rows))))) (extension_list (lent_rows rows))
+pub extension_start : (rs : List Row) (os : List ℕ) → os ≡ origin_list rs → extension_list rs ≡ firsts eqb [] (filter is_card os)
 unfolding extension_list
-extension_start rows list = listing_start list (firsts eqb [] (filter is_card (origin_list (lent_rows rows))))
+extension_start rs os e = ap (λ (l : List ℕ). firsts eqb [] (filter is_card l)) (sym e)
 
 pub firsts_none : (seen : List ℕ) (origins : List ℕ) → origins ≡ [] → firsts eqb seen (filter is_card origins) ≡ []
 unfolding firsts filter

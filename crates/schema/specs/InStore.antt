@@ -2,7 +2,7 @@
 use Rattle.std.specs.Prelude.{List, Bool, ◌≡◌, ℕ, ◌+◌, length, Option, Some, None}
 use Rattle.std.specs.Borrow.{Bor}
 use Rattle.definition.specs.declared.OperationType.{OperationType}
-use Rattle.definition.specs.declared.FieldLookup.{FieldLookup}
+use Rattle.definition.specs.Answers.{FieldLookup}
 use Rattle.definition.specs.declared.FieldFound.{FieldFound}
 use Rattle.definition.specs.Lists.{found, written}
 use Rattle.definition.specs.Headings.{NamedCard}
@@ -56,7 +56,3 @@ groups_in text words rows = groups (cards_in text words) (lent_rows rows)
 -- The words xs were written at the front of a list, all else stayed, and `count` is how many they are.
 abbrev pub Fills : List ℕ → List ℕ → List ℕ → ℕ → Type 0
 Fills old xs new count = (count ≡ length xs) × (new ≡ written old 0 xs)
-
--- The words xs were written at a place of a list, all else stayed, and `end` is the place after them.
-abbrev pub Writes : List ℕ → ℕ → List ℕ → List ℕ → ℕ → Type 0
-Writes old at xs new end = (end ≡ at + length xs) × (new ≡ written old at xs)

@@ -4,6 +4,7 @@
 // - implementers_map: implementers; which of the interfaces listed count: first_interface
 // - is_subtype: lookup
 // - iter_origins and extensions of SchemaDefinition: origins
+// Stays: four lookups ask that the store is sound and five do not; a second struct beside Schema for the four would be longer than the clause.
 #![tactic(auto)]
 
 pub mod first_interface;

@@ -1,14 +1,16 @@
 // schema/mod.rs: the origins of the schema definition of lent rows, and the extensions among them.
-ghost use Rattle.std.specs.Prelude.{◌≡◌, true, ◌<◌, ◌≤◌, ◌+◌, eqb, length, take, set};
-ghost use Rattle.definition.specs.Lists.{choose, any};
-ghost use Rattle.definition.specs.Lookups.{is_schema_part, origin_list, extension_list};
-ghost use Rattle.schema_rows.specs.Rows.{row_of, rows_of};
+ghost use Rattle.std.specs.Prelude.{◌≡◌, ◌≤◌, length};
+ghost use Rattle.definition.specs.Lookups.{blocks, is_schema_part, origin_list, extension_list};
+ghost use Rattle.definition.specs.LentRows.{is_type_row};
+ghost use Rattle.schema_rows.specs.Rows.{row_of, rows_of, found_from};
 ghost use Rattle.schema.specs.InStore.{Fills};
 ghost use Rattle.schema.specs.Extensions.{is_new};
 
 use ast::kinds;
 use definition::ABSENT;
+use definition::layout::ROW_WORDS;
 use schema_rows::{Row, Schema};
+use word_list::WordList;
 
 // Directive uses and roots: the parts of the schema definition.
 #[tactic(auto, unfolding(definition::specs::Lookups::is_schema_part, definition::specs::Lookups::is_row_of))]
@@ -18,37 +20,49 @@ fn is_schema_part(row: Row) -> bool
     row.what == kinds::DIRECTIVE || kinds::is_root(row.what)
 }
 
+// The first type row.
+fn find_type_row(schema: Schema) -> Option<usize>
+    ensures { result ≡ found_from is_type_row 0 (rows_of schema.entry) }
+{
+    (0..schema.row_count()).find(|&i| kinds::is_type(schema.row(i).what))
+}
+
+// The rows before the first type row: the schema definition and what stands under it.
+fn schema_block<'text, 'lent>(schema: Schema<'text, 'lent>) -> Schema<'text, 'lent>
+    ensures { rows_of result ≡ (blocks (rows_of schema.entry)).0 }
+{
+    let end = find_type_row(schema).unwrap_or(schema.row_count());
+    Schema {
+        rows: &schema.rows[..ROW_WORDS * end],
+        ..schema
+    }
+}
+
 // The origins of the schema definition's parts, in order. How many there are is handed back.
 pub fn iter_origins(schema: Schema, list: &mut [u32]) -> usize
     requires { length (origin_list (rows_of schema)) ≤ length list.old }
     ensures { Fills list.old (origin_list (rows_of schema.entry)) list.new result }
 {
-    let mut n = 0;
-    for i in 0..schema.row_count() {
-        let row = schema.row(i);
-        if kinds::is_type(row.what) {
-            return n;
-        }
+    let block = schema_block(schema);
+    let mut origins = WordList {
+        words: list,
+        len: 0,
+    };
+    for i in 0..block.row_count() {
+        let row = block.row(i);
         if is_schema_part(row) {
-            list[n] = row.origin;
-            n += 1;
+            origins.push(row.origin);
         }
     }
-    n
+    origins.len
 }
 
-// Adds an origin to the first n words, if it is an extension that is not among them.
-fn add_extension(list: &mut [u32], n: usize, origin: u32) -> usize
-    requires { (n ≤ length list.old)
-        × (is_new (take n list.old) origin ≡ true → n < length list.old) }
-    ensures { (result ≡ choose (is_new (take n list.old) origin) (n + 1) n)
-        × (list.new ≡ choose (is_new (take n list.old) origin) (set list.old n origin) list.old) }
+// Whether an origin is an extension that is not among those listed.
+#[tactic(auto, unfolding(crate::specs::Extensions::is_new, definition::specs::Lookups::is_card))]
+fn is_new(listed: &[u32], origin: u32) -> bool
+    ensures { result ≡ is_new listed.now origin }
 {
-    if origin == ABSENT || list[0..n].contains(&origin) {
-        return n;
-    }
-    list[n] = origin;
-    n + 1
+    origin != ABSENT && !listed.contains(&origin)
 }
 
 // The extensions among the origins, each once, in order of first occurrence.
@@ -56,15 +70,16 @@ pub fn extensions(schema: Schema, list: &mut [u32]) -> usize
     requires { length (extension_list (rows_of schema)) ≤ length list.old }
     ensures { Fills list.old (extension_list (rows_of schema.entry)) list.new result }
 {
-    let mut n = 0;
-    for i in 0..schema.row_count() {
-        let row = schema.row(i);
-        if kinds::is_type(row.what) {
-            return n;
-        }
-        if is_schema_part(row) {
-            n = add_extension(list, n, row.origin);
+    let block = schema_block(schema);
+    let mut extensions = WordList {
+        words: list,
+        len: 0,
+    };
+    for i in 0..block.row_count() {
+        let row = block.row(i);
+        if is_schema_part(row) && is_new(extensions.as_slice(), row.origin) {
+            extensions.push(row.origin);
         }
     }
-    n
+    extensions.len
 }

@@ -1,7 +1,6 @@
--- Rows: a row by its number, and searches over rows. SearchLaws: a type and under it a part. Listing: a list that is written from its front on.
+-- Rows: a row by its number, and searches over rows. SearchLaws: a type and under it a part.
 pub mod Rows
 pub mod SearchLaws
-pub mod Listing
 -- Refusal 26: the order of rows, a row by itself, the walk that asks both, and how many of the rows that it lets through have a card.
 pub mod OrderLaws
 pub mod Passing

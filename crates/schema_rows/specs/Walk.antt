@@ -1,7 +1,5 @@
 -- Refusal 26 as one walk over the rows asks it.
-use Rattle.std.specs.Prelude.{List, [], Bool, false, ◌≡◌, ℕ, ◌<◌, eqb, length, get_or, Result, Ok, Err}
-use Rattle.definition.specs.declared.refusal.Refusal.{Refusal}
-use Rattle.definition.specs.Numbers.{refusal_number}
+use Rattle.std.specs.Prelude.{List, [], Bool, false, ◌≡◌, ℕ, ◌<◌, eqb, length, get_or}
 use Rattle.definition.specs.Lists.{choose, any, all, is_empty, repeats}
 use Rattle.definition.specs.Headings.{NamedCard}
 use Rattle.definition.specs.Catalogue.{Row}
@@ -27,8 +25,3 @@ has_card c r = eqb c r.card
 pub record Marked (marks : List ℕ) (seen : List Row) : Type 0 where
   pub size : length marks ≡ card_capacity
   pub told : (c : ℕ) → c < card_capacity → get_or marks c 0 ≡ choose (any (has_card c) seen) 1 0
-
--- The refusal's number, 0 where nothing is refused.
-abbrev pub told_number : Result Unit Refusal → ℕ
-told_number (Ok _) = 0
-told_number (Err r) = refusal_number r

@@ -6,7 +6,7 @@ ghost use Rattle.definition.specs.Store.{account_in, sound};
 ghost use Rattle.definition.specs.LentRows.{rows_refusal};
 ghost use Rattle.schema_rows.specs.Passing.{card_fits, row_passes};
 ghost use Rattle.schema_rows.specs.Rows.{row_of, row_at, cards_of, rows_of};
-ghost use Rattle.schema_rows.specs.Walk.{told_number};
+ghost use Rattle.definition.specs.Numbers.{told_number};
 
 use ast::kinds;
 use cards::Marks;

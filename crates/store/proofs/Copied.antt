@@ -17,17 +17,6 @@ front_written out l l₀ i h t d =
     let n : length out ≡ i = ap length (sym t) ∙ length-take-le i l h in
     sym (take-append-drop i l) ∙ rw (take-length out, zero-add (length out), n, t, d)
 
-pub take_sets : (vs l : List ℕ) (n m : ℕ) → n + length vs ≡ m → m ≤ length l → take m (sets l n vs) ≡ take n l ++ vs
-take_sets vs l n m e h =
-    ap (λ (x : List ℕ). take m x) (sets-eq vs l n (omega arith))
-    ∙ take_at (take n l ++ vs) (drop (n + length vs) l) m (simp (length-append, length-take-le n l (omega arith)) e)
-
-pub drop_sets : (vs l : List ℕ) (n m : ℕ) → n + length vs ≡ m → m ≤ length l → drop m (sets l n vs) ≡ drop m l
-drop_sets vs l n m e h =
-    ap (λ (x : List ℕ). drop m x) (sets-eq vs l n (omega arith))
-    ∙ drop_at (take n l ++ vs) (drop (n + length vs) l) m (simp (length-append, length-take-le n l (omega arith)) e)
-    ∙ ap (λ (k : ℕ). drop k l) e
-
 pub drop_more : (k i : ℕ) (l l₀ : List ℕ) → drop i l ≡ drop i l₀ → drop (i + k) l ≡ drop (i + k) l₀
 drop_more k i l l₀ e = sym (drop-drop k i l) ∙ ap (λ (x : List ℕ). drop k x) e ∙ drop-drop k i l₀
 

@@ -1,16 +1,17 @@
 // Copying a text, and cards with their spans moved, into the unused part of a store.
-ghost use Rattle.std.specs.Prelude.{◌≡◌, ◌+◌, ◌≤◌, ◌<◌, ◌^◌, ◌%◌, length, get_or};
+ghost use Rattle.std.specs.Prelude.{◌≡◌, ◌+◌, ◌≤◌, ◌<◌, ◌^◌, ◌%◌, length};
 ghost use Rattle.definition.specs.Lists.{All, written};
-ghost use Rattle.definition.specs.Cards.{card_words, cards_of};
+ghost use Rattle.definition.specs.Cards.{card_words, cards_of, words_of_card};
 ghost use Rattle.definition.specs.Refusals.{text_capacity};
-ghost use Rattle.definition.specs.Store.{moved_words};
-ghost use Rattle.ast.specs.Cards.{item_at_word, name_at_word};
-ghost use Rattle.store.specs.Moving.{Within, moved_name, item_copied, name_copied};
+ghost use Rattle.definition.specs.Store.{moved, moved_words};
+ghost use Rattle.ast.specs.Cards.{card_of};
+ghost use Rattle.store.specs.Moving.{Within};
 
-use ast::{CARD_ITEM_AT, CARD_ITEM_LEN, CARD_KIND, CARD_NAME_AT, CARD_NAME_LEN};
+use ast::Card;
 use definition::layout::CARD_WORDS;
 
 // Copies a text to the front of the part that it is lent.
+#[tactic(auto, unfolding(definition::specs::Lists::written))]
 pub fn copy_text(unused: &mut [u8], text: &[u8])
     requires { length text.now ≤ length unused.old }
     ensures { unused.new ≡ written unused.old 0 text.now }
@@ -18,41 +19,43 @@ pub fn copy_text(unused: &mut [u8], text: &[u8])
     unused[..text.len()].copy_from_slice(text);
 }
 
-// Where a name is stored whose document's text begins at base; the absent name, 0 and 0, stays.
-#[tactic(auto, unfolding(crate::specs::Moving::moved_name))]
-fn moved_name(base: u32, at: u32, len: u32) -> u32
-    requires { at + base < 2 ^ 32 }
-    ensures { result ≡ moved_name base at len }
+// A card as it is stored whose document's text begins at `base`; the absent name, 0 and 0, stays.
+#[tactic(auto, unfolding(definition::specs::Store::moved, definition::specs::Cards::is_unnamed))]
+fn moved(card: Card, base: u32) -> Card
+    requires { (card.item_at + base < 2 ^ 32)
+        × (card.name_at + base < 2 ^ 32) }
+    ensures { card_of result ≡ moved base (card_of card) }
 {
-    if len == 0 && at == 0 { at } else { at + base }
+    let is_unnamed = card.name_len == 0 && card.name_at == 0;
+    Card {
+        item_at: card.item_at + base,
+        name_at: if is_unnamed {
+            card.name_at
+        } else {
+            card.name_at + base
+        },
+        ..card
+    }
 }
 
-// Copies the kind and the item of the card at i, the item moved by base.
-fn copy_item(unused: &mut [u32], cards: &[u32], i: usize, base: u32)
-    requires { (i + card_words ≤ length cards.now)
-        × (i + card_words ≤ length unused.old)
-        × (get_or cards.now (i + item_at_word) 0 + base < 2 ^ 32) }
-    ensures { unused.new ≡ item_copied unused.old cards.now i base }
+// Writes a card's words from the place `at` on.
+// Stays: the place is the card's own in the lent part; a slice cut out for each card would be one more call, and say no more.
+#[tactic(auto, unfolding(definition::specs::Cards::words_of_card, definition::specs::Lists::written))]
+fn write_card(unused: &mut [u32], at: usize, card: Card)
+    requires { at + card_words ≤ length unused.old }
+    ensures { unused.new ≡ written unused.old at (words_of_card (card_of card)) }
 {
-    unused[i + CARD_KIND] = cards[i + CARD_KIND];
-    unused[i + CARD_ITEM_AT] = cards[i + CARD_ITEM_AT] + base;
-    unused[i + CARD_ITEM_LEN] = cards[i + CARD_ITEM_LEN];
-}
-
-// Copies its name, moved by base.
-fn copy_name(unused: &mut [u32], cards: &[u32], i: usize, base: u32)
-    requires { (i + card_words ≤ length cards.now)
-        × (i + card_words ≤ length unused.old)
-        × (get_or cards.now (i + name_at_word) 0 + base < 2 ^ 32) }
-    ensures { unused.new ≡ name_copied unused.old cards.now i base }
-{
-    let at = cards[i + CARD_NAME_AT];
-    let len = cards[i + CARD_NAME_LEN];
-    unused[i + CARD_NAME_AT] = moved_name(base, at, len);
-    unused[i + CARD_NAME_LEN] = len;
+    unused[at..at + CARD_WORDS].copy_from_slice(&[
+        card.kind,
+        card.item_at,
+        card.item_len,
+        card.name_at,
+        card.name_len,
+    ]);
 }
 
 // Copies cards to the front of the part that it is lent, their spans moved by base.
+#[tactic(auto, using(crate::proofs::Moved::copying_none))]
 fn copy_cards(unused: &mut [u32], cards: &[u32], base: u32)
     requires { (length cards.now ≤ length unused.old)
         × (length cards.now % card_words ≡ 0)
@@ -60,14 +63,15 @@ fn copy_cards(unused: &mut [u32], cards: &[u32], base: u32)
         × All (Within text_capacity) (cards_of cards.now) }
     ensures { unused.new ≡ written unused.old 0 (moved_words base (cards_of cards.now)) }
 {
-    for card in 0..cards.len() / CARD_WORDS {
-        let at = CARD_WORDS * card;
-        copy_item(unused, cards, at, base);
-        copy_name(unused, cards, at, base);
+    for i in 0..cards.len() / CARD_WORDS {
+        let card = moved(ast::card_at(cards, i), base);
+        write_card(unused, CARD_WORDS * i, card);
     }
 }
 
 // Writes a text into the unused part of the store's text, which begins at used.
+// Stays: writing into the lent part that begins at the unused end is a form that the project asks for (docs/DECISIONS.md, "Forms that 01 names").
+#[tactic(auto, using(crate::proofs::Copied::tail_written))]
 pub fn append_text(text: &mut [u8], used: usize, lent: &[u8])
     requires { used + length lent.now ≤ length text.old }
     ensures { text.new ≡ written text.old used lent.now }
@@ -76,6 +80,8 @@ pub fn append_text(text: &mut [u8], used: usize, lent: &[u8])
 }
 
 // Writes cards into the unused part of the store's words, which begins at used, their spans moved by base.
+// Stays: the same form, over words; `base` is where the document's text went, and no other place of the store.
+#[tactic(auto, using(crate::proofs::Copied::tail_written))]
 pub fn append_cards(words: &mut [u32], used: usize, cards: &[u32], base: u32)
     requires { (used + length cards.now ≤ length words.old)
         × (length cards.now % card_words ≡ 0)

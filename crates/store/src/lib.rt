@@ -13,14 +13,14 @@ pub mod copying;
 pub mod filing;
 
 // Files document 0 with both switches off, over whatever the store held.
-pub fn open(text: &mut [u8], words: &mut [u32], lent: &[u8], cards: &[u32]) -> Result<(), Refused>
+#[tactic(auto, using(crate::proofs::Allowed::opening_capacity, crate::proofs::Allowed::opens, crate::proofs::Entries::open_short_text, crate::proofs::Entries::open_short_words, crate::proofs::Entries::open_done))]
+pub fn open(text: &mut [u8], words: &mut [u32], built_ins: Document) -> Result<(), Refused>
     ensures { record { answer = done_answer result; text = text.new; words = words.new }
-        ≡ open_store text.old words.old lent.now cards.now }
+        ≡ open_store text.old words.old built_ins.entry.text.now built_ins.entry.cards.now }
 {
     if text.len() < TEXT_CAPACITY || words.len() < WORDS_CAPACITY {
         return Err(Refusal::StoreTooShort.into());
     }
-    let built_ins = Document { text: lent, cards };
     built_ins.check()?;
     store_built_in::check_built_in(built_ins)?;
     store_filing_check::check_capacity(0, 0, built_ins)?;
@@ -29,23 +29,19 @@ pub fn open(text: &mut [u8], words: &mut [u32], lent: &[u8], cards: &[u32]) -> R
 }
 
 // Files a document after those held.
-pub fn add_ast(
-    text: &mut [u8],
-    words: &mut [u32],
-    lent: &[u8],
-    cards: &[u32],
-) -> Result<(), Refused>
+#[tactic(auto, using(ast_check::proofs::Told::answer_of, store_check::proofs::Checked::refused_number, store_check::proofs::Checked::refused_store, crate::proofs::Entries::add_unsound))]
+pub fn add_ast(text: &mut [u8], words: &mut [u32], lent: Document) -> Result<(), Refused>
     ensures { record { answer = done_answer result; text = text.new; words = words.new }
-        ≡ add_ast text.old words.old lent.now cards.now }
+        ≡ add_ast text.old words.old lent.entry.text.now lent.entry.cards.now }
 {
     store_check::check_store(text, words)?;
-    let document = Document { text: lent, cards };
-    store_filing_check::check_filing(words, document)?;
-    crate::filing::file(text, words, document);
+    store_filing_check::check_filing(words, lent)?;
+    crate::filing::file(text, words, lent);
     Ok(())
 }
 
 // Turns a switch on, by the number of its word.
+#[tactic(auto, using(ast_check::proofs::Told::answer_of, store_check::proofs::Checked::sound_store, store_check::proofs::Checked::refused_number, store_check::proofs::Checked::refused_store, crate::proofs::Entries::turned_unsound, crate::proofs::Entries::turned_done))]
 fn turn_on(text: &[u8], words: &mut [u32], switch: usize) -> Result<(), Refused>
     requires { switch ≤ 2 }
     ensures { record { answer = done_answer result; text = text.now; words = words.new }
@@ -57,6 +53,7 @@ fn turn_on(text: &[u8], words: &mut [u32], switch: usize) -> Result<(), Refused>
 }
 
 // Extensions without a definition are adopted from now on.
+#[tactic(auto, unfolding(definition::specs::Store::adopting_words, definition::specs::Outcomes::adopt_orphan_extensions))]
 pub fn adopt_orphan_extensions(text: &[u8], words: &mut [u32]) -> Result<(), Refused>
     ensures { record { answer = done_answer result; text = text.now; words = words.new }
         ≡ adopt_orphan_extensions text.now words.old }
@@ -65,6 +62,7 @@ pub fn adopt_orphan_extensions(text: &[u8], words: &mut [u32]) -> Result<(), Ref
 }
 
 // Documents filed from now on may define the types of document 0 again.
+#[tactic(auto, unfolding(definition::specs::Outcomes::ignore_builtin_redefinitions, definition::specs::Store::ignoring_words))]
 pub fn ignore_builtin_redefinitions(text: &[u8], words: &mut [u32]) -> Result<(), Refused>
     ensures { record { answer = done_answer result; text = text.now; words = words.new }
         ≡ ignore_builtin_redefinitions text.now words.old }

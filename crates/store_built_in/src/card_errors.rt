@@ -10,16 +10,19 @@ ghost use Rattle.store_built_in.specs.Fails.{type_named, alike_cards, heading_fa
 use ast::{Card, kinds};
 use ast_check::Document;
 
-// Whether two cards have the same name.
+// The bytes of a card's name.
 #[tactic(auto, unfolding(definition::specs::Headings::name_of))]
-fn same_names(text: &[u8], a: Card, b: Card) -> bool
+fn name_of(text: &[u8], card: Card) -> &[u8]
+    ensures { result.now ≡ name_of text.now (card_of card) }
+{
+    name::bytes_at(text, card.name_at as usize, card.name_len as usize)
+}
+
+// Whether two cards have the same name.
+fn have_one_name(text: &[u8], a: Card, b: Card) -> bool
     ensures { result ≡ same_name (name_of text.now (card_of a)) (name_of text.now (card_of b)) }
 {
-    let a_at = a.name_at as usize;
-    let a_len = a.name_len as usize;
-    let b_at = b.name_at as usize;
-    let b_len = b.name_len as usize;
-    name::same_span(text, a_at, a_len, b_at, b_len)
+    name::same(name_of(text, a), name_of(text, b))
 }
 
 // Whether the card of number i defines a type of the card's name.
@@ -30,7 +33,7 @@ fn defines_type(document: Document, card: Card, i: usize) -> bool
         (card_from (drop (card_words * i) document.entry.cards.now)) }
 {
     let other = ast::card_at(document.cards, i);
-    kinds::is_type(other.kind) && same_names(document.text, card, other)
+    kinds::is_type(other.kind) && have_one_name(document.text, card, other)
 }
 
 // Whether a list holds only the first of two parts, the second of number i: roots of one kind, and parts of one kind and name but for directive
@@ -43,7 +46,7 @@ fn is_alike(document: Document, a: Card, i: usize) -> bool
     let b = ast::card_at(document.cards, i);
     a.kind == b.kind
         && (kinds::is_root(a.kind)
-            || (a.kind != kinds::DIRECTIVE && same_names(document.text, a, b)))
+            || (a.kind != kinds::DIRECTIVE && have_one_name(document.text, a, b)))
 }
 
 // Whether a card before the number `to` defines a type of the card's name.

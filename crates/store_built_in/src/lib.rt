@@ -49,6 +49,7 @@ fn under_after(under: Option<usize>, kind: u32, next: usize) -> Option<usize>
 }
 
 // The first card that gives an error where no kind is barred.
+#[tactic(auto, using(crate::proofs::Searches::within_next, crate::proofs::Searches::errors_from, crate::proofs::Searches::errors_all, crate::proofs::Searches::errors_end, crate::proofs::Searches::errors_hit, crate::proofs::Searches::errors_next))]
 fn first_error(document: Document) -> Option<usize>
     ensures { found_at result
         ≡ fails_from document.entry.text.now [] none 0 (cards_of document.entry.cards.now) }
@@ -79,6 +80,7 @@ fn refuse(card: Option<usize>) -> Result<(), Refused>
 }
 
 // The refusal 6 of a document 0: a barred kind, or else the first error that it gives alone.
+#[tactic(auto, using(ast_check::proofs::Told::handed_on, crate::proofs::Alone::zero_barred, crate::proofs::Alone::zero_alone))]
 pub fn check_built_in(built_ins: Document) -> Result<(), Refused>
     ensures { check_option result
         ≡ zero_fault (document false built_ins.entry.text.now built_ins.entry.cards.now) }

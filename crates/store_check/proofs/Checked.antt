@@ -13,8 +13,7 @@ use Rattle.definition.specs.Store.{too_short, counts_sound, rows_sound, cards_so
 use Rattle.std.specs.Prelude.{Result, Ok, Err}
 use Rattle.definition.specs.declared.refusal.Refusal.{Refusal}
 use Rattle.definition.specs.declared.refusal.Refusal.TheVariants.{StoreTooShort, StoreUnsound}
-use Rattle.definition.specs.Numbers.{refusal_number}
-use Rattle.ast_check.specs.Checks.{told_number}
+use Rattle.definition.specs.Numbers.{refusal_number, told_number}
 use Rattle.ast_check.proofs.Told.{numbered}
 use Rattle.store_check.specs.Check.{Checked}
 use Rattle.store_check.proofs.Sound.{sounds, Counts, counts_held, Rows, rows_held, accepted, long, decoded}

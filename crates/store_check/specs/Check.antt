@@ -3,7 +3,7 @@ use Rattle.std.specs.Prelude.{◌≡◌, List, Bool, true, ◌&&◌, ℕ, ◌≤
 use Rattle.definition.specs.declared.refusal.Refusal.{Refusal}
 use Rattle.std.proofs.Math.Option.{some}
 use Rattle.definition.specs.Store.{words_capacity, DocumentRow, document_rows, text_used_of, cards_used_of, ignore_word, counts_sound, rows_sound}
-use Rattle.ast_check.specs.Checks.{told_number}
+use Rattle.definition.specs.Numbers.{told_number}
 use Rattle.definition.specs.Store.{account_in, decode, store_refusal}
 
 -- The row begins at `at`, and its ignore switch is not below `ignored`.

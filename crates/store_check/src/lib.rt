@@ -15,6 +15,7 @@ use store_reader::documents::DocumentRow;
 pub mod counts;
 
 // Every document's cards pass 2 to 5, 27 and 28 against its own text.
+#[tactic(auto, using(ast_check::proofs::Told::refused_some, ast_check::proofs::Told::passed_none, crate::proofs::Sound::rows_held, crate::proofs::Cards::cleared_none, crate::proofs::Cards::cleared_all, crate::proofs::Cards::room, crate::proofs::Cards::cleared_row, crate::proofs::Cards::faulty_row), unfolding(definition::specs::Store::document_count))]
 fn cards_sound(text: &[u8], words: &[u32]) -> bool
     requires { SoundRows words.now }
     ensures { result ≡ cards_sound text.now (document_rows words.now) (stored_cards words.now) }

@@ -4,10 +4,11 @@
 ghost use Rattle.std.specs.Prelude.{◌≡◌, ◌≤◌, ◌/◌, length};
 ghost use Rattle.definition.specs.Cards.{card_words};
 ghost use Rattle.definition.specs.Refusals.{text_capacity, card_capacity};
-ghost use Rattle.definition.specs.Store.{documents_at, text_used_of, cards_used_of};
+ghost use Rattle.definition.specs.Store.{text_used_of, cards_used_of};
 ghost use Rattle.ast_check.specs.Checks.{check_option};
 ghost use Rattle.store_filing_check.specs.FilingRefusal.{capacity_for, lent_refusal};
 
+use ast::word;
 use ast_check::Document;
 use definition::layout::{
     CARD_CAPACITY, CARD_WORDS, CARDS_USED, DOCUMENT_CAPACITY, DOCUMENT_COUNT, TEXT_CAPACITY,
@@ -35,15 +36,14 @@ pub fn check_capacity(text_used: u32, cards_used: u32, lent: Document) -> Result
 // 1 to 5, then 23, then 24 and 25, by the counts of a sound store.
 #[tactic(auto, using(crate::proofs::Enough::lent_faulty, crate::proofs::Enough::lent_full, crate::proofs::Enough::lent_capacity, ast_check::proofs::Told::handed_on), unfolding(definition::specs::Store::document_count, definition::specs::Store::text_used_of, definition::specs::Store::cards_used_of))]
 pub fn check_filing(words: &[u32], lent: Document) -> Result<(), Refused>
-    requires { (documents_at ≤ length words.now)
-        × (text_used_of words.now ≤ text_capacity)
+    requires { (text_used_of words.now ≤ text_capacity)
         × (cards_used_of words.now ≤ card_capacity) }
     ensures { check_option result
         ≡ lent_refusal words.now lent.entry.text.now lent.entry.cards.now }
 {
     lent.check()?;
-    if words[DOCUMENT_COUNT] as usize >= DOCUMENT_CAPACITY {
+    if word(words, DOCUMENT_COUNT) as usize >= DOCUMENT_CAPACITY {
         return Err(Refusal::DocumentsFull.into());
     }
-    check_capacity(words[TEXT_USED], words[CARDS_USED], lent)
+    check_capacity(word(words, TEXT_USED), word(words, CARDS_USED), lent)
 }

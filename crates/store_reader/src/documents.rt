@@ -53,6 +53,7 @@ pub fn built_in_at(words: &[u32], n: usize) -> bool
 }
 
 // Whether the ignore switch was on when the document was filed that has the card n.
+#[tactic(auto, using(crate::proofs::Words::ignored_start, crate::proofs::Words::ignored_found, crate::proofs::Words::ignored_passed, crate::proofs::Words::ignored_over), unfolding(definition::specs::Store::document_count))]
 pub fn ignored_at(words: &[u32], n: usize) -> bool
     ensures { result ≡ ignored_at words.now n }
 {

@@ -1,6 +1,7 @@
 use mathlib.Core.List.{[], ◌∷◌}
 use Rattle.std.proofs.lemmas.Result.{err_from_is_err_and}
 use Rattle.definition.specs.Grammar.{part, Definition*}
+use Rattle.parser_lexer.proofs.SortLaws.{is, is_other}
 use Rattle.parser_values.proofs.Readers.{step_falls}
 use Rattle.parser.proofs.Documents.{begins, further, again, whole, refuses}
 use Rattle.parser.proofs.Headings.{next_in}
@@ -22,12 +23,12 @@ returns-in_err-k c =
     let p = err_from_is_err_and c.from_residual.result c.from_residual.ensures.1 in
     rw (p.1, p.2) (refuses text (part Definition* ∷ []) i.0 (d.0 i.0.ahead))
 
-pub returns-then-k-eq-END_OF_TEXT : goal.returns-then-k-eq-END_OF_TEXT
-returns-then-k-eq-END_OF_TEXT c =
+pub returns-then-eq : goal.returns-then-eq
+returns-then-eq c =
     let text = c.args.text.now in
     let i = c.loop-k.invariant in
     let d = next_in i.1 c.in_ok-k.ensures in
-    whole text c.if-k-eq-END_OF_TEXT.true (further text (part Definition* ∷ []) i.0 (d.0 i.0.ahead))
+    whole text (is c.in_ok-k.k.sort c.eq.ensures c.if-eq.true) (further text (part Definition* ∷ []) i.0 (d.0 i.0.ahead))
 
 pub loop-k-smaller : goal.loop-k-smaller
 loop-k-smaller c = step_falls c.args.text.now c.loop-k.c c.in_ok-k.k c.loop-k.invariant.1 c.in_ok-k.ensures.1
@@ -37,4 +38,4 @@ loop-k-preserved c =
     let text = c.args.text.now in
     let i = c.loop-k.invariant in
     let d = next_in i.1 c.in_ok-k.ensures in
-    (again text c.if-k-eq-END_OF_TEXT.false (further text (part Definition* ∷ []) i.0 (d.0 i.0.ahead)), d.1.0)
+    (again text (is_other c.in_ok-k.k.sort c.eq.ensures c.if-eq.false) (further text (part Definition* ∷ []) i.0 (d.0 i.0.ahead)), d.1.0)

@@ -1,16 +1,27 @@
+use native.Mathlib.Nat.{add-zero}
 use native.Mathlib.Omega.{arith}
 use mathlib.Core.Path.{refl, sym, ap, ◌∙◌}
+use mathlib.Core.Logic.{inl, inr}
+use lib.ListN.{drop}
+use lib.Seq.{get_or-drop}
 use Rattle.std.proofs.lemmas.List.{take_rest}
 use Rattle.parser_lexer.specs.Lexemes.{told}
+use Rattle.parser_lexer.specs.Sorts.{sort_number}
 use Rattle.parser_lexer.proofs.SizeLaws.{ignored_sizes, token_sizes}
+use Rattle.parser_lexer.proofs.LexemeLaws.{of_blank}
 use Rattle.parser_lexer.proofs.AheadLaws.{ignored_on, token_ahead, unreadable_ahead, end_ahead}
 use Rattle.parser_lexer.proofs.next_token.Goals as goal
 
-pub loop-i-init : goal.loop-i-init
-loop-i-init c = (omega arith, omega arith, refl)
+pub loop-i-preserved-then-text-i-eq-SPACE : goal.loop-i-preserved-then-text-i-eq-SPACE
+loop-i-preserved-then-text-i-eq-SPACE c = (
+  omega arith,
+  omega arith,
+  ignored_on c.args.text.now c.args.at c.loop-i.i c.loop-i.invariant.2 1 c.loop-i-test.true
+      (of_blank (drop c.loop-i.i c.args.text.now) (inr (inl (simp (get_or-drop, add-zero) c.if-text-i-eq-SPACE.true)))),
+)
 
-pub overflow_add-i : goal.overflow_add-i
-overflow_add-i c =
+pub overflow_add-i-in-Ignored : goal.overflow_add-i-in-Ignored
+overflow_add-i-in-Ignored c =
     let e = sym (rw (take_rest c.args.text.now c.loop-i.i) at c.lexeme.ensures) ∙ ap told c.in-Ignored.is in
     let z = ignored_sizes c.args.text.now c.loop-i.i c.loop-i-test.true c.in-Ignored.size e in
     omega (arith, z.1)
@@ -33,14 +44,14 @@ loop-i-preserved c =
 pub overflow_add-result : goal.overflow_add-result
 overflow_add-result c =
     let e = sym (rw (take_rest c.args.text.now c.loop-i.i) at c.lexeme.ensures) ∙ ap told c.in-Token.is in
-    let z = token_sizes c.args.text.now c.loop-i.i c.loop-i-test.true c.in-Token.sort c.in-Token.size e in
+    let z = token_sizes c.args.text.now c.loop-i.i c.loop-i-test.true (sort_number c.in-Token.sort) c.in-Token.size e in
     omega (arith, z.1)
 
 pub returns-in-Token : goal.returns-in-Token
 returns-in-Token c =
     let e = sym (rw (take_rest c.args.text.now c.loop-i.i) at c.lexeme.ensures) ∙ ap told c.in-Token.is in
-    let z = token_sizes c.args.text.now c.loop-i.i c.loop-i-test.true c.in-Token.sort c.in-Token.size e in (
-      token_ahead c.args.text.now c.args.at c.loop-i.i c.loop-i.invariant.2 c.in-Token.sort c.in-Token.size c.loop-i-test.true e,
+    let z = token_sizes c.args.text.now c.loop-i.i c.loop-i-test.true (sort_number c.in-Token.sort) c.in-Token.size e in (
+      token_ahead c.args.text.now c.args.at c.loop-i.i c.loop-i.invariant.2 (sort_number c.in-Token.sort) c.in-Token.size c.loop-i-test.true e,
       refl,
       refl,
       refl,
@@ -66,5 +77,5 @@ returns c = (
 pub invariant_of-result : goal.invariant_of-result
 invariant_of-result c =
     let e = sym (rw (take_rest c.args.text.now c.loop-i.i) at c.lexeme.ensures) ∙ ap told c.in-Token.is in
-    let z = token_sizes c.args.text.now c.loop-i.i c.loop-i-test.true c.in-Token.sort c.in-Token.size e in
+    let z = token_sizes c.args.text.now c.loop-i.i c.loop-i-test.true (sort_number c.in-Token.sort) c.in-Token.size e in
     record { lies = (c.loop-i.invariant.0, omega arith, omega (arith, z.1), c.requires.1, λ h. omega (arith, z.0)) }

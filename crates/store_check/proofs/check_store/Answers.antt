@@ -1,4 +1,3 @@
-use native.Mathlib.Omega.{arith}
 use mathlib.Core.Path.{sym, ◌∙◌}
 use Rattle.store_check.proofs.Sound.{counts_held}
 use Rattle.store_check.proofs.Checked.{found_sound}
@@ -7,7 +6,7 @@ use Rattle.store_check.proofs.check_store.Goals as goal
 pub rows_sound-requires : goal.rows_sound-requires
 rows_sound-requires c =
     let k = counts_held _ (sym c.counts_sound.ensures ∙ c.if-counts_sound.true) in
-    (omega (arith, c.if-words-lt-WORDS_CAPACITY.false), k.some, k.few)
+    (k.some, k.few)
 
 pub returns-then-zero_sound : goal.returns-then-zero_sound
 returns-then-zero_sound c =

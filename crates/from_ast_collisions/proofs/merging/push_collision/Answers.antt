@@ -1,20 +1,10 @@
 use mathlib.Core.Path.{◌≡◌, sym, ◌∙◌, ap}
 use mathlib.Core.List.{◌∷◌, []}
-use Rattle.definition.specs.Cards.{is_part}
 use Rattle.definition.specs.Errors.{error, collision_number}
 use Rattle.from_ast_collisions.specs.Views.{collision}
-use Rattle.from_ast_collisions.proofs.Push.{same_pushed, same_capacity, none_pushed}
-use Rattle.from_ast_collisions.proofs.Merge.{collision_use, collision_nothing, collision_own, collision_other, collision_kind, number_most}
+use Rattle.from_ast_collisions.proofs.Push.{same_pushed, same_capacity}
+use Rattle.from_ast_collisions.proofs.Merge.{collision_other, number_most}
 use Rattle.from_ast_collisions.proofs.merging.push_collision.Goals as goal
-
-pub returns-then-what-eq-DIRECTIVE : goal.returns-then-what-eq-DIRECTIVE
-returns-then-what-eq-DIRECTIVE c = none_pushed _ _ (collision_use _ _ _ _ _ (sym c.kind-what.ensures ∙ c.if-what-eq-DIRECTIVE.true))
-
-pub collision_error-requires-clause-least : goal.collision_error-requires-clause-least
-collision_error-requires-clause-least c = (collision_kind _ (ap is_part c.kind-what.ensures ∙ c.requires.is_part) c.if-what-eq-DIRECTIVE.false).0
-
-pub collision_error-requires-clause-most : goal.collision_error-requires-clause-most
-collision_error-requires-clause-most c = (collision_kind _ (ap is_part c.kind-what.ensures ∙ c.requires.is_part) c.if-what-eq-DIRECTIVE.false).1
 
 pub collision_error-requires-clause-known : goal.collision_error-requires-clause-known
 collision_error-requires-clause-known c =
@@ -35,13 +25,3 @@ returns-then-card-part c =
     same_pushed _ _ _ _ (collision_other _ _ _ _ _ _ c.args.owner.now.under_it (λ q. c.if-what-eq-DIRECTIVE.false (c.kind-what.ensures ∙ q)) c.in-Some.card _
     (sym c.find_earlier.ensures ∙ c.in-Some.is) c.if-card-part.true
     (c.collision_error.ensures ∙ ap (collision_number c.args.owner.now.kind) c.kind-what.ensures)) c.push.ensures
-
-pub returns-else-card-part : goal.returns-else-card-part
-returns-else-card-part c =
-    none_pushed _ _ (collision_own _ _ _ _ _ _ c.args.owner.now.under_it (λ q. c.if-what-eq-DIRECTIVE.false (c.kind-what.ensures ∙ q)) c.in-Some.card
-    (sym c.find_earlier.ensures ∙ c.in-Some.is) c.if-card-part.false)
-
-pub returns-in_default : goal.returns-in_default
-returns-in_default c =
-    none_pushed _ _ (collision_nothing _ _ _ _ _ _ c.args.owner.now.under_it (λ q. c.if-what-eq-DIRECTIVE.false (c.kind-what.ensures ∙ q))
-    (sym c.find_earlier.ensures ∙ c.in_default.is))

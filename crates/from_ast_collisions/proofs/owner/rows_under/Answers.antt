@@ -1,15 +1,11 @@
 use native.Mathlib.Omega.{arith}
-use borrow.Author.Rules.{rules}
 use mathlib.Core.Path.{sym, ◌∙◌}
 use Prim.Native.Nat.{◌*◌, ◌+◌}
 use lib.Seq.{take_all}
 use lib.ListN.{drop, length-drop}
-use Rattle.from_ast_collisions.proofs.Turns.{under_hit, under_no_what, under_no_card, under_end, row_after}
+use Rattle.from_ast_collisions.proofs.Turns.{under_hit, under_no_what, under_no_card, row_after}
 use Rattle.from_ast_collisions.proofs.owner.rows_under.Goals as goal
 use Rattle.from_ast_collisions.proofs.owner.rows_under.Goals.{else-row-what-via-then-row-what+else-row-card, else-row-what-via-else-row-what}
-
-pub loop-n-init : goal.loop-n-init
-loop-n-init c = search rules
 
 pub returns-then-row-card : goal.returns-then-row-card
 returns-then-row-card c =
@@ -36,8 +32,3 @@ loop-n-preserved c =
         | else-row-what-via-else-row-what w ↦ i.3 ∙ under_no_what _ _ _ _ _ s.0 (s.1 ∙ i.0) w.if-row-what.false
       ],
     )
-
-pub returns : goal.returns
-returns c =
-    let s = c.in-None.ensures.steps.0.1.0 in
-    sym (c.loop-n.invariant.3 ∙ under_end _ _ _ (omega (arith, s, c.loop-n.invariant.0)))

@@ -1,19 +1,10 @@
 use native.Mathlib.Omega.{arith}
-use mathlib.Core.Path.{◌∙◌}
-use Rattle.from_ast_collisions.proofs.Push.{turn_fits, turn_next}
+use Rattle.from_ast_collisions.proofs.Push.{turn_next}
 use Rattle.from_ast_collisions.proofs.Branches.{defined_kind}
 use Rattle.from_ast_errors.proofs.orphans.adoption_errors.Goals as goal
 
 pub owner-owner-requires : goal.owner-owner-requires
 owner-owner-requires c = omega (arith, defined_kind _ _ _ c.kind.ensures c.definition_of.ensures c.requires.held.least, c.requires.held.most)
-
-pub adopt_extension-requires-clause-defined : goal.adopt_extension-requires-clause-defined
-adopt_extension-requires-clause-defined c =
-    rw c.owner-owner.ensures.card (c.owner-owner.ensures.kind ∙ defined_kind _ _ _ c.kind.ensures c.definition_of.ensures c.requires.held.least)
-
-pub adopt_extension-requires-clause-capacity : goal.adopt_extension-requires-clause-capacity
-adopt_extension-requires-clause-capacity c =
-    rw (c.owner-owner.ensures.rows, c.owner-owner.ensures.card) (turn_fits _ _ _ _ _ c.loop-card.invariant (omega arith))
 
 pub loop-card-preserved : goal.loop-card-preserved
 loop-card-preserved c =

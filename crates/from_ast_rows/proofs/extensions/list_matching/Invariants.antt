@@ -3,7 +3,7 @@ use mathlib.Core.List.{◌++◌}
 use Prim.Native.Nat.{◌+◌, ◌≤◌}
 use lib.ListN.{length, drop}
 use Rattle.definition.specs.Lists.{filter}
-use Rattle.from_ast_index.specs.Grown.{listed_in}
+use Rattle.word_list.specs.Listed.{listed_in}
 use Rattle.component.specs.RowsByCards.{is_matching}
 use Rattle.from_ast_rows.proofs.extensions.list_matching.Given as goal
 

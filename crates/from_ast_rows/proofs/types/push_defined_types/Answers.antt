@@ -1,12 +1,8 @@
-use mathlib.Core.Path.{refl, ◌∙◌}
+use mathlib.Core.Path.{◌∙◌}
 use native.Mathlib.Omega.{arith}
-use Rattle.from_ast_index.proofs.Lists.{drop_next, drop_end}
-use Rattle.component.proofs.Pushing.{left_begin, left_capacity, left_next, left_end}
+use Rattle.component.proofs.Loops.{pushes_fits, pushes_next}
 use Rattle.from_ast_rows.proofs.Parts.{own_capacity, own_pushed, own_most, own_stored}
 use Rattle.from_ast_rows.proofs.types.push_defined_types.Goals as goal
-
-pub loop-card-init : goal.loop-card-init
-loop-card-init c = record { same_slice = refl; same_length = refl; left = left_begin _ _ _ _ refl c.requires.room }
 
 pub push_type-requires-clause-stored : goal.push_type-requires-clause-stored
 push_type-requires-clause-stored c =
@@ -16,28 +12,18 @@ push_type-requires-clause-stored c =
 pub push_type-requires-clause-few : goal.push_type-requires-clause-few
 push_type-requires-clause-few c =
     let i = c.args.index.now in
-    omega (arith, own_most i.listed i.spanned c.loop-card.card-index (omega arith) _ c.own_extensions.ensures)
+    omega (arith, c.loop-card.invariant.1, own_most i.listed i.spanned c.loop-card.card-index (omega arith) _ c.own_extensions.ensures)
 
 pub push_type-requires-clause-room : goal.push_type-requires-clause-room
 push_type-requires-clause-room c =
     let i = c.args.index.now in
     own_capacity i.listed i.spanned c.loop-card.card-index (omega arith) _ c.own_extensions.ensures _ _
-    (left_capacity _ _ _ _ c.loop-card.invariant.left _ _ (drop_next _ c.loop-card.card-index (omega arith)))
+    (pushes_fits _ _ _ _ _ c.loop-card.invariant.0 (omega arith))
 
 pub loop-card-preserved : goal.loop-card-preserved
 loop-card-preserved c =
     let i = c.args.index.now in
+    let turn = c.loop-card.invariant in
     let r = c.push_type.ensures in
-    record {
-      same_slice = r.rows.same_slice ∙ c.loop-card.invariant.same_slice;
-      same_length = r.mine ∙ c.loop-card.invariant.same_length;
-      left =
-          left_next _ _ _ _ c.loop-card.invariant.left _ _ (drop_next _ c.loop-card.card-index (omega arith)) _
-          (r.rows.rows_are ∙ own_pushed i.listed i.spanned c.loop-card.card-index (omega arith) _ c.own_extensions.ensures _);
-    }
-
-pub returns-clause-rows : goal.returns-clause-rows
-returns-clause-rows c = record {
-  same_slice = c.loop-card.invariant.same_slice;
-  rows_are = left_end _ _ _ _ c.loop-card.invariant.left (drop_end _ c.loop-card.card-index (omega arith));
-}
+    let own = own_pushed i.listed i.spanned c.loop-card.card-index (omega arith) _ c.own_extensions.ensures _ in
+    (pushes_next _ _ _ _ _ turn.0 (omega arith) _ (record { same_slice = r.rows.same_slice; rows_are = r.rows.rows_are ∙ own }), r.mine ∙ turn.1)

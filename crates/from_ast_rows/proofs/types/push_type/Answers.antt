@@ -1,7 +1,7 @@
 -- The type's row, and then its lists.
-use mathlib.Core.Path.{refl, ◌∙◌}
-use Rattle.component.proofs.Pushing.{rest_begin, rest_capacity, rest_next, rest_fits}
-use Rattle.component.proofs.Turns.{one_capacity}
+use mathlib.Core.Path.{sym, ◌∙◌}
+use Rattle.component.proofs.Loops.{run_first, run_second, run_both}
+use Rattle.component.proofs.Turns.{type_extension_kind, one_capacity}
 use Rattle.component.proofs.Matching.{matching_stored, type_cut}
 use Rattle.from_ast_rows.proofs.types.push_type.Goals as goal
 
@@ -9,25 +9,19 @@ pub invariant_of-taken : goal.invariant_of-taken
 invariant_of-taken c = record {
   card_stored = c.requires.card_stored;
   extensions_stored = matching_stored _ _ _ _ _ (c.as_slice.ensures ∙ c.list_matching.ensures.listed) c.requires.stored;
+  adopted_is = sym (type_extension_kind _ _ _ c.kind.ensures c.is_type_extension.ensures);
 }
 
 pub push_row-requires : goal.push_row-requires
 push_row-requires c =
-    let rest = rest_begin _ _ _ refl c.requires.room in
-    one_capacity _ _ _ (rest_capacity _ _ _ rest _ _ (type_cut _ _ _ _ _ (c.as_slice.ensures ∙ c.list_matching.ensures.listed)))
+    let cut = type_cut _ _ _ _ _ (c.as_slice.ensures ∙ c.list_matching.ensures.listed) in
+    one_capacity _ _ _ (run_first c.args.rows.now _ _ _ cut c.requires.room)
 
 pub collect_lists-requires : goal.collect_lists-requires
 collect_lists-requires c =
-    let rest = rest_begin _ _ _ refl c.requires.room in
-    rest_fits _ _ _ (rest_next _ _ _ rest _ _ (type_cut _ _ _ _ _ (c.as_slice.ensures ∙ c.list_matching.ensures.listed)) _ c.push_row.ensures.rows_are)
+    run_second _ _ _ _ (type_cut _ _ _ _ _ (c.as_slice.ensures ∙ c.list_matching.ensures.listed)) c.requires.room _ c.push_row.ensures
 
 pub returns-clause-rows : goal.returns-clause-rows
 returns-clause-rows c =
-    let rest = rest_begin _ _ _ refl c.requires.room in
-    let r = c.collect_lists.ensures in
-    record {
-      same_slice = r.same_slice ∙ c.push_row.ensures.same_slice;
-      rows_are =
-          r.rows_are
-          ∙ (rest_next _ _ _ rest _ _ (type_cut _ _ _ _ _ (c.as_slice.ensures ∙ c.list_matching.ensures.listed)) _ c.push_row.ensures.rows_are).whole;
-    }
+    let cut = type_cut _ _ _ _ _ (c.as_slice.ensures ∙ c.list_matching.ensures.listed) in
+    run_both _ _ _ _ cut c.requires.room _ c.push_row.ensures _ c.collect_lists.ensures

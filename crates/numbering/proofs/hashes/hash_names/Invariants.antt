@@ -1,7 +1,7 @@
 use Prim.Native.Nat.{ℕ, ◌<◌}
 use mathlib.Core.Path.{◌≡◌}
 use lib.ListN.{length, get_or}
-use Rattle.numbering.specs.Hashes.{hash_of}
+use Rattle.name.specs.Hashes.{hash_of}
 use Rattle.numbering.specs.Named.{named}
 use Rattle.numbering.proofs.hashes.hash_names.Given as goal
 

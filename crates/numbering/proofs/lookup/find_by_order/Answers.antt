@@ -21,13 +21,6 @@ returns-in_err-card c =
     rw c.from_residual.ensures (ordered_none (named e.names) e.hashes.now q.name.now q.hash (count e.names) (take c.count.result c.args.order.now) c.place_of.result
     e.hashed q.hashed (front_sorted c.count.ensures c.requires.1) c.place_of.ensures (λ l. absurd (omega arith)))
 
-pub has_name-requires : goal.has_name-requires
-has_name-requires c =
-    let long = front_long c.args.order.now c.count.ensures c.requires.0 in
-    let is : c.in_ok-card.field-0.now ≡ get_or (take c.count.result c.args.order.now) c.place_of.result 0 = search rules in
-    let here : c.place_of.result < length (take c.count.result c.args.order.now) = search rules in
-    omega (arith, (front_sorted c.count.ensures c.requires.1).each_card c.place_of.result (omega arith))
-
 pub returns-then-has_name : goal.returns-then-has_name
 returns-then-has_name c =
     let e = c.args.hashed in

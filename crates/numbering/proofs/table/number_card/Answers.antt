@@ -5,7 +5,7 @@ use Prim.Native.Nat.{◌+◌, ◌-◌, ◌<◌}
 use lib.ListN.{length, get_or, set}
 use lib.Seq.{get_or-set_same}
 use Rattle.std.proofs.Common.{Some}
-use Rattle.numbering.specs.Hashes.{hash_of}
+use Rattle.name.specs.Hashes.{hash_of}
 use Rattle.numbering.specs.Named.{named}
 use Rattle.numbering.specs.Table.{most_probes}
 use Rattle.numbering.proofs.TableLaws.{words_most, start_is, turned_new, turned_old}

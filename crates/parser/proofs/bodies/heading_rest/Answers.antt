@@ -1,37 +1,30 @@
+use native.Mathlib.Omega.{arith}
 use borrow.Author.Tests.{le-leb, lt-leb}
 use Rattle.parser_items.proofs.Items.{no_cards}
 use Rattle.parser.specs.Symbols.{rest_of, directive_rest}
 use Rattle.parser.proofs.bodies.heading_rest.Goals as goal
 
-pub returns-then-kind-le-DIRECTIVE_DEFINITION : goal.returns-then-kind-le-DIRECTIVE_DEFINITION
+pub returns-in-0-to-3 : goal.returns-in-0-to-3
 unfolding rest_of
-returns-then-kind-le-DIRECTIVE_DEFINITION c =
+returns-in-0-to-3 c =
     let a = c.args in
     let e = c.directive_rest in
-    rw (le-leb a.kind 3 c.if-kind-le-DIRECTIVE_DEFINITION.true) (no_cards a.c.text.now directive_rest a.cards.now e.ensures)
+    rw (le-leb a.kind 3 (omega arith)) (no_cards a.c.text.now directive_rest a.cards.now e.ensures)
 
-pub returns-then-kind-le-INPUT_OBJECT_TYPE_DEFINITION : goal.returns-then-kind-le-INPUT_OBJECT_TYPE_DEFINITION
+pub returns-in-4-to-10 : goal.returns-in-4-to-10
 unfolding rest_of
-returns-then-kind-le-INPUT_OBJECT_TYPE_DEFINITION c =
+returns-in-4-to-10 c =
     let k = c.args.kind in
-    rw (lt-leb k 3 c.if-kind-le-DIRECTIVE_DEFINITION.false, le-leb k 10 c.if-kind-le-INPUT_OBJECT_TYPE_DEFINITION.true) c.body.ensures
+    rw (lt-leb k 3 (omega arith), le-leb k 10 (omega arith)) c.body.ensures
 
-pub returns-then-kind-le-SCHEMA_EXTENSION : goal.returns-then-kind-le-SCHEMA_EXTENSION
+pub returns-in-11 : goal.returns-in-11
 unfolding rest_of
-returns-then-kind-le-SCHEMA_EXTENSION c =
+returns-in-11 c =
     let k = c.args.kind in
-    rw (
-      lt-leb k 3 c.if-kind-le-DIRECTIVE_DEFINITION.false,
-      lt-leb k 10 c.if-kind-le-INPUT_OBJECT_TYPE_DEFINITION.false,
-      le-leb k 11 c.if-kind-le-SCHEMA_EXTENSION.true,
-    ) c.more.ensures
+    rw (lt-leb k 3 (omega arith), lt-leb k 10 (omega arith), le-leb k 11 (omega arith)) c.more.ensures
 
-pub returns : goal.returns
+pub returns-in_default : goal.returns-in_default
 unfolding rest_of
-returns c =
+returns-in_default c =
     let k = c.args.kind in
-    rw (
-      lt-leb k 3 c.if-kind-le-DIRECTIVE_DEFINITION.false,
-      lt-leb k 10 c.if-kind-le-INPUT_OBJECT_TYPE_DEFINITION.false,
-      lt-leb k 11 c.if-kind-le-SCHEMA_EXTENSION.false,
-    ) c.more-2.ensures
+    rw (lt-leb k 3 (omega arith), lt-leb k 10 (omega arith), lt-leb k 11 (omega arith)) c.more-in_default.ensures

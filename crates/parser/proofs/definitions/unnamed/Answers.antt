@@ -19,4 +19,4 @@ pub returns : goal.returns
 returns c =
     let a = c.args in
     let e = c.in_ok-k.ensures in
-    (λ h. ends a.c.text.now (rest_of a.kind) h c.requires.2 (e.0 h.ahead) c.end_heading.ensures, e.1)
+    (λ h. ends a.c.text.now (rest_of a.kind) h c.requires.1.1 (e.0 h.ahead) c.end_heading.ensures, e.1)

@@ -6,6 +6,7 @@ use Rattle.definition.specs.Lists.{all, any, here, there}
 use Rattle.definition.specs.Grammar.{Symbol, part, brace_opens, brace_closes, rule, within}
 use Rattle.definition.specs.GrammarSets.{nullable, first}
 use Rattle.definition.specs.Machine.{has}
+use Rattle.parser_lexer.proofs.SortLaws.{is, is_other}
 use Rattle.parser_laws.proofs.Tests.{subset}
 use Rattle.parser_lexer.specs.declared.cursor.Cursor.{Cursor}
 use Rattle.std.specs.Prelude.{Ok, Err}
@@ -105,13 +106,13 @@ pub loop-j-preserved : goal.loop-j-preserved
 loop-j-preserved c =
     let a = c.args in
     let text = c.in_ok-k.k.text.now in
-    again text (item_of a.list) (more_of a.list) 13 (repeated a.list) (items_of a.list) [] c.if-j-eq-BRACE_CLOSES.false
+    again text (item_of a.list) (more_of a.list) 13 (repeated a.list) (items_of a.list) [] (is_other c.in_ok-j.j.sort c.eq.ensures c.if-eq.false)
     (left text a.list c.loop-j.invariant c.in_ok-j.ensures)
 
-pub returns-then-j-eq-BRACE_CLOSES : goal.returns-then-j-eq-BRACE_CLOSES
-returns-then-j-eq-BRACE_CLOSES c =
+pub returns-then-eq : goal.returns-then-eq
+returns-then-eq c =
     let a = c.args in
     let text = c.in_ok-k.k.text.now in
     let i = left text a.list c.loop-j.invariant c.in_ok-j.ensures in
     opened a.c.text.now a.list (Ok c.next.result) refl c.in_ok-k.ensures
-    (closes text (item_of a.list) (more_of a.list) 13 (repeated a.list) (items_of a.list) c.if-j-eq-BRACE_CLOSES.true c.next.ensures i)
+    (closes text (item_of a.list) (more_of a.list) 13 (repeated a.list) (items_of a.list) (is c.in_ok-j.j.sort c.eq.ensures c.if-eq.true) c.next.ensures i)

@@ -6,6 +6,7 @@ use Rattle.definition.specs.Lists.{Among, here, there}
 use Rattle.definition.specs.Grammar.{part, rule, within}
 use Rattle.definition.specs.GrammarSets.{nullable, first}
 use Rattle.definition.specs.Machine.{has, first_set_of}
+use Rattle.parser_lexer.proofs.SortLaws.{differs, differs_not}
 use Rattle.parser_values.proofs.Readers.{not_there}
 use Rattle.parser_items.specs.declared.definitions.ItemDefinition.TheVariants.{Field, EnumValue, InputField}
 use Rattle.parser_items.specs.declared.braces.Braced.{Braced}
@@ -28,16 +29,16 @@ either (Definitions Field) = record { standing = here; absent = there here; open
 either (Definitions EnumValue) = record { standing = here; absent = there here; opener = refl; begins = refl }
 either (Definitions InputField) = record { standing = here; absent = there here; opener = refl; begins = refl }
 
-pub returns-then-c-ne-BRACE_OPENS : goal.returns-then-c-ne-BRACE_OPENS
-returns-then-c-ne-BRACE_OPENS c =
+pub returns-then-ne : goal.returns-then-ne
+returns-then-ne c =
     let a = c.args in
     let t = either a.list in
     let text = a.c.text.now in
-    no_cards text (part (optional_of a.list) ∷ []) a.cards.now (not_there (optional_of a.list) 11 t.absent t.opener c.if-c-ne-BRACE_OPENS.true refl)
+    no_cards text (part (optional_of a.list) ∷ []) a.cards.now (not_there (optional_of a.list) 11 t.absent t.opener (differs c.args.c.sort c.ne.ensures c.if-ne.true) refl)
 
 pub returns : goal.returns
 returns c =
     let a = c.args in
     let t = either a.list in
     chosen a.c.text.now (optional_of a.list) (part (list_of a.list) ∷ []) 11 t.standing t.begins (omega arith)
-    c.if-c-ne-BRACE_OPENS.false (may_list a.c.text.now (part (list_of a.list) ∷ []) c.items.result c.items.ensures)
+    (differs_not c.args.c.sort c.ne.ensures c.if-ne.false) (may_list a.c.text.now (part (list_of a.list) ∷ []) c.items.result c.items.ensures)

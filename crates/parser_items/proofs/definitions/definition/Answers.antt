@@ -9,6 +9,7 @@ use Rattle.definition.specs.Grammar.{Symbol, one, part, mark, named, item_ends, 
 use Rattle.definition.specs.GrammarSets.{nullable}
 use Rattle.definition.specs.ItemCards.{begun, named_by}
 use Rattle.parser_laws.proofs.Ahead.{token_of}
+use Rattle.parser_lexer.specs.Sorts.{sort_number}
 use Rattle.parser_lexer.specs.declared.cursor.Cursor.{Cursor}
 use Rattle.std.specs.Prelude.{Ok, Err}
 use Rattle.parser_values.specs.Reads.{May, Flat}
@@ -38,7 +39,7 @@ wants InputField = refl
 
 -- The card after the name, which stands ahead of n.
 abbrev card : ItemDefinition → Cursor → Cursor → Card
-card d b n = named_by (token_of n.sort n.begins n.ends) (begun (kind_of d) b.begins)
+card d b n = named_by (token_of (sort_number n.sort) n.begins n.ends) (begun (kind_of d) b.begins)
 
 module _ (d : ItemDefinition) {b n : Cursor} (f : May (part Description? ∷ []) b.text.now b 0 (Ok n)) where
   at_name : InItem b.last (symbols_of d) b.text.now b (name_on d) n (card d b n)

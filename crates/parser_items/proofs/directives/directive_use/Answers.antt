@@ -7,6 +7,7 @@ use Rattle.definition.specs.Grammar.{Symbol, part, mark, item, named, at, name, 
 use Rattle.definition.specs.GrammarSets.{nullable}
 use Rattle.definition.specs.ItemCards.{begun, named_by}
 use Rattle.parser_laws.proofs.Ahead.{token_of}
+use Rattle.parser_lexer.specs.Sorts.{sort_number}
 use Rattle.parser_lexer.specs.declared.cursor.Cursor.{Cursor}
 use Rattle.std.specs.Prelude.{Ok}
 use Rattle.parser_values.specs.Reads.{Flat}
@@ -29,13 +30,13 @@ module _ {b : Cursor} where
 
   module _ {n : Cursor} (f : Flat (at ∷ []) b.text.now b (Ok n)) where
     at_name : InItem (b.last + 1) symbols b.text.now b (name ∷ part Arguments? ∷ mark item_ends ∷ []) n
-        (named_by (token_of n.sort n.begins n.ends) (begun 20 b.begins))
+        (named_by (token_of (sort_number n.sort) n.begins n.ends) (begun 20 b.begins))
     unfolding wanting
     at_name = called b.text.now symbols _ refl (past b.text.now symbols (at ∷ []) _ at_sign (must b.text.now (at ∷ []) f))
 
     at-arguments : {k : Cursor} → Flat (name ∷ []) n.text.now n (Ok k) →
         InItem (b.last + 1 + 1) symbols b.text.now b (part Arguments? ∷ mark item_ends ∷ []) k
-        (named_by (token_of n.sort n.begins n.ends) (begun 20 b.begins))
+        (named_by (token_of (sort_number n.sort) n.begins n.ends) (begun 20 b.begins))
     at-arguments g = past b.text.now symbols (name ∷ []) _ at_name (must b.text.now (name ∷ []) g)
 
 pub returns-in_err-name : goal.returns-in_err-name

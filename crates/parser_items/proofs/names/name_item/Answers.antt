@@ -5,6 +5,7 @@ use native.Mathlib.Omega.{arith}
 use Rattle.definition.specs.Grammar.{mark, named, name, item_ends}
 use Rattle.definition.specs.ItemCards.{begun, named_by}
 use Rattle.parser_laws.proofs.Ahead.{token_of}
+use Rattle.parser_lexer.specs.Sorts.{sort_number}
 use Rattle.parser_lexer.specs.declared.cursor.Cursor.{Cursor}
 use Rattle.parser_values.proofs.Readers.{handed, may, flat}
 use Rattle.parser_items.specs.Names.{name_item}
@@ -14,7 +15,7 @@ use Rattle.parser_items.proofs.names.name_item.Goals as goal
 
 -- Before the name.
 at_name : (kind : ℕ) (b : Cursor) →
-    InItem b.last (name_item kind) b.text.now b (name ∷ mark item_ends ∷ []) b (named_by (token_of b.sort b.begins b.ends) (begun kind b.begins))
+    InItem b.last (name_item kind) b.text.now b (name ∷ mark item_ends ∷ []) b (named_by (token_of (sort_number b.sort) b.begins b.ends) (begun kind b.begins))
 unfolding wanting
 at_name kind b =
     called b.text.now (name_item kind) (name ∷ mark item_ends ∷ []) refl (starts b.text.now kind (mark named ∷ name ∷ mark item_ends ∷ []) refl refl)

@@ -2,6 +2,7 @@ use mathlib.Core.Path.{◌≡◌}
 use Prim.Native.Nat.{◌≤◌, ◌-◌}
 use lib.ListN.{length}
 use Rattle.parser_lexer.specs.Ahead.{Ahead}
+use Rattle.parser_lexer.specs.Sorts.{sort_number}
 use Rattle.parser_items.specs.Names.{NameList, Joined}
 use Rattle.parser_items.specs.Lists.{Listing}
 use Rattle.parser_items.proofs.Joined.{rest}
@@ -11,7 +12,7 @@ abbrev pub invariant-loop-j : goal.invariant-loop-j
 invariant-loop-j l =
     (l.k.text.now ≡ l.initial.k.text.now) ×
     (l.initial.k.last ≤ l.k.last) ×
-    ((n : NameList) → Joined l.opener l.joiner l.kind n → Ahead l.initial.k.text.now l.initial.k →
+    ((n : NameList) → Joined (sort_number l.fn.opener) (sort_number l.joiner) l.kind n → Ahead l.initial.k.text.now l.initial.k →
     Listing (rest n) l.initial.k.text.now l.initial.k l.initial.cards (rest n) l.k l.cards)
 
 abbrev pub decreases-loop-j : goal.decreases-loop-j

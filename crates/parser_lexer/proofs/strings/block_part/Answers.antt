@@ -1,13 +1,7 @@
 use mathlib.Core.Path.{sym, ◌∙◌}
-use Rattle.std.proofs.Common.{rules, tests}
-use Rattle.std.proofs.lemmas.Iterator.{YieldsList-from_slice}
-use Rattle.std.proofs.lemmas.Iterator.Consumers.{count_from_yields_List}
-use Rattle.std.proofs.lemmas.Iterator.Search.{YieldsList-from_take_while}
 use Rattle.std.proofs.lemmas.List.{take_rest}
-use Rattle.std.proofs.lemmas.List.Folds.{length-prefix_len}
 use native.Mathlib.Omega.{arith}
 use lib.ListN.{get_or}
-use Rattle.parser_lexer.specs.Strings.{is_simple}
 use Rattle.parser_lexer.proofs.StringLaws.{simple_first, block_row, block_escape, block_backslash, block_quote, block_character}
 use Rattle.parser_lexer.proofs.strings.block_part.Goals as goal
 use Rattle.parser_lexer.proofs.strings.block_part.Goals.{in_default-via-then-this-lt32, in_default-via-else-this-lt32+else-this-lt128}
@@ -25,10 +19,7 @@ returns-in-34-2 c = block_quote c.args.bytes.now c.requires.0 c.requires.1 c.in-
 
 pub returns-in-32-to-127 : goal.returns-in-32-to-127
 returns-in-32-to-127 c =
-    let count = count_from_yields_List c.take_while.result _ c.count.ensures.ran
-    (YieldsList-from_take_while _ is_simple (YieldsList-from_slice c.args.bytes.now (cc)) c.take_while.ensures.closure
-    c.take_while.ensures.done (λ x b q k. search (rules, tests))) ∙ length-prefix_len is_simple c.args.bytes.now in
-    block_row c.args.bytes.now _ (simple_first (get_or c.args.bytes.now 0 0) (omega arith) (omega arith) (omega arith) (omega arith)) count
+    block_row c.args.bytes.now _ (simple_first (get_or c.args.bytes.now 0 0) (omega arith) (omega arith) (omega arith) (omega arith)) c.simple_row.ensures
 
 pub returns-in_default : goal.returns-in_default
 returns-in_default c =

@@ -16,10 +16,10 @@ use Rattle.parser_lexer.proofs.tokens.lexeme.Goals.{in_default-via-in_default+th
 use Rattle.parser_lexer.proofs.tokens.lexeme.Goals.{in_default-via-in_default+else-byte-lt9+else-byte-lt11+then-byte-lt48}
 use Rattle.parser_lexer.proofs.tokens.lexeme.Goals.{in_default-via-in_default+else-byte-lt9+else-byte-lt11+else-byte-lt48+else-byte-lt58}
 
-pub returns-then-is_name_start : goal.returns-then-is_name_start
+pub returns-then-begins : goal.returns-then-begins
 unfolding named
-returns-then-is_name_start c =
-    sym (of_name c.args.bytes.now (sym c.is_name_start.ensures ∙ c.if-is_name_start.true) ∙
+returns-then-begins c =
+    sym (of_name c.args.bytes.now (sym c.begins.ensures ∙ c.if-begins.true) ∙
     rw (← c.name_size-size.ensures, ← c.word_sort.ensures))
 
 pub returns-in-34 : goal.returns-in-34
@@ -64,10 +64,10 @@ returns-in_default c =
           c.punctuator.ensures ∙ sym (no_dots c.args.bytes.now w.in-46.is (sym w.is_followed.ensures ∙ w.if-is_followed.false))
       | in_default-via-in-239+else-is_followed-2 w ↦
           c.punctuator.ensures ∙ sym (no_mark c.args.bytes.now w.in-239.is (sym w.if-is_followed-2.ensures))
-      | in_default-via-in_default+then-byte-lt9 w ↦ c.punctuator.ensures ∙ sym (of_low c.args.bytes.now (sym c.is_name_start.ensures ∙ c.if-is_name_start.false) (omega arith))
+      | in_default-via-in_default+then-byte-lt9 w ↦ c.punctuator.ensures ∙ sym (of_low c.args.bytes.now (sym c.begins.ensures ∙ c.if-begins.false) (omega arith))
       | in_default-via-in_default+else-byte-lt9+else-byte-lt11+then-byte-lt48 w ↦
-          c.punctuator.ensures ∙ sym (of_middle c.args.bytes.now (sym c.is_name_start.ensures ∙ c.if-is_name_start.false) (omega arith) (omega arith) (search rules) (search rules) (search rules)
+          c.punctuator.ensures ∙ sym (of_middle c.args.bytes.now (sym c.begins.ensures ∙ c.if-begins.false) (omega arith) (omega arith) (search rules) (search rules) (search rules)
           (search rules) (search rules))
       | in_default-via-in_default+else-byte-lt9+else-byte-lt11+else-byte-lt48+else-byte-lt58 w ↦
-          c.punctuator.ensures ∙ sym (of_high c.args.bytes.now (sym c.is_name_start.ensures ∙ c.if-is_name_start.false) (omega arith) (search rules))
+          c.punctuator.ensures ∙ sym (of_high c.args.bytes.now (sym c.begins.ensures ∙ c.if-begins.false) (omega arith) (search rules))
     ]

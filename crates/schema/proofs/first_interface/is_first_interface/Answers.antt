@@ -1,14 +1,10 @@
 use mathlib.Core.Path.{◌∙◌, refl, ap}
-use native.Mathlib.Omega.{arith}
 use Rattle.definition.specs.Catalogue.{Row}
 use Rattle.store_reader.specs.Stored.{card_name}
 use Rattle.schema.proofs.SearchStops.{interface_told}
 use Rattle.schema.proofs.first_interface.is_first_interface.Goals as goal
 
 -- What was found is the row itself exactly where no interface before it under the type has the name.
-pub row-requires : goal.row-requires
-row-requires c = let o = c.requires.2 in let b = o.before in omega arith
-
 pub returns : goal.returns
 returns c =
     let p = c.requires in

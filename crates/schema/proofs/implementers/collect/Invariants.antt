@@ -1,6 +1,6 @@
 use Rattle.definition.specs.Lookups.{all_implementing}
 use Rattle.schema_rows.specs.Rows.{cards_of, rows_of}
-use Rattle.schema_rows.proofs.Listing.{Listing}
+use Rattle.word_list.proofs.Filling.{Filling}
 use Rattle.schema.specs.Gather.{pair_words, pairs_left}
 use Rattle.schema.specs.Owners.{owner_of, LastType}
 use Rattle.schema.proofs.implementers.collect.Given as goal
@@ -11,4 +11,4 @@ invariant-loop-i l =
     let cs = cards_of l.schema in
     let rows = l.schema.rows.now in
     LastType rows l.owner l.i
-    × Listing l.initial.pairs l.pairs l.n (pairs_left cs rows (owner_of cs rows l.owner l.i) l.i) (pair_words (all_implementing cs (rows_of l.schema)))
+    × Filling l.initial.pairs l.pairs (pairs_left cs rows (owner_of cs rows l.owner l.i) l.i) (pair_words (all_implementing cs (rows_of l.schema)))

@@ -1,6 +1,6 @@
 use mathlib.Core.Path.{◌∙◌, ap}
 use Rattle.definition.specs.declared.FieldFound.TheVariants.{Explicit}
-use Rattle.definition.specs.declared.FieldLookup.TheVariants.{Found}
+use Rattle.definition.specs.Answers.{Found}
 use Rattle.definition.specs.Catalogue.{Row}
 use Rattle.std.specs.Prelude.{ok_or}
 use Rattle.definition.specs.declared.FieldLookupError.TheVariants.{NoSuchField}

@@ -1,59 +1,60 @@
-use mathlib.Core.Path.{◌≡◌, ◌∙◌, sym, ap}
-use mathlib.Core.List.{List}
+use mathlib.Core.Path.{◌∙◌, sym, ap}
+use mathlib.Core.List.{List, [], ◌∷◌}
 use Prim.Native.Nat.{ℕ, ◌+◌}
 use native.Mathlib.Omega.{arith}
+use borrow.Author.Rules.{rules}
 use lib.Dec.{eqb}
-use lib.ListN.{take, drop, set}
-use Rattle.definition.specs.Cards.{is_type}
-use Rattle.definition.specs.Catalogue.{Row}
-use Rattle.definition.specs.LentRows.{lent_rows}
-use Rattle.definition.specs.Lists.{choose, filter, firsts}
-use Rattle.definition.specs.Lookups.{is_schema_part, origin_list, is_card}
-use Rattle.schema_rows.proofs.Listing.{Listing, listing_done, listing_same}
+use Rattle.definition.specs.Lists.{filter, firsts}
+use Rattle.definition.specs.Lookups.{is_card}
 use Rattle.schema.specs.Extensions.{is_new}
-use Rattle.schema.proofs.OriginsLaws.{origins_end, origins_stop, origins_here, origins_over, extension_start, extension_capacity, extension_turn, firsts_none}
+use Rattle.word_list.specs.Listed.{listed_in}
+use Rattle.word_list.proofs.Filling.{filling_start, filling_same, filling_capacity, filling_next, filling_done}
+use Rattle.schema.proofs.OriginsLaws.{origins_left, left_start, left_end, left_here, left_over, extension_here, extension_over, extension_start, firsts_none}
 use Rattle.schema.proofs.origins.extensions.Goals as goal
-use Rattle.schema.proofs.origins.extensions.Goals.{then-is_schema_part, else-is_schema_part}
+use Rattle.schema.proofs.origins.extensions.Goals.{then-is_schema_part+then-is_new, else-is_schema_part, else-is_schema_part-via-then-is_schema_part+else-is_new, else-is_schema_part-via-else-is_schema_part}
 
 pub loop-i-init : goal.loop-i-init
-loop-i-init c = extension_start _ _
+loop-i-init c = filling_same _ _ _ _ _ (filling_start _ _ (let h = c.requires in omega arith)) (extension_start _ _ (left_start _ _ c.schema_block-block.ensures))
 
-pub returns-then-is_type : goal.returns-then-is_type
-returns-then-is_type c =
-    let type = sym (ap (λ (r : Row). is_type r.what) c.row-row.ensures) ∙ sym c.is_type.ensures ∙ c.if-is_type.true in
-    listing_done _ _ _ _ _ c.loop-i.invariant (firsts_none _ _ (origins_stop _ _ (omega arith) type))
+pub as_slice-requires : goal.as_slice-requires
+as_slice-requires c = let k = filling_capacity _ _ _ _ c.loop-i.invariant in omega arith
 
--- The extension at hand is the first of those left.
-at_hand : (list₀ list rows whole : List ℕ) (n i : ℕ) →
-    Listing list₀ list n (firsts eqb (take n list) (filter is_card (origin_list (drop i (lent_rows rows))))) whole → (os : List ℕ) →
-    origin_list (drop i (lent_rows rows)) ≡ os → Listing list₀ list n (firsts eqb (take n list) (filter is_card os)) whole
-at_hand list₀ list rows whole n i l os e = listing_same _ _ _ _ _ _ l (ap (λ (os : List ℕ). firsts eqb (take n list) (filter is_card os)) e)
-
-pub add_extension-n-requires : goal.add_extension-n-requires
-add_extension-n-requires c =
-    let type = sym (ap (λ (r : Row). is_type r.what) c.row-row.ensures) ∙ sym c.is_type.ensures ∙ c.if-is_type.false in
-    let part = sym (ap is_schema_part c.row-row.ensures) ∙ sym c.is_schema_part.ensures ∙ c.if-is_schema_part.true in
-    let l = at_hand _ _ _ _ _ _ c.loop-i.invariant _ (origins_here _ _ (omega arith) type part) in
-    let new = ap (λ (r : Row). is_new (take c.loop-i.n c.loop-i.list) r.origin) c.row-row.ensures in
-    (l.within, λ e. extension_capacity _ _ _ _ _ _ l c.requires (sym new ∙ e))
+pub push-requires : goal.push-requires
+push-requires c =
+    let here = left_here _ _ (omega arith) _ c.row-row.ensures (sym c.is_schema_part.ensures ∙ c.if-is_schema_part.true) in
+    let new = ap (λ (l : List ℕ). is_new l c.row-row.result.origin) (sym c.as_slice.ensures) ∙ sym c.is_new.ensures ∙ c.if-is_new.true in
+    let k = filling_capacity _ _ _ _ (filling_same _ _ _ _ _ c.loop-i.invariant (extension_here _ _ _ _ here new)) in
+    omega arith
 
 pub loop-i-preserved : goal.loop-i-preserved
 loop-i-preserved c =
-    let type = sym (ap (λ (r : Row). is_type r.what) c.row-row.ensures) ∙ sym c.is_type.ensures ∙ c.if-is_type.false in
-    let list = c.loop-i.list in
-    let n = c.loop-i.n in
+    let rows = c.schema_block-block.result.rows.now in
+    let seen = listed_in c.loop-i.extensions in
     elim c.if-is_schema_part.branch [
-      | then-is_schema_part w ↦
-          let part = sym (ap is_schema_part c.row-row.ensures) ∙ sym c.is_schema_part.ensures ∙ w.if-is_schema_part.true in
-          let l = at_hand _ _ _ _ _ _ c.loop-i.invariant _ (origins_here _ _ (omega arith) type part) in
-          let added = w.add_extension-n.ensures in
-          extension_turn _ _ _ _ _ _ l c.requires _ _
-          (w.n-is ∙ added.0 ∙ ap (λ (r : Row). choose (is_new (take n list) r.origin) (n + 1) n) c.row-row.ensures)
-          (w.list-is ∙ added.1 ∙ ap (λ (r : Row). choose (is_new (take n list) r.origin) (set list n r.origin) list) c.row-row.ensures)
+      | then-is_schema_part+then-is_new w ↦
+          let here = left_here _ _ (omega arith) _ c.row-row.ensures (sym c.is_schema_part.ensures ∙ w.if-is_schema_part.true) in
+          let new = ap (λ (l : List ℕ). is_new l c.row-row.result.origin) (sym w.as_slice.ensures) ∙ sym w.is_new.ensures ∙ w.if-is_new.true in
+          rw w.extensions-is (
+          filling_same _ _ _ _ _
+          (filling_next _ _ _ _ c.loop-i.invariant (c.row-row.result.origin ∷ []) _ (extension_here _ _ _ _ here new) _
+          w.push.ensures.appends)
+          (ap (λ (l : List ℕ). firsts eqb l (filter is_card (origins_left rows (c.loop-i.i + 1)))) (sym w.push.ensures.listed)))
       | else-is_schema_part w ↦
-          let part = sym (ap is_schema_part c.row-row.ensures) ∙ sym c.is_schema_part.ensures ∙ w.if-is_schema_part.false in
-          rw (w.n-is, w.list-is) (at_hand _ _ _ _ _ _ c.loop-i.invariant _ (origins_over _ _ (omega arith) type part))
+          elim w.else-is_schema_part.branch [
+            | else-is_schema_part-via-then-is_schema_part+else-is_new v ↦
+                let here = left_here _ _ (omega arith) _ c.row-row.ensures (sym c.is_schema_part.ensures ∙ v.if-is_schema_part.true) in
+                let old = ap (λ (l : List ℕ). is_new l c.row-row.result.origin) (sym v.as_slice.ensures) ∙ sym v.is_new.ensures ∙ v.if-is_new.false in
+                rw w.extensions-is (filling_same _ _ _ _ _ c.loop-i.invariant (extension_over _ _ _ _ here old))
+            | else-is_schema_part-via-else-is_schema_part v ↦
+                let over = left_over _ _ (omega arith) _ c.row-row.ensures (sym c.is_schema_part.ensures ∙ v.if-is_schema_part.false) in
+                rw w.extensions-is (filling_same _ _ _ _ _ c.loop-i.invariant (ap (λ (os : List ℕ). firsts eqb seen (filter is_card os)) over))
+          ]
     ]
 
 pub returns : goal.returns
-returns c = listing_done _ _ _ _ _ c.loop-i.invariant (firsts_none _ _ (origins_end _ _ (omega arith)))
+returns c =
+    let all = filling_done _ _ _ _ c.loop-i.invariant (firsts_none _ _ (left_end _ _ (omega arith))) in
+    let grown = all.grown in
+    let same = all.same_slice in
+    let words = all.words in
+    (omega arith, search (rules, same, words))

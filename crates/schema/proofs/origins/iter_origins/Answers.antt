@@ -1,42 +1,37 @@
-use mathlib.Core.Path.{◌∙◌, sym, ap}
-use mathlib.Core.List.{◌∷◌}
-use Prim.Native.Nat.{◌+◌}
+use mathlib.Core.Path.{◌∙◌, sym}
+use mathlib.Core.List.{[], ◌∷◌}
 use native.Mathlib.Omega.{arith}
-use lib.ListN.{drop}
-use Rattle.definition.specs.Cards.{is_type}
-use Rattle.definition.specs.Catalogue.{Row}
-use Rattle.definition.specs.Lookups.{is_schema_part, origin_list}
-use Rattle.schema_rows.specs.Rows.{rows_of}
-use Rattle.schema_rows.proofs.Listing.{listing_push, listing_done, listing_same, listing_capacity_lem}
-use Rattle.schema.proofs.OriginsLaws.{origins_end, origins_stop, origins_here, origins_over}
+use borrow.Author.Rules.{rules}
+use Rattle.word_list.proofs.Filling.{filling_start, filling_same, filling_capacity, filling_next, filling_done}
+use Rattle.schema.proofs.OriginsLaws.{left_start, left_end, left_here, left_over}
 use Rattle.schema.proofs.origins.iter_origins.Goals as goal
 use Rattle.schema.proofs.origins.iter_origins.Goals.{then-is_schema_part, else-is_schema_part}
 
-pub returns-then-is_type : goal.returns-then-is_type
-returns-then-is_type c =
-    let type = sym (ap (λ (r : Row). is_type r.what) c.row-row.ensures) ∙ sym c.is_type.ensures ∙ c.if-is_type.true in
-    listing_done _ _ _ _ _ c.loop-i.invariant (origins_stop _ _ (omega arith) type)
+pub loop-i-init : goal.loop-i-init
+loop-i-init c = filling_same _ _ _ _ _ (filling_start _ _ (let h = c.requires in omega arith)) (sym (left_start _ _ c.schema_block-block.ensures))
 
-pub bounds-list-n : goal.bounds-list-n
-bounds-list-n c =
-    let type = sym (ap (λ (r : Row). is_type r.what) c.row-row.ensures) ∙ sym c.is_type.ensures ∙ c.if-is_type.false in
-    let part = sym (ap is_schema_part c.row-row.ensures) ∙ sym c.is_schema_part.ensures ∙ c.if-is_schema_part.true in
-    listing_capacity_lem _ _ _ _ _ c.loop-i.invariant _ _ (origins_here _ _ (omega arith) type part) c.requires
+pub push-requires : goal.push-requires
+push-requires c =
+    let part = sym c.is_schema_part.ensures ∙ c.if-is_schema_part.true in
+    let k = filling_capacity _ _ _ _ (filling_same _ _ _ _ _ c.loop-i.invariant (left_here _ _ (omega arith) _ c.row-row.ensures part)) in
+    omega arith
 
 pub loop-i-preserved : goal.loop-i-preserved
 loop-i-preserved c =
-    let type = sym (ap (λ (r : Row). is_type r.what) c.row-row.ensures) ∙ sym c.is_type.ensures ∙ c.if-is_type.false in
     elim c.if-is_schema_part.branch [
       | then-is_schema_part w ↦
-          let part = sym (ap is_schema_part c.row-row.ensures) ∙ sym c.is_schema_part.ensures ∙ w.if-is_schema_part.true in
-          let here = origins_here _ _ (omega arith) type part ∙ ap (λ (r : Row). r.origin ∷ origin_list (drop (c.loop-i.i + 1) (rows_of c.args.schema))) (sym c.row-row.ensures) in
-          rw (w.n-is, w.list-is) (
-          listing_push _ _ _ _ _ _ (listing_same _ _ _ _ _ _ c.loop-i.invariant here)
-          (listing_capacity_lem _ _ _ _ _ c.loop-i.invariant _ _ here c.requires))
+          let part = sym c.is_schema_part.ensures ∙ w.if-is_schema_part.true in
+          filling_next _ _ _ _ c.loop-i.invariant (c.row-row.result.origin ∷ []) _ (left_here _ _ (omega arith) _ c.row-row.ensures part) _
+          (rw w.origins-is w.push.ensures.appends)
       | else-is_schema_part w ↦
-          let part = sym (ap is_schema_part c.row-row.ensures) ∙ sym c.is_schema_part.ensures ∙ w.if-is_schema_part.false in
-          rw (w.n-is, w.list-is) (listing_same _ _ _ _ _ _ c.loop-i.invariant (origins_over _ _ (omega arith) type part))
+          let part = sym c.is_schema_part.ensures ∙ w.if-is_schema_part.false in
+          rw w.origins-is (filling_same _ _ _ _ _ c.loop-i.invariant (left_over _ _ (omega arith) _ c.row-row.ensures part))
     ]
 
 pub returns : goal.returns
-returns c = listing_done _ _ _ _ _ c.loop-i.invariant (origins_end _ _ (omega arith))
+returns c =
+    let all = filling_done _ _ _ _ c.loop-i.invariant (left_end _ _ (omega arith)) in
+    let grown = all.grown in
+    let same = all.same_slice in
+    let words = all.words in
+    (omega arith, search (rules, same, words))

@@ -2,19 +2,14 @@
 use mathlib.Core.Path.{refl, ◌∙◌, sym, subst, ap}
 use Prim.Native.Nat.{ℕ}
 use native.Mathlib.Nat.{add_comm}
-use native.Mathlib.Omega.{arith}
 use Rattle.definition.specs.Cards.{is_root}
 use Rattle.definition.specs.Catalogue.{Row}
 use Rattle.definition.specs.Lookups.{root_card}
 use Rattle.store_reader.specs.Cards.{card_name, NamePart}
-use Rattle.store_reader.proofs.Sound.{long}
 use Rattle.schema_rows.specs.Rows.{cards_of, rows_of}
 use Rattle.schema.proofs.RootsLaws.{root_none, root_some, root_what, root_empty, root_named_lem}
 use Rattle.schema.proofs.RootPlaces.{none_part, named_part}
 use Rattle.schema.proofs.roots.root_operation.Goals as goal
-
-pub slice_bounds-result-end : goal.slice_bounds-result-end
-slice_bounds-result-end c = let l = (long _ _ c.requires.1).0 in omega (arith, l)
 
 pub returns-in_default : goal.returns-in_default
 returns-in_default c =

@@ -1,35 +1,26 @@
-use mathlib.Core.Path.{refl, sym, ap, ◌∙◌}
+use mathlib.Core.Path.{sym, ap, ◌∙◌}
 use native.Mathlib.Omega.{arith}
 use mathlib.Core.List.{List}
 use Prim.Native.Nat.{ℕ}
 use Rattle.definition.specs.Catalogue.{Row}
-use Rattle.from_ast_index.proofs.Lists.{drop_next, drop_end}
 use Rattle.component.specs.Pushed.{Filled, filled_of, extend_sticky}
 use Rattle.component.specs.RowsByCards.{same_stored}
-use Rattle.component.proofs.Sticky.{extending, extending_capacity, extending_next, extending_end}
+use Rattle.component.proofs.Loops.{extends_fits, extends_next, extends_past}
 use Rattle.component.proofs.Turns.{extended_nothing}
 use Rattle.from_ast_rows.proofs.SchemaTurns.{schema_extension_not, schema_extension_is}
 use Rattle.from_ast_rows.proofs.root_operations.Schema.extend_by_extensions.Goals as goal
 
-pub loop-card-init : goal.loop-card-init
-loop-card-init c = record { same_slice = refl; left = extending _ _ _ _ _ _ refl c.requires.room c.requires.begun }
-
 pub loop-card-preserved-then-kind-ne-SCHEMA_EXTENSION : goal.loop-card-preserved-then-kind-ne-SCHEMA_EXTENSION
 loop-card-preserved-then-kind-ne-SCHEMA_EXTENSION c =
     let none = schema_extension_not c.args.self.now.index.collection.text.now _ c.args.kind _ (λ q. c.if-kind-ne-SCHEMA_EXTENSION.true (c.kind.ensures ∙ q)) in
-    record {
-      same_slice = c.loop-card.invariant.same_slice;
-      left =
-          extending_next _ _ _ _ _ _ c.loop-card.invariant.left _ _ (drop_next _ c.loop-card.card-index (omega arith)) _
-          (extended_nothing _ c.args.start _ _ none);
-    }
+    extends_past _ _ _ _ _ _ _ c.loop-card.invariant (omega arith) (extended_nothing _ c.args.start _ _ none)
 
 pub extend_ast-requires-clause-room : goal.extend_ast-requires-clause-room
 extend_ast-requires-clause-room c =
     let i = c.args.self.now.index.collection in
     let is = schema_extension_is i.text.now i.words.now c.args.kind _ (sym c.kind.ensures ∙ c.if-kind-ne-SCHEMA_EXTENSION.false) in
     let made : List Row → ℕ = λ l. (extend_sticky (same_stored i.text.now i.words.now) c.args.start l (filled_of c.loop-card.rows)).used in
-    let fits = extending_capacity _ _ _ _ _ _ c.loop-card.invariant.left _ _ (drop_next _ c.loop-card.card-index (omega arith)) in
+    let fits = extends_fits _ _ _ _ _ _ _ c.loop-card.invariant (omega arith) in
     omega (arith, fits, ap made is)
 
 pub loop-card-preserved : goal.loop-card-preserved
@@ -38,15 +29,4 @@ loop-card-preserved c =
     let is = schema_extension_is i.text.now i.words.now c.args.kind _ (sym c.kind.ensures ∙ c.if-kind-ne-SCHEMA_EXTENSION.false) in
     let made : List Row → Filled = λ l. extend_sticky (same_stored i.text.now i.words.now) c.args.start l (filled_of c.loop-card.rows) in
     let r = c.extend_ast.ensures in
-    record {
-      same_slice = r.same_slice ∙ c.loop-card.invariant.same_slice;
-      left =
-          extending_next _ _ _ _ _ _ c.loop-card.invariant.left _ _ (drop_next _ c.loop-card.card-index (omega arith)) _
-          (r.rows_are ∙ sym (ap made is));
-    }
-
-pub returns : goal.returns
-returns c = record {
-  same_slice = c.loop-card.invariant.same_slice;
-  rows_are = extending_end _ _ _ _ _ _ c.loop-card.invariant.left (drop_end _ c.loop-card.card-index (omega arith));
-}
+    extends_next _ _ _ _ _ _ _ c.loop-card.invariant (omega arith) _ (record { same_slice = r.same_slice; rows_are = r.rows_are ∙ sym (ap made is) })

@@ -1,32 +1,12 @@
--- One list after the other.
-use mathlib.Core.Path.{refl, ◌∙◌}
 use native.Mathlib.Omega.{arith}
-use Rattle.from_ast_index.proofs.Lists.{drop_next, drop_end}
 use Rattle.definition.specs.Catalogue.{under_schema}
-use Rattle.component.proofs.Pushing.{left_capacity, left_next, left_end}
-use Rattle.from_ast_rows.proofs.SchemaTurns.{schema_lists_begin}
+use Rattle.component.proofs.Loops.{pushes_fits, pushes_next}
 use Rattle.from_ast_rows.proofs.root_operations.Schema.push_lists.Goals as goal
-
-pub loop-kind-init : goal.loop-kind-init
-unfolding under_schema
-loop-kind-init c = record { same_slice = refl; left = schema_lists_begin _ _ _ _ _ _ _ c.requires }
 
 pub push_list-requires : goal.push_list-requires
 unfolding under_schema
-push_list-requires c = left_capacity _ _ _ _ c.loop-kind.invariant.left _ _ (drop_next _ c.loop-kind.kind-index (omega arith))
+push_list-requires c = pushes_fits _ _ _ _ _ c.loop-kind.invariant (omega arith)
 
 pub loop-kind-preserved : goal.loop-kind-preserved
 unfolding under_schema
-loop-kind-preserved c =
-    let r = c.push_list.ensures in
-    record {
-      same_slice = r.same_slice ∙ c.loop-kind.invariant.same_slice;
-      left = left_next _ _ _ _ c.loop-kind.invariant.left _ _ (drop_next _ c.loop-kind.kind-index (omega arith)) _ r.rows_are;
-    }
-
-pub returns : goal.returns
-unfolding under_schema
-returns c = record {
-  same_slice = c.loop-kind.invariant.same_slice;
-  rows_are = left_end _ _ _ _ c.loop-kind.invariant.left (drop_end _ c.loop-kind.kind-index (omega arith));
-}
+loop-kind-preserved c = pushes_next _ _ _ _ _ c.loop-kind.invariant (omega arith) _ c.push_list.ensures
