@@ -24,7 +24,8 @@ use Rattle.definition.proofs.All.{all_append, all_filter, all_firsts, all_map, a
 use Rattle.from_ast_index.specs.Index.{same_cards, heading_number, is_type_extension_kind}
 use Rattle.from_ast_index.proofs.Lists.{filter_map, get_all}
 use Rattle.component.specs.Pushed.{alike_rows, rows_of_kind}
-use Rattle.component.specs.RowsByCards.{same_stored, head_rows, extension_kind, is_matching, matching, extension_rows_at, extension_rows, list_rows}
+use Rattle.from_ast_index.specs.Index.{same_stored}
+use Rattle.component.specs.RowsByCards.{head_rows, extension_kind, is_matching, matching, extension_rows_at, extension_rows, list_rows}
 use Rattle.component.specs.RowsByCards.{list_at, type_row_at, type_rows_at}
 use Rattle.component.proofs.Listed.{listed_sticky, kind_append, kind_flat}
 use Rattle.component.proofs.Matching.{extended_kind, defined_kind, extension_adopted, extension_defined}

@@ -19,7 +19,8 @@ use Rattle.store_reader.specs.Stored.{card_name, built_in_at}
 use Rattle.from_ast_index.specs.Index.{heading_number}
 use Rattle.from_ast_index.proofs.Lists.{chosen_both, filter_map, filter_both, firsts_map}
 use Rattle.component.specs.Pushed.{alike_rows}
-use Rattle.component.specs.RowsByCards.{same_stored, standing_card, names_directive, standing_at, directive_rows_of, directive_rows_at}
+use Rattle.from_ast_index.specs.Index.{same_stored}
+use Rattle.component.specs.RowsByCards.{standing_card, names_directive, standing_at, directive_rows_of, directive_rows_at}
 use Rattle.component.proofs.Blocks.{At, at_kind, at_name, flat_picked, filter_passes, same_names}
 
 -- ---- Lists.

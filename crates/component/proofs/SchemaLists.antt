@@ -27,7 +27,8 @@ use Rattle.store_reader.specs.Stored.{card_kind, heading_at, is_heading_item, is
 use Rattle.store_reader.proofs.DocumentsLaws.{named_drop}
 use Rattle.from_ast_index.specs.Index.{heading_number, is_type_extension_kind}
 use Rattle.component.specs.Pushed.{alike_rows, rows_of_kind}
-use Rattle.component.specs.RowsByCards.{same_stored, head_rows, is_schema_card, schema_card, schema_extension_at, is_type_kind, is_type_named, first_kind}
+use Rattle.from_ast_index.specs.Index.{same_stored}
+use Rattle.component.specs.RowsByCards.{head_rows, is_schema_card, schema_card, schema_extension_at, is_type_kind, is_type_named, first_kind}
 use Rattle.component.specs.RowsByCards.{kind_named_at, has_default, any_default, default_rows, is_root_card, sets_root, is_implicit, schema_list_rows}
 use Rattle.component.specs.RowsByCards.{schema_list_at, schema_rows_at}
 use Rattle.component.proofs.Listed.{listed_sticky, kind_append, kind_flat}

@@ -15,32 +15,20 @@ use Rattle.definition.specs.Answers.{absent}
 use Rattle.definition.specs.Cards.{is_root, is_part, definition_of}
 use Rattle.definition.specs.Headings.{NamedCard, is_of, is_kind, is_named}
 use Rattle.definition.specs.Catalogue.{component, components, Row, row, component_row, is_component_of}
+use Rattle.definition.specs.Refusals.{card_capacity}
 use Rattle.definition.specs.Store.{cards_used_of}
 use Rattle.definition.proofs.Lists.{filter_yes, filter_no}
 use Rattle.from_ast_index.specs.Index.{same_cards, is_type_extension_kind}
 use Rattle.from_ast_index.proofs.Lists.{never, drop_next, drop_end}
+use Rattle.from_ast_index.proofs.Search.{stored_not_first}
 use Rattle.store_reader.specs.Stored.{card_kind, card_at, built_in_count, built_in_at, parts_from, stored_parts}
 use Rattle.store_reader.proofs.Words.{parts_next, parts_stop, parts_end}
 use Rattle.component.specs.Pushed.{Filled, Fits, row_in, rows_from, used_from, place_of, alike_rows, pushed, extend_sticky, rows_of_kind}
-use Rattle.component.specs.RowsByCards.{same_stored, head_rows, extend_by_card, extend_by_heading, extension_rows, list_rows, list_at}
+use Rattle.from_ast_index.specs.Index.{same_stored}
+use Rattle.component.specs.RowsByCards.{head_rows, extend_by_card, extend_by_heading, extension_rows, list_rows, list_at}
 use Rattle.component.specs.RowsByCards.{type_row_at, standing_card, names_directive, standing_at, directive_rows_of, directive_rows_at}
 use Rattle.component.proofs.Sticky.{extended_none, extended_old, extended_new, capacity_new, Growing, Extending, grow_fresh, grow_begin, grow_end, grow_capacity, grow_next}
 use Rattle.component.proofs.Listed.{kind_append}
-
--- ---- Two stored cards.
-
-module _ (text words : List ℕ) (a b : ℕ) where
-  pub stored_not_first : cards_used_of words ≤ a → same_stored text words a b ≡ false
-  unfolding same_stored
-  stored_not_first h = rw (le-ltb a (cards_used_of words) h)
-
-  pub stored_not_second : a < cards_used_of words → cards_used_of words ≤ b → same_stored text words a b ≡ false
-  unfolding same_stored
-  stored_not_second h k = rw (lt-ltb a (cards_used_of words) h, le-ltb b (cards_used_of words) k)
-
-  pub stored_both : a < cards_used_of words → b < cards_used_of words → same_stored text words a b ≡ same_cards text words a b
-  unfolding same_stored
-  stored_both h k = rw (lt-ltb a (cards_used_of words) h, lt-ltb b (cards_used_of words) k)
 
 -- ---- The search for a row that a part is like.
 
@@ -89,6 +77,15 @@ module _ (same : ℕ → ℕ → Bool) (r : Row) where
     pub alike_other : (r.what ≡ s.what → ⊥) → alike_rows same r s ≡ false
     unfolding alike_rows
     alike_other e = rw (ne_eqb r.what s.what e)
+
+-- What has no card is like no part.
+pub alike_none : (text words : List ℕ) (what origin : ℕ) (s : Row) → cards_used_of words ≤ card_capacity → (what ≡ 20 → ⊥) → what ≡ s.what →
+    alike_rows (same_stored text words) (row what absent origin) s ≡ is_root what
+alike_none text words what origin s most m e = go (is_root what) refl
+  where
+    go : (b : Bool) → is_root what ≡ b → alike_rows (same_stored text words) (row what absent origin) s ≡ b
+    go true f = alike_root (same_stored text words) (row what absent origin) s m e f
+    go false f = alike_part (same_stored text words) (row what absent origin) s m e f ∙ stored_not_first text words absent s.card (omega (arith, most))
 
 -- Where a place is found a row passes; where none is, none does.
 module _ (p : Row → Bool) where

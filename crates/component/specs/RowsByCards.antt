@@ -2,7 +2,7 @@
 -- with their parts; the code has arrays of card numbers (from_ast_index/specs/Index) and reads kinds and names at them. This file says which rows come
 -- of those numbers, in the steps that the code takes, and the contracts of `component` and `from_ast_rows` cite it. That all the rows are those of the
 -- definitions is shown by proofs/Blocks, Directives and SchemaLists, and for the whole catalogue by proofs/Catalogue of `from_ast_rows`.
-use Rattle.std.specs.Prelude.{List, [], ◌∷◌, ◌++◌, Bool, true, false, ◌&&◌, not, ℕ, ◌+◌, ◌<◌, eqb, ltb, length, drop, get_or}
+use Rattle.std.specs.Prelude.{List, [], ◌∷◌, ◌++◌, Bool, true, false, ◌&&◌, not, ℕ, ◌+◌, ◌<◌, eqb, length, drop, get_or}
 use Rattle.definition.specs.Lists.{choose, found, filter, any, find, take_until, flat_map, firsts}
 use Rattle.definition.specs.Answers.{absent}
 use Rattle.definition.specs.Cards.{Card, is_root, is_type, definition_of}
@@ -11,18 +11,12 @@ use Rattle.definition.specs.Headings.{is_of}
 use Rattle.definition.specs.Catalogue.{Row, row, component, components, under_type, under_schema, default_name}
 use Rattle.definition.specs.Store.{cards_used_of, stored_cards}
 use Rattle.store_reader.specs.Stored.{card_kind, card_name, card_at, built_in_at, heading_at, is_heading_card}
-use Rattle.from_ast_index.specs.Index.{same_cards, is_type_extension_kind}
+use Rattle.from_ast_index.specs.Index.{same_stored, is_type_extension_kind}
 use Rattle.component.specs.Pushed.{Filled, alike_rows, extend_sticky, rows_of_kind}
 
 -- An array of numbers of stored cards.
 pub record Stored (words cards : List ℕ) : Type 0 where
   pub stored : (i : ℕ) → i < length cards → get_or cards i 0 < cards_used_of words
-
--- Whether two numbers are those of stored cards that have one name.
-unfoldable pub same_stored : List ℕ → List ℕ → ℕ → ℕ → Bool
-same_stored text words a b =
-    let same = same_cards text words a b in
-    choose (ltb a (cards_used_of words)) (choose (ltb b (cards_used_of words)) same false) false
 
 -- ---- Lists that grow.
 

@@ -6,7 +6,8 @@ ghost use Rattle.std.specs.Option.{unwrap_or};
 ghost use Rattle.definition.specs.Answers.{absent};
 ghost use Rattle.definition.specs.Store.{cards_used_of};
 ghost use Rattle.component.specs.Pushed.{filled_of, row_of, HasRoom, Becomes, pushed, used_from, place_of, alike_rows, row_in};
-ghost use Rattle.component.specs.RowsByCards.{same_stored, extend_by_row, extend_by_card, extend_by_heading};
+ghost use Rattle.from_ast_index.specs.Index.{same_stored};
+ghost use Rattle.component.specs.RowsByCards.{extend_by_row, extend_by_card, extend_by_heading};
 
 use ast::kinds;
 use definition::ABSENT;
@@ -22,19 +23,11 @@ pub struct Row {
 }
 
 // Rows in a lent slice, of which the first ones are used.
+// Stays: over a WordList the number of rows, which callers read, would be its length divided by three, and that it is a multiple one more fact.
 #[derive(Drop)]
 pub struct Rows<'a> {
     pub words: &'a mut [u32],
     pub used: usize,
-}
-
-// Whether two numbers are those of stored cards with one name. A row's card is not trusted to be stored: a default root has none.
-#[tactic(auto, using(crate::proofs::Turns::stored_not_first, crate::proofs::Turns::stored_not_second, crate::proofs::Turns::stored_both))]
-fn same_stored(collection: &Collection, a: u32, b: u32) -> bool
-    ensures { result ≡ same_stored collection.now.text.now collection.now.words.now a b }
-{
-    let used = collection.cards_used();
-    (a as usize) < used && (b as usize) < used && collection.same_name(a, b)
 }
 
 impl<'a> Rows<'a> {
@@ -54,7 +47,7 @@ impl<'a> Rows<'a> {
     }
 
     // Whether the row at a place is like a row that is no directive use: a root of its kind, or a part of its kind and name.
-    #[tactic(auto, using(crate::proofs::Turns::alike_root, crate::proofs::Turns::alike_part, crate::proofs::Turns::alike_other), unfolding(crate::specs::Pushed::row_in))]
+    #[tactic(auto, using(crate::proofs::Turns::alike_root, crate::proofs::Turns::alike_part, crate::proofs::Turns::alike_none, crate::proofs::Turns::alike_other), unfolding(crate::specs::Pushed::row_in))]
     fn is_alike(&self, collection: &Collection, row: Row, place: usize) -> bool
         requires part { row.what ≡ 20 → ⊥ }
         requires inside { 3 * (place + 1) ≤ length self.now.words.now }
@@ -63,9 +56,13 @@ impl<'a> Rows<'a> {
             (row_in self.now.words.now place) }
     {
         let at = ROW_WORDS * place;
-        row.what == self.words[at]
-            && (kinds::is_root(row.what)
-                || same_stored(collection, row.card.unwrap_or(ABSENT), self.words[at + 1]))
+        if row.what != self.words[at] {
+            return false;
+        }
+        let Some(card) = row.card else {
+            return kinds::is_root(row.what);
+        };
+        kinds::is_root(row.what) || collection.same_stored(card, self.words[at + 1])
     }
 
     // The place of the first row that a row is like, in the list from `start` on. Directive uses all stay.

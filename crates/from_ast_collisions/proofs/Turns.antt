@@ -1,11 +1,11 @@
 -- Turns of the searches over rows of three words, at the index i of a row's first word.
 use mathlib.Core.Path.{◌≡◌, refl, sym, ◌∙◌, ap}
 use mathlib.Core.List.{List, [], ◌∷◌, ◌++◌}
-use mathlib.Core.Bool.{Bool, true, false}
+use mathlib.Core.Bool.{Bool, true, false, ◌&&◌}
 use Prim.Native.Nat.{ℕ, zero, suc, ◌+◌, ◌-◌, ◌*◌, ◌≤◌, ◌<◌}
 use native.Mathlib.Omega.{arith}
 use native.Mathlib.Numerals.{towards_suc}
-use lib.Dec.{eqb}
+use lib.Dec.{eqb, ltb}
 use lib.ListN.{length, get_or, drop, length-drop, length-append}
 use lib.Seq.{drop-cons, drop-drop}
 use borrow.Author.Tests.{eq-eqb, ne_eqb, lt-ltb, le-ltb}
@@ -16,6 +16,10 @@ use Rattle.definition.specs.Headings.{NamedCard}
 use Rattle.definition.specs.Errors.{collision_numbers, collision_number}
 use Rattle.std.specs.Prelude.{Some, None}
 use Rattle.from_ast_collisions.specs.Earlier.{View, stands_for, earlier_in, is_row_of, earlier_under, row_offset, rows_under}
+use Rattle.definition.specs.Store.{cards_used_of}
+use Rattle.store_reader.specs.Stored.{card_kind, card_name, card_at}
+use Rattle.from_ast_index.specs.Index.{same_cards, same_stored}
+use Rattle.from_ast_collisions.specs.Views.{card_view}
 use Rattle.from_ast_collisions.proofs.Tests.{and_false}
 
 drop3 : (s : List ℕ) (i : ℕ) → i + 2 < length s → drop i s ≡ get_or s i 0 ∷ (get_or s (i + 1) 0 ∷ (get_or s (i + 2) 0 ∷ drop (i + 3) s))
@@ -91,13 +95,20 @@ module _ (v : View) (p : NamedCard) (w c : ℕ) where
   unfolding stands_for
   stands_root e r = rw (eq-eqb w p.kind e, r)
 
-  pub stands_past : w ≡ p.kind → is_root p.kind ≡ false → v.used ≤ c → stands_for v p w c ≡ false
+  named_part : w ≡ p.kind → is_root p.kind ≡ false → stands_for v p w c ≡ (ltb c v.used && same_name p.name (v.name c))
   unfolding stands_for
-  stands_past e r h = rw (eq-eqb w p.kind e, r, le-ltb c v.used h)
+  named_part e r = rw (eq-eqb w p.kind e, r)
 
-  pub stands_named : w ≡ p.kind → is_root p.kind ≡ false → c < v.used → stands_for v p w c ≡ same_name p.name (v.name c)
-  unfolding stands_for
-  stands_named e r h = rw (eq-eqb w p.kind e, r, lt-ltb c v.used h)
+chosen_and : (b s : Bool) → (b && s) ≡ choose b s false
+chosen_and true s = refl
+chosen_and false s = refl
+
+pub stands_stored : (text words : List ℕ) (part w c : ℕ) → part < cards_used_of words → w ≡ card_kind words part → is_root (card_kind words part) ≡ false →
+    stands_for (card_view text words) (card_at text words part) w c ≡ same_stored text words part c
+unfolding same_stored same_cards
+stands_stored text words part w c h e r =
+    named_part (card_view text words) (card_at text words part) w c e r
+    ∙ (chosen_and (ltb c (cards_used_of words)) (same_name (card_name text words part) (card_name text words c)) ∙ sym (rw (lt-ltb part (cards_used_of words) h) refl))
 
 -- ---- Rows one after another: x is the next one, t what follows.
 

@@ -44,16 +44,14 @@ fn collision_error(kind: u32, part: u32) -> BuildError
 }
 
 // Whether the row of what and card stands for the part. Roots are told by their kind alone.
-#[tactic(auto, using(crate::proofs::Turns::stands_other, crate::proofs::Turns::stands_root, crate::proofs::Turns::stands_past, crate::proofs::Turns::stands_named), unfolding(from_ast_index::specs::Index::same_cards))]
+#[tactic(auto, using(crate::proofs::Turns::stands_other, crate::proofs::Turns::stands_root, crate::proofs::Turns::stands_stored))]
 fn stands_for(collection: &Collection, part: u32, what: u32, card: u32) -> bool
     requires { part < cards_used_of collection.now.words.now }
     ensures { result ≡ stands_for (cards collection.now)
         (card_at collection.now.text.now collection.now.words.now part) what card }
 {
     let kind = collection.kind(part);
-    what == kind
-        && (kinds::is_root(kind)
-            || (card as usize) < collection.cards_used() && collection.same_name(part, card))
+    what == kind && (kinds::is_root(kind) || collection.same_stored(part, card))
 }
 
 // The card that stands for the part, among the rows under that of its owner.

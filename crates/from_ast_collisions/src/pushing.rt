@@ -6,7 +6,7 @@ ghost use Rattle.definition.specs.Errors.{error};
 ghost use Rattle.definition.specs.Numbers.{error_number};
 ghost use Rattle.from_ast_collisions.specs.Pushing.{no_errors, push_all, Capacity};
 
-use definition::build_error::{BuildError, ERROR_NUMBERS};
+use definition::build_error::BuildError;
 use definition::{ABSENT, Tallies, layout};
 
 // The errors that were pushed: the slice where each has its words, and the tallies.
@@ -23,10 +23,7 @@ impl<'a> Errors<'a> {
     {
         Errors {
             words,
-            tallies: Tallies {
-                counts: [0; ERROR_NUMBERS],
-                total: 0,
-            },
+            tallies: Tallies::default(),
         }
     }
 

@@ -10,7 +10,7 @@ use crate::finished::Finished;
 use crate::orphans::all_orphan_errors;
 use ast::kinds;
 use definition::build_error::BuildError;
-use definition::{ABSENT, layout};
+use definition::layout;
 use from_ast_collisions::merging::merge_schema_extensions;
 use from_ast_collisions::pushing::Errors;
 use from_ast_index::Collection;
@@ -64,7 +64,7 @@ fn no_schema_errors(finished: &Finished, adopt: bool, errors: &mut Errors)
 }
 
 // All of them.
-#[tactic(auto, using(from_ast_collisions::proofs::Push::first_capacity, from_ast_collisions::proofs::Push::second_capacity, from_ast_collisions::proofs::Push::both_pushed, from_ast_collisions::proofs::Push::same_pushed, from_ast_collisions::proofs::Branches::drawing_defined, from_ast_collisions::proofs::Branches::drawing_both, from_ast_collisions::proofs::Branches::drawing_parts))]
+#[tactic(auto, using(from_ast_index::proofs::Cards::word_absent, from_ast_index::proofs::Cards::word_present, from_ast_collisions::proofs::Push::first_capacity, from_ast_collisions::proofs::Push::second_capacity, from_ast_collisions::proofs::Push::both_pushed, from_ast_collisions::proofs::Push::same_pushed, from_ast_collisions::proofs::Branches::drawing_defined, from_ast_collisions::proofs::Branches::drawing_both, from_ast_collisions::proofs::Branches::drawing_parts))]
 pub fn drawing_errors(finished: &Finished, adopt: bool, errors: &mut Errors)
     requires { Capacity errors.old
         (drawing_errors_at adopt (view finished.now.index) finished.now.rows.rows.now finished.now.schema.card finished.now.index.extensions.now
@@ -74,7 +74,7 @@ pub fn drawing_errors(finished: &Finished, adopt: bool, errors: &mut Errors)
         finished.now.index.orphans.now finished.now.index.headings.now) }
 {
     all_orphan_errors(finished, adopt, errors);
-    if finished.schema.card == ABSENT {
+    if finished.schema_definition().is_none() {
         no_schema_errors(finished, adopt, errors);
     }
 }

@@ -22,7 +22,10 @@ pub fn schema_extension_errors(finished: &Finished, h: u32, errors: &mut Errors)
     ensures { errors.new ≡ push_all errors.old
         (schema_extension_errors_at (cards finished.now.index.collection) finished.now.schema.rows.now finished.now.schema.card h) }
 {
-    if finished.schema.card < h {
+    let Some(definition) = finished.schema_definition() else {
+        return;
+    };
+    if definition < h {
         merge_errors(&finished.index.collection, &finished.schema, h, errors);
     }
 }
@@ -35,6 +38,7 @@ fn early_extension_errors(index: &Index, owner: &Owner, card: u32, errors: &mut 
     requires capacity { Capacity errors.old (early_errors (view index.now) owner.now.rows.now owner.now.card card) }
     ensures { errors.new ≡ push_all errors.old (early_errors (view index.now) owner.now.rows.now owner.now.card card) }
 {
+    // Stays: words are compared, for the owner's card may be `-` by the contract, and `index.owner(card) == Some(owner.card)` would then say otherwise.
     if kinds::is_extension_of(index.collection.kind(card), owner.kind)
         && store_reader::word(index.owners, card as usize) == owner.card
     {
@@ -68,7 +72,9 @@ pub fn type_extension_errors(finished: &Finished, h: u32, errors: &mut Errors)
     ensures { errors.new ≡ push_all errors.old (type_extension_errors_at (view finished.now.index) finished.now.rows.rows.now h) }
 {
     let collection = &finished.index.collection;
-    let definition = store_reader::word(finished.index.owners, h as usize);
+    let Some(definition) = finished.index.owner(h) else {
+        return;
+    };
     if h <= definition {
         return;
     }

@@ -1,11 +1,13 @@
 // What the errors of a build are told by.
-ghost use Rattle.std.specs.Prelude.{◌≡◌, true};
+ghost use Rattle.std.specs.Prelude.{◌≡◌, ◌<◌, true, MatchOption, ⊤};
+ghost use Rattle.std.specs.Option.{unwrap_or};
+ghost use Rattle.definition.specs.Answers.{absent};
 ghost use Rattle.definition.specs.Store.{sound};
 ghost use Rattle.from_ast_errors.specs.Written.{schema_card};
 
 use ast::kinds;
 use from_ast_collisions::owner::{Owner, PlacedRows};
-use from_ast_index::Index;
+use from_ast_index::{Index, card_in};
 
 // What is indexed of a sound store, its finished rows, and the schema's among them, which has the card of the schema definition, or none.
 #[derive(Clone, Copy)]
@@ -35,5 +37,13 @@ impl<'index, 'rows, 'places> Finished<'index, 'rows, 'places> {
             rows,
             schema: rows.owner(kinds::SCHEMA_DEFINITION, card),
         }
+    }
+
+    // The card of the schema definition, if there is one.
+    pub fn schema_definition(&self) -> Option<u32>
+        ensures word { unwrap_or result absent ≡ self.now.schema.card }
+        ensures known { MatchOption result ⊤ (λ card. card < absent) }
+    {
+        card_in(self.schema.card)
     }
 }

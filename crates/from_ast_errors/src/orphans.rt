@@ -9,7 +9,6 @@ ghost use Rattle.from_ast_collisions.specs.Views.{view, HeldExtension};
 
 use crate::finished::Finished;
 use ast::kinds;
-use definition::ABSENT;
 use definition::build_error::BuildError;
 use from_ast_collisions::merging::merge_errors;
 use from_ast_collisions::owner::Owner;
@@ -17,13 +16,13 @@ use from_ast_collisions::pushing::Errors;
 use from_ast_index::Index;
 
 // Whether the card is a type extension without a definition that has the name of g.
-#[tactic(auto, using(from_ast_collisions::proofs::Branches::orphan_owned, from_ast_collisions::proofs::Branches::orphan_named), unfolding(from_ast_index::specs::Index::same_cards))]
+#[tactic(auto, using(from_ast_index::proofs::Cards::word_absent, from_ast_index::proofs::Cards::word_present, from_ast_collisions::proofs::Branches::orphan_owned, from_ast_collisions::proofs::Branches::orphan_named), unfolding(from_ast_index::specs::Index::same_cards))]
 fn is_orphan_of(index: &Index, g: u32, card: u32) -> bool
     requires g_stored { g < cards_used_of index.now.collection.words.now }
     requires card_stored { card < cards_used_of index.now.collection.words.now }
     ensures { result ≡ is_orphan_of (view index.now) g card }
 {
-    store_reader::word(index.owners, card as usize) == ABSENT && index.collection.same_name(g, card)
+    index.owner(card).is_none() && index.collection.same_name(g, card)
 }
 
 // Adopting an extension of the name that the owner's card has, the first of them: one of another kind is an error.

@@ -24,11 +24,14 @@ fn schema_errors(finished: &Finished, before: &[u32], h: u32, errors: &mut Error
 {
     let collection = &finished.index.collection;
     let schema = &finished.schema;
-    if schema.card < h {
-        errors.push(BuildError::SchemaDefinitionCollision, h, Some(schema.card));
-    } else {
-        merge_errors(collection, schema, h, errors);
-        merge_schema_extensions(collection, before, schema, errors);
+    match finished.schema_definition() {
+        Some(first) if first < h => {
+            errors.push(BuildError::SchemaDefinitionCollision, h, Some(first));
+        }
+        _ => {
+            merge_errors(collection, schema, h, errors);
+            merge_schema_extensions(collection, before, schema, errors);
+        }
     }
 }
 
@@ -43,13 +46,14 @@ fn type_errors(finished: &Finished, h: u32, errors: &mut Errors)
         (type_errors_at (view finished.now.index) finished.now.rows.rows.now finished.now.index.extensions.now h) }
 {
     let index = &finished.index;
-    if store_reader::word(index.owners, h as usize) < h {
-        redefinition_errors(index, h, errors);
-        return;
+    match index.owner(h) {
+        Some(first) if first < h => redefinition_errors(index, h, errors),
+        _ => {
+            let owner = finished.rows.owner(index.collection.kind(h), h);
+            merge_errors(&index.collection, &owner, h, errors);
+            early_errors(index, &owner, index.own_extensions(h), errors);
+        }
     }
-    let owner = finished.rows.owner(index.collection.kind(h), h);
-    merge_errors(&index.collection, &owner, h, errors);
-    early_errors(index, &owner, index.own_extensions(h), errors);
 }
 
 // What reading the heading h gives after the headings before it. An operation or a fragment is an error.

@@ -3,3 +3,4 @@ pub mod Lists
 pub mod Search
 pub mod Laws
 pub mod Spans
+pub mod Cards

@@ -1,10 +1,10 @@
 -- The middle layer between the definitions and the code, first part: the arrays. The definitions speak of headings with their names and parts; the
 -- code walks arrays that hold numbers of stored cards, or one word for each stored card. This file says of each array which headings of the store it
 -- stands for. Crate `from_ast_indexing` fills the arrays so, and all that build reads is read from them. (Second part: component/specs/RowsByCards.)
-use Rattle.std.specs.Prelude.{◌≡◌, List, [], map, Bool, true, ◌&&◌, ◌||◌, ℕ, ◌-◌, ◌≤◌, ◌<◌, leb, length, take, drop, get_or}
+use Rattle.std.specs.Prelude.{◌≡◌, List, [], map, Bool, true, false, ◌&&◌, ◌||◌, ℕ, ◌-◌, ◌≤◌, ◌<◌, leb, ltb, length, take, drop, get_or}
 use Rattle.std.proofs.Math.Option.{some}
 use Rattle.std.proofs.Math.ListN.{get_elem?}
-use Rattle.definition.specs.Lists.{filter, firsts}
+use Rattle.definition.specs.Lists.{choose, filter, firsts}
 use Rattle.definition.specs.Names.{same_name}
 use Rattle.definition.specs.Headings.{NamedCard, Heading, is_type_definition, is_type_extension, same_named, defined_types, orphans, definition, number_of}
 use Rattle.definition.specs.Refusals.{card_capacity}
@@ -22,6 +22,12 @@ part_hash p = hash_of p.name
 -- Whether two stored cards have one name.
 unfoldable pub same_cards : List ℕ → List ℕ → ℕ → ℕ → Bool
 same_cards text words a b = same_name (card_name text words a) (card_name text words b)
+
+-- Whether two numbers are those of stored cards that have one name.
+unfoldable pub same_stored : List ℕ → List ℕ → ℕ → ℕ → Bool
+same_stored text words a b =
+    let same = same_cards text words a b in
+    choose (ltb a (cards_used_of words)) (choose (ltb b (cards_used_of words)) same false) false
 
 -- The hash of a stored card's name.
 unfoldable pub card_hash : List ℕ → List ℕ → ℕ → ℕ

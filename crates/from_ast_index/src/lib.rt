@@ -1,10 +1,22 @@
 // The arrays that build reads: how many there are of what, and the reads of them that several walks share. Crate `from_ast_indexing` fills them.
 #![tactic(auto)]
 
-ghost use Rattle.std.specs.Prelude.{◌≡◌, ◌<◌};
+ghost use Rattle.std.specs.Prelude.{◌≡◌, ◌<◌, get_or, MatchOption, ⊤};
+ghost use Rattle.std.specs.Option.{unwrap_or};
+ghost use Rattle.definition.specs.Answers.{absent};
 ghost use Rattle.definition.specs.Store.{cards_used_of};
 ghost use Rattle.store_reader.specs.Stored.{card_kind, card_name};
-ghost use Rattle.from_ast_index.specs.Index.{same_cards, Hashed, Listed, Spanned, own_extensions};
+ghost use Rattle.from_ast_index.specs.Index.{same_cards, same_stored, Hashed, Listed, Spanned, own_extensions};
+
+use definition::ABSENT;
+
+// The card that a word has; a word that has none is `-`.
+pub fn card_in(word: u32) -> Option<u32>
+    ensures word { unwrap_or result absent ≡ word }
+    ensures known { MatchOption result ⊤ (λ card. card < absent) }
+{
+    if word == ABSENT { None } else { Some(word) }
+}
 
 // Whether two cards have one name, by the bytes.
 #[tactic(auto, unfolding(crate::specs::Index::same_cards))]
@@ -54,9 +66,19 @@ impl<'a> Collection<'a> {
     {
         self.hashes[a as usize] == self.hashes[b as usize] && name::same(self.name(a), self.name(b))
     }
+
+    // Whether two numbers are those of stored cards with one name: a row's card is not trusted to be stored.
+    #[tactic(auto, using(crate::proofs::Search::stored_not_first, crate::proofs::Search::stored_not_second, crate::proofs::Search::stored_both))]
+    pub fn same_stored(&self, a: u32, b: u32) -> bool
+        ensures { result ≡ same_stored self.now.text.now self.now.words.now a b }
+    {
+        let used = self.cards_used();
+        (a as usize) < used && (b as usize) < used && self.same_name(a, b)
+    }
 }
 
 // What a build has indexed: each array has just what is used of it. `owners`, `starts` and `ends` have a word for each stored card.
+// Stays: `starts` and `ends` are two arrays, for the words of `starts` hold hashes while the index is made, and those of a pair could not.
 #[derive(Clone, Copy)]
 pub struct Index<'a> {
     pub collection: Collection<'a>,
@@ -72,6 +94,14 @@ pub struct Index<'a> {
 }
 
 impl<'a> Index<'a> {
+    // The first definition of the name of a heading that defines or extends a type, if there is one.
+    pub fn owner(&self, card: u32) -> Option<u32>
+        ensures word { unwrap_or result absent ≡ get_or self.now.owners.now card 0 }
+        ensures known { MatchOption result ⊤ (λ owner. owner < absent) }
+    {
+        card_in(store_reader::word(self.owners, card as usize))
+    }
+
     // The part of all extensions in which those of a type stand.
     #[tactic(auto, using(crate::proofs::Spans::part_clipped), unfolding(crate::specs::Index::own_extensions))]
     pub fn own_extensions(&self, card: u32) -> &'a [u32]

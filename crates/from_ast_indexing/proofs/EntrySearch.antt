@@ -12,7 +12,7 @@ use Rattle.definition.specs.Lists.{find}
 use Rattle.from_ast_index.specs.Index.{card_hash, same_cards}
 use Rattle.definition.specs.Store.{cards_used_of}
 use Rattle.definition.proofs.Lists.{map_append, first_nil, first_yes, first_no}
-use Rattle.from_ast_index.proofs.Lists.{drop_next, drop_end}
+use Rattle.from_ast_index.proofs.Lists.{drop_next}
 use Rattle.name.proofs.HashLaws.{hashes_differ}
 use Rattle.std.specs.Prelude.{Some, None}
 use Rattle.from_ast_indexing.specs.declared.entry.FirstCards.{FirstCards}
@@ -22,16 +22,38 @@ use Rattle.from_ast_indexing.proofs.Hints.{hint_none, hint_passed, hint_more}
 -- ---- A turn of the search.
 
 module _ (text words cards : List ℕ) (card i : ℕ) where
-  pub search_hit : i < length cards → same_cards text words card (get_or cards i 0) ≡ true →
-      entry_of (find (same_cards text words card) (drop i cards)) ≡ Some (get_or cards i 0)
-  search_hit h e = rw (drop_next cards i h) (ap entry_of (first_yes (same_cards text words card) (get_or cards i 0) (drop (i + 1) cards) e))
-
-  pub search_miss : i < length cards → same_cards text words card (get_or cards i 0) ≡ false →
+  search_miss : i < length cards → same_cards text words card (get_or cards i 0) ≡ false →
       entry_of (find (same_cards text words card) (drop i cards)) ≡ entry_of (find (same_cards text words card) (drop (i + 1) cards))
   search_miss h e = rw (drop_next cards i h) (ap entry_of (first_no (same_cards text words card) (get_or cards i 0) (drop (i + 1) cards) e))
 
-  pub search_end : length cards ≤ i → entry_of (find (same_cards text words card) (drop i cards)) ≡ None
-  search_end h = rw (drop_end cards i h) (ap entry_of (first_nil (same_cards text words card)))
+-- By the first card that is left.
+module _ (text words : List ℕ) (card x : ℕ) (xs cards : List ℕ) (is : cards ≡ x ∷ xs) where
+  pub first_hit : same_cards text words card x ≡ true → entry_of (find (same_cards text words card) cards) ≡ Some x
+  first_hit e = rw is (ap entry_of (first_yes (same_cards text words card) x xs e))
+
+  pub first_miss : same_cards text words card x ≡ false →
+      entry_of (find (same_cards text words card) cards) ≡ entry_of (find (same_cards text words card) xs)
+  first_miss e = rw is (ap entry_of (first_no (same_cards text words card) x xs e))
+
+  -- Its hash stands first too.
+  module _ (y : ℕ) (ys hashes : List ℕ) (beside : hashes ≡ map (card_hash text words) cards) (are : hashes ≡ y ∷ ys) where
+    pub first_hash : y ≡ card_hash text words x
+    first_hash = let q : y ∷ ys ≡ card_hash text words x ∷ map (card_hash text words) xs = sym are ∙ (beside ∙ ap (map (card_hash text words)) is) in cc
+
+    pub others_beside : ys ≡ map (card_hash text words) xs
+    others_beside = let q : y ∷ ys ≡ card_hash text words x ∷ map (card_hash text words) xs = sym are ∙ (beside ∙ ap (map (card_hash text words)) is) in cc
+
+    pub first_differs : (hash : ℕ) → hash ≡ card_hash text words card → (y ≡ hash → ⊥) → same_cards text words card x ≡ false
+    unfolding same_cards card_hash
+    first_differs hash h d = hashes_differ _ _ (λ e. d (first_hash ∙ sym e ∙ sym h))
+
+pub none_left : (text words : List ℕ) (card : ℕ) (cards : List ℕ) → length cards ≡ 0 → entry_of (find (same_cards text words card) cards) ≡ None
+none_left text words card [] h = ap entry_of (first_nil (same_cards text words card))
+none_left text words card (x ∷ xs) h = absurd (omega arith)
+
+pub none_beside : (text words cards hashes : List ℕ) → hashes ≡ map (card_hash text words) cards → length hashes ≡ 0 → length cards ≡ 0
+none_beside text words [] hashes e h = refl
+none_beside text words (x ∷ xs) hashes e h = let l : length hashes ≡ suc (length (map (card_hash text words) xs)) = ap length e in absurd (omega arith)
 
 -- The hashes beside the cards tell other names.
 get_d_hash : (text words cards : List ℕ) (i : ℕ) → i < length cards → get_or (map (card_hash text words) cards) i 0 ≡ card_hash text words (get_or cards i 0)
@@ -45,7 +67,7 @@ drop_hash text words (suc n) [] = refl
 drop_hash text words (suc n) (x ∷ xs) = drop_hash text words n xs
 
 module _ (text words cards hashes : List ℕ) (card hash : ℕ) (are : hashes ≡ map (card_hash text words) cards) (is : hash ≡ card_hash text words card) where
-  pub search_differ : (i : ℕ) → i < length cards → (get_or hashes i 0 ≡ hash → ⊥) → same_cards text words card (get_or cards i 0) ≡ false
+  search_differ : (i : ℕ) → i < length cards → (get_or hashes i 0 ≡ hash → ⊥) → same_cards text words card (get_or cards i 0) ≡ false
   unfolding same_cards card_hash
   search_differ i h d =
       hashes_differ _ _

@@ -9,6 +9,7 @@ use from_ast_index::Collection;
 
 // The first card of each name: those before `len`, each with its name's hash beside it. A word of `buckets` is the place of the first one whose
 // hash falls on it; where none does, any word will do, and a large one spares the search.
+// Stays: FirstsAre is asked by contracts, for `enter` writes the lent arrays one after another, and in between a ghost field would not hold.
 // Stays: the rule of no heap has the list grow in lent slices; the hashes stand in a row, for that a search reads them alone.
 #[derive(Drop)]
 pub struct FirstCards<'a, 's> {
@@ -56,7 +57,6 @@ impl<'a, 's> FirstCards<'a, 's> {
     }
 
     // The one that has the name of a stored card, where none before `from` has its hash.
-    #[tactic(auto, using(crate::proofs::EntrySearch::search_end))]
     fn find_from(&self, collection: &Collection, card: u32, from: usize) -> Option<u32>
         requires stored { card < cards_used_of collection.now.words.now }
         requires firsts { FirstsAre collection.now.text.now collection.now.words.now self.now }
@@ -70,8 +70,8 @@ impl<'a, 's> FirstCards<'a, 's> {
         let hash = collection.hashes[card as usize];
         let cards = &self.cards[from..self.len];
         let hashes = &self.hashes[from..self.len];
-        for (i, other) in cards.iter().enumerate() {
-            if hashes[i] == hash && name::same(collection.name(card), collection.name(*other)) {
+        for (other, other_hash) in cards.iter().zip(hashes) {
+            if *other_hash == hash && name::same(collection.name(card), collection.name(*other)) {
                 return Some(*other);
             }
         }

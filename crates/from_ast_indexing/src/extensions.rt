@@ -13,7 +13,7 @@ ghost use Rattle.from_ast_indexing.specs.Extensions.{
 use crate::entry::FirstCards;
 use ast::kinds;
 use definition::ABSENT;
-use from_ast_index::Collection;
+use from_ast_index::{Collection, card_in};
 use word_list::WordList;
 
 // One heading: an extension is listed, and the first definition of its name owns it.
@@ -67,7 +67,7 @@ pub fn index_extensions<'a>(
 }
 
 // One extension: where it has no owner it is an orphan, perhaps the first of its name.
-#[tactic(auto, using(crate::proofs::ExtensionsTurns::orphan_skipped, crate::proofs::ExtensionsTurns::orphan_entered))]
+#[tactic(auto, using(from_ast_index::proofs::Cards::word_absent, from_ast_index::proofs::Cards::word_present, crate::proofs::ExtensionsTurns::orphan_skipped, crate::proofs::ExtensionsTurns::orphan_entered))]
 fn index_orphan(collection: &Collection, owners: &[u32], card: u32, orphans: &mut FirstCards)
     requires stored { card < cards_used_of collection.now.words.now }
     requires owners { cards_used_of collection.now.words.now ≤ length owners.now }
@@ -76,7 +76,7 @@ fn index_orphan(collection: &Collection, owners: &[u32], card: u32, orphans: &mu
     ensures turn { OrphanTurn collection.now.text.now collection.now.words.now owners.now card orphans.old orphans.new }
     ensures firsts { FirstsAre collection.now.text.now collection.now.words.now orphans.new }
 {
-    if owners[card as usize] != ABSENT {
+    if card_in(owners[card as usize]).is_some() {
         return;
     }
     orphans.enter(collection, card);

@@ -25,7 +25,8 @@ use Rattle.store_reader.proofs.Words.{stored_card, card_kind_lem}
 use Rattle.from_ast_index.specs.Index.{is_type_extension_kind}
 use Rattle.from_ast_index.proofs.Lists.{drop_next, drop_end}
 use Rattle.component.specs.Pushed.{Filled, Fits, pushed}
-use Rattle.component.specs.RowsByCards.{same_stored, head_rows, is_schema_card, schema_card, schema_extension_at, is_type_kind, is_type_named, first_kind}
+use Rattle.from_ast_index.specs.Index.{same_stored}
+use Rattle.component.specs.RowsByCards.{head_rows, is_schema_card, schema_card, schema_extension_at, is_type_kind, is_type_named, first_kind}
 use Rattle.component.specs.RowsByCards.{kind_named_at, has_default, any_default, default_rows, is_root_card, sets_root, is_implicit, schema_list_rows}
 use Rattle.component.specs.RowsByCards.{schema_list_at, schema_lists_at, schema_rows_at}
 use Rattle.component.proofs.Sticky.{Growing, grow_fresh}

@@ -1,7 +1,6 @@
 // The extensions that a type takes in.
 ghost use Rattle.std.specs.Prelude.{◌≡◌, ◌≤◌, ◌<◌, length};
 ghost use Rattle.definition.specs.Store.{cards_used_of};
-ghost use Rattle.word_list.specs.Listed.{listed_in};
 ghost use Rattle.component.specs.RowsByCards.{Stored, matching};
 
 use ast::kinds;
@@ -10,22 +9,29 @@ use word_list::WordList;
 
 // Lists the extensions that a type takes in, in filing order: those of its name that extend what it is. An adopted type is one of them.
 #[tactic(auto, using(component::proofs::Matching::kept_end, component::proofs::Matching::kept_miss, component::proofs::Matching::kept_hit, component::proofs::Matching::matching_is, component::proofs::Matching::matching_other, component::proofs::Matching::matching_unlike), unfolding(component::specs::RowsByCards::matching, component::specs::RowsByCards::extension_kind))]
-pub fn list_matching(collection: &Collection, extensions: &[u32], card: u32, mine: &mut WordList)
+pub fn list_matching<'a>(
+    collection: &Collection,
+    extensions: &[u32],
+    card: u32,
+    mine: &'a mut [u32],
+) -> &'a [u32]
     requires stored { Stored collection.now.words.now extensions.now }
     requires card_stored { card < cards_used_of collection.now.words.now }
-    requires room { length extensions.now ≤ length mine.old.words.now }
-    ensures listed { listed_in mine.new ≡ matching collection.now.text.now collection.now.words.now extensions.now card }
-    ensures inside { mine.new.len ≤ length mine.new.words.now }
-    ensures length { length mine.new.words.now ≡ length mine.old.words.now }
+    requires room { length extensions.now ≤ length mine.old }
+    ensures { result.now ≡ matching collection.now.text.now collection.now.words.now extensions.now card }
 {
     let definition = kinds::definition_of(collection.kind(card));
-    mine.clear();
+    let mut list = WordList {
+        words: mine,
+        len: 0,
+    };
     for extension in extensions {
         if !collection.same_name(card, *extension) {
             continue;
         }
         if kinds::is_extension_of(collection.kind(*extension), definition) {
-            mine.push(*extension);
+            list.push(*extension);
         }
     }
+    list.into_slice()
 }

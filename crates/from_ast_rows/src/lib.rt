@@ -10,7 +10,6 @@ ghost use Rattle.store_reader.specs.Stored.{stored_headings};
 
 use component::Rows;
 use from_ast_index::Index;
-use word_list::WordList;
 
 mod directives;
 mod extensions;
@@ -33,16 +32,12 @@ pub fn write_rows(index: &Index, adopt: bool, mine: &mut [u32], rows: &mut [u32]
         ≡ length
         (catalogue_rows adopt (stored_headings index.now.collection.text.now index.now.collection.words.now)) }
 {
-    let mut mine = WordList {
-        words: mine,
-        len: 0,
-    };
     let mut rows = Rows {
         words: rows,
         used: 0,
     };
     root_operations::push_schema(index, adopt, &mut rows);
     directives::directive_definitions(index, &mut rows);
-    types::push_all_types(index, adopt, &mut mine, &mut rows);
+    types::push_all_types(index, adopt, mine, &mut rows);
     rows.used
 }

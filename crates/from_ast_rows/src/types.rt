@@ -19,7 +19,6 @@ use crate::extensions::list_matching;
 use ast::kinds;
 use component::{Row, Rows};
 use from_ast_index::{Collection, Index};
-use word_list::WordList;
 
 // The kinds of a type's lists in their order; those of kinds that a type lacks are empty.
 const LISTS: [u32; 6] = [
@@ -111,24 +110,22 @@ fn push_type(
     collection: &Collection,
     extensions: &[u32],
     card: u32,
-    mine: &mut WordList,
+    mine: &mut [u32],
     rows: &mut Rows,
 )
     requires stored { Stored collection.now.words.now extensions.now }
     requires card_stored { card < cards_used_of collection.now.words.now }
-    requires few { length extensions.now ≤ length mine.old.words.now }
+    requires few { length extensions.now ≤ length mine.old }
     requires room { HasRoom rows.old
         (pushed (type_rows_at collection.now.text.now collection.now.words.now extensions.now card)) }
-    ensures rows { Becomes rows.old rows.new
+    ensures { Becomes rows.old rows.new
         (pushed (type_rows_at collection.now.text.now collection.now.words.now extensions.now card)) }
-    ensures mine { length mine.new.words.now ≡ length mine.old.words.now }
 {
-    list_matching(collection, extensions, card, mine);
     let taken = Type {
         collection: *collection,
         card,
         adopted: kinds::is_type_extension(collection.kind(card)),
-        extensions: mine.as_slice(),
+        extensions: list_matching(collection, extensions, card, mine),
     };
     taken.push_row(rows);
     taken.collect_lists(rows);
@@ -137,8 +134,8 @@ fn push_type(
 // Pushes the adopted types, the first orphans of each name. No array tells where their extensions stand, so each walks all.
 // Stays: beside push_defined_types it has one loop with one call; one function with a closure for the extensions would be longer than both.
 #[tactic(auto, using(component::proofs::Loops::pushes_first, component::proofs::Loops::pushes_last))]
-fn push_adopted_types(index: &Index, mine: &mut WordList, rows: &mut Rows)
-    requires few { length index.now.extensions.now ≤ length mine.old.words.now }
+fn push_adopted_types(index: &Index, mine: &mut [u32], rows: &mut Rows)
+    requires few { length index.now.extensions.now ≤ length mine.old }
     requires room { HasRoom rows.old
         (pushed
         (types_rows_at index.now.collection.text.now index.now.collection.words.now index.now.orphans.now
@@ -155,17 +152,16 @@ fn push_adopted_types(index: &Index, mine: &mut WordList, rows: &mut Rows)
 
 // Pushes the defined types, each with the part of all extensions in which its own stand: a walk over all of them for each type takes long.
 #[tactic(auto, using(component::proofs::Loops::pushes_first, component::proofs::Loops::pushes_last))]
-fn push_defined_types(index: &Index, mine: &mut WordList, rows: &mut Rows)
-    requires few { length index.now.extensions.now ≤ length mine.old.words.now }
+fn push_defined_types(index: &Index, mine: &mut [u32], rows: &mut Rows)
+    requires few { length index.now.extensions.now ≤ length mine.old }
     requires room { HasRoom rows.old
         (pushed
         (types_rows_at index.now.collection.text.now index.now.collection.words.now index.now.types.now
         index.now.extensions.now)) }
-    ensures rows { Becomes rows.old rows.new
+    ensures { Becomes rows.old rows.new
         (pushed
         (types_rows_at index.now.collection.text.now index.now.collection.words.now index.now.types.now
         index.now.extensions.now)) }
-    ensures mine { length mine.new.words.now ≡ length mine.old.words.now }
 {
     for card in index.types {
         push_type(
@@ -179,8 +175,8 @@ fn push_defined_types(index: &Index, mine: &mut WordList, rows: &mut Rows)
 }
 
 // Pushes the defined types and then, adopting, those that the first orphans of each name make.
-pub fn push_all_types(index: &Index, adopt: bool, mine: &mut WordList, rows: &mut Rows)
-    requires few { length index.now.extensions.now ≤ length mine.old.words.now }
+pub fn push_all_types(index: &Index, adopt: bool, mine: &mut [u32], rows: &mut Rows)
+    requires few { length index.now.extensions.now ≤ length mine.old }
     requires room { HasRoom rows.old
         (pushed
         (all_types_rows_at index.now.collection.text.now index.now.collection.words.now adopt index.now.types.now

@@ -48,7 +48,6 @@ fn end_heading(
     put_card(cards, first.cards, card);
 }
 
-// Stays: that a heading's kind is at most 17 is a clause of four functions; kinds are the numbers of cards, which C gives and takes.
 // The rest of a heading that has no name: of the schema and of its extensions.
 fn unnamed<'a>(
     first: Cursor<'a>,

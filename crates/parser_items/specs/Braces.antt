@@ -1,36 +1,100 @@
--- Lists in braces: what the grammar has for each.
-use Rattle.std.specs.Prelude.{List, [], ◌∷◌}
-use Rattle.definition.specs.Grammar.{Symbol, Part, part, brace_closes, Root, Root*, Roots, Roots?, Field*, Fields, Fields?, EnumValue*, EnumValues}
-use Rattle.definition.specs.Grammar.{EnumValues?, InputField*, InputFields, InputFields?}
-use Rattle.parser_items.specs.declared.definitions.ItemDefinition.TheVariants.{Field, EnumValue, InputField}
-use Rattle.parser_items.specs.declared.braces.Braced.{Braced}
-use Rattle.parser_items.specs.declared.braces.Braced.TheVariants.{Operations, Definitions}
-use Rattle.parser_items.specs.Definitions.{part_of}
+-- Lists in braces: what the grammar has for them.
+use Rattle.std.specs.Prelude.{◌≡◌, refl, List, [], ◌∷◌, true, false}
+use Rattle.definition.specs.Lists.{Among, here, there, all, any}
+use Rattle.definition.specs.Grammar.{Symbol, Part, part, rule, within, brace_opens, brace_closes, Root, Root*, Roots, Roots?, Field, Field*, Fields, Fields?}
+use Rattle.definition.specs.Grammar.{EnumValue, EnumValue*, EnumValues, EnumValues?, InputField, InputField*, InputFields, InputFields?}
+use Rattle.definition.specs.GrammarSets.{nullable, first}
+use Rattle.definition.specs.Machine.{has, first_set_of}
+use Rattle.parser_laws.proofs.Tests.{subset}
 
--- An item of the list.
-abbrev pub item_of : Braced → Part
-item_of Operations = Root
-item_of (Definitions d) = part_of d
+-- Behind the opener.
+abbrev pub items_of : Part → Part → List Symbol
+items_of item more = part item ∷ part more ∷ brace_closes ∷ []
 
--- The items after the first.
-abbrev pub more_of : Braced → Part
-more_of Operations = Root*
-more_of (Definitions Field) = Field*
-more_of (Definitions EnumValue) = EnumValue*
-more_of (Definitions InputField) = InputField*
+-- The part `list` is `item`s in braces, `more` are those after the first, and `optional` is the list, or empty.
+pub record InBraces (optional list item more : Part) : Type 0 where
+  pub standing : Among (part list ∷ []) (rule optional)
+  pub absent : Among [] (rule optional)
+  pub opener : first optional ≡ (11, 11) ∷ []
+  pub whole : Among (brace_opens ∷ items_of item more) (rule list)
+  pub opens : first list ≡ (11, 11) ∷ []
+  pub some_there : nullable list ≡ false
+  pub begins : has (first_set_of (part list ∷ [])) 11 ≡ true
+  pub again : Among (part item ∷ part more ∷ []) (rule more)
+  pub done : Among [] (rule more)
+  pub never_empty : nullable item ≡ false
+  pub follows : subset (first more) (first item) ≡ true
+  pub tokens : subset (first item) ((0, 54) ∷ []) ≡ true
+  pub closed : has (first more) 13 ≡ false
 
--- The list, and the list or none.
-abbrev pub list_of : Braced → Part
-list_of Operations = Roots
-list_of (Definitions Field) = Fields
-list_of (Definitions EnumValue) = EnumValues
-list_of (Definitions InputField) = InputFields
+pub roots_rules : InBraces Roots? Roots Root Root*
+unfolding rule nullable first first_set_of subset all any has within
+roots_rules = record {
+  standing = here;
+  absent = there here;
+  opener = refl;
+  whole = here;
+  opens = refl;
+  some_there = refl;
+  begins = refl;
+  again = here;
+  done = there here;
+  never_empty = refl;
+  follows = refl;
+  tokens = refl;
+  closed = refl;
+}
 
-abbrev pub optional_of : Braced → Part
-optional_of Operations = Roots?
-optional_of (Definitions Field) = Fields?
-optional_of (Definitions EnumValue) = EnumValues?
-optional_of (Definitions InputField) = InputFields?
+pub fields_rules : InBraces Fields? Fields Field Field*
+unfolding rule nullable first first_set_of subset all any has within
+fields_rules = record {
+  standing = here;
+  absent = there here;
+  opener = refl;
+  whole = here;
+  opens = refl;
+  some_there = refl;
+  begins = refl;
+  again = here;
+  done = there here;
+  never_empty = refl;
+  follows = refl;
+  tokens = refl;
+  closed = refl;
+}
 
-abbrev pub items_of : Braced → List Symbol
-items_of l = part (item_of l) ∷ part (more_of l) ∷ brace_closes ∷ []
+pub enum_values_rules : InBraces EnumValues? EnumValues EnumValue EnumValue*
+unfolding rule nullable first first_set_of subset all any has within
+enum_values_rules = record {
+  standing = here;
+  absent = there here;
+  opener = refl;
+  whole = here;
+  opens = refl;
+  some_there = refl;
+  begins = refl;
+  again = here;
+  done = there here;
+  never_empty = refl;
+  follows = refl;
+  tokens = refl;
+  closed = refl;
+}
+
+pub input_fields_rules : InBraces InputFields? InputFields InputField InputField*
+unfolding rule nullable first first_set_of subset all any has within
+input_fields_rules = record {
+  standing = here;
+  absent = there here;
+  opener = refl;
+  whole = here;
+  opens = refl;
+  some_there = refl;
+  begins = refl;
+  again = here;
+  done = there here;
+  never_empty = refl;
+  follows = refl;
+  tokens = refl;
+  closed = refl;
+}

@@ -1,8 +1,9 @@
 // Lists in braces, of at least one item: root operations, and the definitions of fields, enum values and input fields.
 ghost use Rattle.std.specs.Prelude.{[], ◌∷◌};
-ghost use Rattle.definition.specs.Grammar.{part, Roots, Fields?, EnumValues?, InputFields?};
+ghost use Rattle.definition.specs.Grammar.{Part, part, Root, Root*, Roots, Roots?, Field, Field*, Fields, Fields?};
+ghost use Rattle.definition.specs.Grammar.{EnumValue, EnumValue*, EnumValues, EnumValues?, InputField, InputField*, InputFields, InputFields?};
 ghost use Rattle.parser_items.specs.Lists.{MustListed, MayListed, Short};
-ghost use Rattle.parser_items.specs.Braces.{item_of, list_of, optional_of};
+ghost use Rattle.parser_items.specs.Braces.{InBraces, roots_rules, fields_rules, enum_values_rules, input_fields_rules};
 
 use crate::cards::Cards;
 use crate::definitions::{ItemDefinition, definition};
@@ -11,31 +12,104 @@ use parser_lexer::Cursor;
 use parser_lexer::sorts::Sort;
 use parser_values::{SyntaxError, take};
 
-// What the list is of.
-#[derive(Clone, Copy)]
-pub enum Braced {
-    Operations,
-    Definitions(ItemDefinition),
+// What stands in braces: the parts of the grammar that are the list or none, the list, an item, and the items after the first.
+trait Braced {
+    ghost optional: { Part };
+
+    ghost list: { Part };
+
+    ghost item: { Part };
+
+    ghost more: { Part };
+
+    fn read<'a>(c: Cursor<'a>, cards: &mut Cards) -> Result<Cursor<'a>, SyntaxError>
+        requires { Short c }
+        ensures { MustListed (part item ∷ []) c.entry result cards.old cards.new };
+
+    // What the grammar has for them.
+    ghost rules: { InBraces optional list item more };
 }
 
-fn item<'a>(c: Cursor<'a>, cards: &mut Cards, list: Braced) -> Result<Cursor<'a>, SyntaxError>
-    requires { Short c }
-    ensures { MustListed (part (item_of list) ∷ []) c.entry result cards.old cards.new }
-{
-    match list {
-        Braced::Operations => root(c, cards),
-        Braced::Definitions(d) => definition(c, cards, d),
+struct Operations;
+
+impl Braced for Operations {
+    ghost optional = { Roots? };
+
+    ghost list = { Roots };
+
+    ghost item = { Root };
+
+    ghost more = { Root* };
+
+    fn read<'a>(c: Cursor<'a>, cards: &mut Cards) -> Result<Cursor<'a>, SyntaxError> {
+        root(c, cards)
     }
+
+    ghost rules = { roots_rules };
+}
+
+struct FieldDefinitions;
+
+impl Braced for FieldDefinitions {
+    ghost optional = { Fields? };
+
+    ghost list = { Fields };
+
+    ghost item = { Field };
+
+    ghost more = { Field* };
+
+    fn read<'a>(c: Cursor<'a>, cards: &mut Cards) -> Result<Cursor<'a>, SyntaxError> {
+        definition(c, cards, ItemDefinition::Field)
+    }
+
+    ghost rules = { fields_rules };
+}
+
+struct EnumValueDefinitions;
+
+impl Braced for EnumValueDefinitions {
+    ghost optional = { EnumValues? };
+
+    ghost list = { EnumValues };
+
+    ghost item = { EnumValue };
+
+    ghost more = { EnumValue* };
+
+    fn read<'a>(c: Cursor<'a>, cards: &mut Cards) -> Result<Cursor<'a>, SyntaxError> {
+        definition(c, cards, ItemDefinition::EnumValue)
+    }
+
+    ghost rules = { enum_values_rules };
+}
+
+struct InputFieldDefinitions;
+
+impl Braced for InputFieldDefinitions {
+    ghost optional = { InputFields? };
+
+    ghost list = { InputFields };
+
+    ghost item = { InputField };
+
+    ghost more = { InputField* };
+
+    fn read<'a>(c: Cursor<'a>, cards: &mut Cards) -> Result<Cursor<'a>, SyntaxError> {
+        definition(c, cards, ItemDefinition::InputField)
+    }
+
+    ghost rules = { input_fields_rules };
 }
 
 // A list: `{`, items and `}`.
-fn items<'a>(c: Cursor<'a>, cards: &mut Cards, list: Braced) -> Result<Cursor<'a>, SyntaxError>
+fn items<'a, B: Braced>(c: Cursor<'a>, cards: &mut Cards) -> Result<Cursor<'a>, SyntaxError>
     requires { Short c }
-    ensures { MustListed (part (list_of list) ∷ []) c.entry result cards.old cards.new }
+    ensures { MustListed (part B.list ∷ []) c.entry result cards.old cards.new }
 {
     let mut k = take(c, Sort::BraceOpens, Sort::BraceOpens)?;
     loop {
-        let j = item(k, cards, list)?;
+        let j = B::read(k, cards)?;
         if j.sort == Sort::BraceCloses {
             return Ok(j.next());
         }
@@ -44,18 +118,17 @@ fn items<'a>(c: Cursor<'a>, cards: &mut Cards, list: Braced) -> Result<Cursor<'a
 }
 
 // A list, or none.
-fn optional_items<'a>(
+fn optional_items<'a, B: Braced>(
     c: Cursor<'a>,
     cards: &mut Cards,
-    list: Braced,
 ) -> Result<Cursor<'a>, SyntaxError>
     requires { Short c }
-    ensures { MayListed (part (optional_of list) ∷ []) c.entry result cards.old cards.new }
+    ensures { MayListed (part B.optional ∷ []) c.entry result cards.old cards.new }
 {
     if c.sort != Sort::BraceOpens {
         return Ok(c);
     }
-    items(c, cards, list)
+    items::<B>(c, cards)
 }
 
 // The root operations of a schema: 3.3 of the specification.
@@ -63,7 +136,15 @@ pub fn roots<'a>(c: Cursor<'a>, cards: &mut Cards) -> Result<Cursor<'a>, SyntaxE
     requires { Short c }
     ensures { MustListed (part Roots ∷ []) c.entry result cards.old cards.new }
 {
-    items(c, cards, Braced::Operations)
+    items::<Operations>(c, cards)
+}
+
+// The root operations of a schema's extension, or none.
+pub fn optional_roots<'a>(c: Cursor<'a>, cards: &mut Cards) -> Result<Cursor<'a>, SyntaxError>
+    requires { Short c }
+    ensures { MayListed (part Roots? ∷ []) c.entry result cards.old cards.new }
+{
+    optional_items::<Operations>(c, cards)
 }
 
 // The fields of a type, or none: 3.6, FieldsDefinition.
@@ -71,7 +152,7 @@ pub fn fields<'a>(c: Cursor<'a>, cards: &mut Cards) -> Result<Cursor<'a>, Syntax
     requires { Short c }
     ensures { MayListed (part Fields? ∷ []) c.entry result cards.old cards.new }
 {
-    optional_items(c, cards, Braced::Definitions(ItemDefinition::Field))
+    optional_items::<FieldDefinitions>(c, cards)
 }
 
 // The values of an enum, or none: 3.9, EnumValuesDefinition.
@@ -79,7 +160,7 @@ pub fn enum_values<'a>(c: Cursor<'a>, cards: &mut Cards) -> Result<Cursor<'a>, S
     requires { Short c }
     ensures { MayListed (part EnumValues? ∷ []) c.entry result cards.old cards.new }
 {
-    optional_items(c, cards, Braced::Definitions(ItemDefinition::EnumValue))
+    optional_items::<EnumValueDefinitions>(c, cards)
 }
 
 // The fields of an input object, or none: 3.10, InputFieldsDefinition.
@@ -87,5 +168,5 @@ pub fn input_fields<'a>(c: Cursor<'a>, cards: &mut Cards) -> Result<Cursor<'a>, 
     requires { Short c }
     ensures { MayListed (part InputFields? ∷ []) c.entry result cards.old cards.new }
 {
-    optional_items(c, cards, Braced::Definitions(ItemDefinition::InputField))
+    optional_items::<InputFieldDefinitions>(c, cards)
 }

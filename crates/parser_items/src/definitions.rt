@@ -15,9 +15,10 @@ use parser_values::description::description;
 use parser_values::directives::directives;
 use parser_values::input_values::{argument_definitions, input_value_type};
 use parser_values::types::type_reference;
-use parser_values::{SyntaxError, take};
+use parser_values::{Depth, SyntaxError, take};
 
 // Which of them.
+// Stays: as a trait, each of the three would name its kind, first name and rest, and its parts of the grammar besides; the three matches below are shorter.
 #[derive(Clone, Copy)]
 pub enum ItemDefinition {
     Field,
@@ -52,7 +53,7 @@ fn field_rest(c: Cursor) -> Result<Cursor, SyntaxError>
 {
     let k = argument_definitions(c)?;
     let j = take(k, Sort::Colon, Sort::Colon)?;
-    let i = type_reference(j, 32)?;
+    let i = type_reference(j, Depth::full())?;
     directives(i)
 }
 

@@ -31,6 +31,7 @@ pub fn end_item<'a>(
         name_len: (name.ends - name.begins) as u32,
     };
     put_card(cards, first.cards, card);
+    // Stays: field by field, since Rattle takes no `..after` in a literal of a struct with a ghost field.
     Cursor {
         text: after.text,
         sort: after.sort,

@@ -10,6 +10,6 @@ mod ending;
 pub mod names;
 pub mod operations;
 
-pub use crate::braces::{enum_values, fields, input_fields, roots};
+pub use crate::braces::{enum_values, fields, input_fields, optional_roots, roots};
 pub use crate::directives::directive_uses;
 pub use crate::names::{interfaces, members};

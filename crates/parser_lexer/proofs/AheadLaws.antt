@@ -26,7 +26,7 @@ module _ (s : List ℕ) (at i : ℕ) (passed : from s at ≡ from s i) where
         spans = omega arith;
       }
 
-  pub unreadable_ahead : i < length s → lexeme (drop i s) ≡ unreadable → AheadOf s at 56 i i
+  pub unreadable_ahead : i < length s → lexeme (drop i s) ≡ unreadable → AheadOf s at 56 i (i + 0)
   unreadable_ahead l e =
       record {
         token = λ h. absurd (omega arith);
@@ -36,7 +36,7 @@ module _ (s : List ℕ) (at i : ℕ) (passed : from s at ≡ from s i) where
         spans = omega arith;
       }
 
-  pub end_ahead : length s ≤ i → AheadOf s at 55 i i
+  pub end_ahead : length s ≤ i → AheadOf s at 55 i (i + 0)
   end_ahead l =
       record {
         token = λ h. absurd (omega arith);

@@ -1,5 +1,5 @@
 -- The laws of a character, one for each answer.
-use mathlib.Core.Path.{◌≡◌, refl}
+use mathlib.Core.Path.{◌≡◌, refl, sym, ap}
 use mathlib.Core.Bool.{Bool, true, false, ◌&&◌}
 use mathlib.Core.List.{List, [], ◌∷◌}
 use Prim.Native.Nat.{ℕ, ◌<◌, ◌≤◌}
@@ -9,7 +9,40 @@ use lib.Dec.{eqb}
 use lib.ListN.{get_or}
 use Rattle.definition.specs.Lists.{choose}
 use Rattle.definition.specs.Lexical.{continues, character}
+use Rattle.std.specs.Option.{unwrap_or}
+use Rattle.std.specs.Prelude.{Option, Some, None}
 use Rattle.parser_lexer.specs.Characters.{second_of}
+use Rattle.parser_lexer.specs.Measures.{counted}
+
+-- ---- Counts, and none for 0.
+
+pub same_count : (n m : ℕ) → n ≡ m → counted n ≡ counted m
+same_count n m e = ap (λ (k : ℕ). counted k) e
+
+pub counted_other : (n m : ℕ) → n ≡ m → (n ≡ 0 → ⊥) → Some n ≡ counted m
+counted_other n m e z = rw (← e, ne_eqb n 0 z)
+
+pub counted_none : (n : ℕ) → None ≡ counted n → n ≡ 0
+counted_none n e = go (eqb n 0) refl e
+  where
+    go : (t : Bool) → eqb n 0 ≡ t → None ≡ choose t None (Some n) → n ≡ 0
+    go true h e = eqb-true n 0 h
+    go false h e = sym (ap (λ (o : Option ℕ). unwrap_or o 0) e)
+
+pub counted_some : (n k : ℕ) → Some k ≡ counted n → (n ≡ k) × (0 < k)
+counted_some n k e = go (eqb n 0) refl e
+  where
+    go : (t : Bool) → eqb n 0 ≡ t → Some k ≡ choose t None (Some n) → (n ≡ k) × (0 < k)
+    go true h e =
+        let y : k ≡ 0 = ap (λ (o : Option ℕ). unwrap_or o 0) e in
+        let z : k ≡ 1 = ap (λ (o : Option ℕ). unwrap_or o 1) e in
+        absurd (omega arith)
+    go false h e =
+        let z : k ≡ n = ap (λ (o : Option ℕ). unwrap_or o 0) e in
+        let m = eqb-false n 0 h in
+        (sym z, omega arith)
+
+-- ---- A character.
 
 module _ (b c d : ℕ) where
   pub of_tab : b ≡ 9 → character (b ∷ c ∷ d ∷ []) ≡ 1
@@ -102,3 +135,6 @@ module _ (b c d : ℕ) where
 pub by_three : (bs : List ℕ) → character bs ≡ character (get_or bs 0 0 ∷ get_or bs 1 0 ∷ get_or bs 2 0 ∷ [])
 unfolding character
 by_three bs = refl
+
+pub three_counted : (bs : List ℕ) → counted (character (get_or bs 0 0 ∷ get_or bs 1 0 ∷ get_or bs 2 0 ∷ [])) ≡ counted (character bs)
+three_counted bs = same_count _ _ (sym (by_three bs))

@@ -5,7 +5,7 @@ use mathlib.Core.Logic.{inl, inr}
 use mathlib.Core.Bool.{Bool, true, false, ◌||◌}
 use Prim.Native.Nat.{ℕ, zero, suc, ◌+◌, ◌-◌, ◌≤◌, ◌<◌}
 use native.Mathlib.Omega.{arith}
-use borrow.Author.Tests.{eq-eqb, ne_eqb, eqb-true, eqb-false, leb-true, le-leb}
+use borrow.Author.Tests.{ne_eqb, eqb-true, eqb-false, leb-true, le-leb}
 use lib.Dec.{eqb, leb}
 use lib.ListN.{length, get_or, drop, length-drop}
 use lib.Seq.{drop-drop}
@@ -15,7 +15,9 @@ use Rattle.definition.specs.Lists.{choose}
 use Rattle.definition.specs.Lexical.{between, run, character, ends_line, comment}
 use Rattle.parser_laws.proofs.Gluing.{character_size}
 use Rattle.parser_laws.proofs.Tests.{both}
+use Rattle.std.specs.Prelude.{Some, None}
 use Rattle.parser_lexer.specs.Comments.{CommentPart}
+use Rattle.parser_lexer.specs.Measures.{counted}
 use Rattle.parser_lexer.proofs.CharacterLaws.{by_three, of_one}
 use Rattle.parser_lexer.proofs.NameLaws.{run_prefix}
 
@@ -78,17 +80,20 @@ comment_on bs n l e z =
     (most, g)
 
 -- A part is one character.
-one_taken : (bs : List ℕ) (n : ℕ) → 0 < length bs → n ≡ taken bs → CommentPart bs n
-one_taken bs n l p = record { within = rw p (taken_size bs l); goes = go (eqb n 0) refl }
+one_taken : (bs : List ℕ) (n : ℕ) → 0 < length bs → n ≡ taken bs → CommentPart bs (counted n)
+one_taken bs n l p = go (eqb n 0) refl
   where
-    go : (t : Bool) → eqb n 0 ≡ t → comment 0 bs ≡ choose t 0 (n + comment 0 (drop n bs))
+    go : (t : Bool) → eqb n 0 ≡ t → CommentPart bs (choose t None (Some n))
     go true e = comment_stops bs l (sym p ∙ eqb-true n 0 e)
-    go false e = (comment_on bs n l p (eqb-false n 0 e)).1
+    go false e =
+        let z = eqb-false n 0 e in
+        let m = comment_on bs n l p z in
+        (omega arith, m.0, m.1)
 
-pub line_taken : (bs : List ℕ) → 0 < length bs → OneOf (10 ∷ 13 ∷ []) (get_or bs 0 0) → CommentPart bs 0
+pub line_taken : (bs : List ℕ) → 0 < length bs → OneOf (10 ∷ 13 ∷ []) (get_or bs 0 0) → CommentPart bs None
 line_taken bs l o = one_taken bs 0 l (rw (line_ends (get_or bs 0 0) o))
 
-pub other_taken : (bs : List ℕ) → 0 < length bs → (OneOf (10 ∷ 13 ∷ []) (get_or bs 0 0) → ⊥) → CommentPart bs (character bs)
+pub other_taken : (bs : List ℕ) → 0 < length bs → (OneOf (10 ∷ 13 ∷ []) (get_or bs 0 0) → ⊥) → CommentPart bs (counted (character bs))
 other_taken bs l n = one_taken bs (character bs) l (rw (no_end (get_or bs 0 0) (λ e. n (inl e)) (λ e. n (inr e))))
 
 -- A row of ASCII takes as many bytes as it has.
@@ -113,24 +118,19 @@ row_on (b ∷ bs) = go (between 32 127 b) refl (row_on bs)
         omega (arith, one_on b bs e)
     go false e h = omega arith
 
-pub row_taken : (bs : List ℕ) (n : ℕ) → 32 ≤ get_or bs 0 0 → get_or bs 0 0 ≤ 127 → n ≡ run (between 32 127) bs → CommentPart bs n
+pub row_taken : (bs : List ℕ) (n : ℕ) → 32 ≤ get_or bs 0 0 → get_or bs 0 0 ≤ 127 → n ≡ run (between 32 127) bs → CommentPart bs (Some n)
 unfolding run
-row_taken bs n h k p = record {
-  within = rw (p, run_prefix (between 32 127) bs) (prefix_len-le-length (between 32 127) bs);
-  goes = rw (ne_eqb n 0 (positive bs h k p), p) (row_on bs);
-}
+row_taken bs n h k p =
+    let z = positive bs h k p in
+    let w : n ≤ length bs = rw (p, run_prefix (between 32 127) bs) (prefix_len-le-length (between 32 127) bs) in
+    let g : comment 0 bs ≡ n + comment 0 (drop n bs) = rw p (row_on bs) in
+    (omega arith, w, g)
   where
     positive : (bs : List ℕ) → 32 ≤ get_or bs 0 0 → get_or bs 0 0 ≤ 127 → n ≡ run (between 32 127) bs → n ≡ 0 → ⊥
     positive [] h k p z = omega arith
     positive (b ∷ bs) h k p z = let q : run (between 32 127) (b ∷ bs) ≡ 1 + run (between 32 127) bs = rw (le-leb 32 b h, le-leb b 127 k) in omega arith
 
 -- ---- A turn.
-
-pub comment_stops_at : (bs : List ℕ) (n : ℕ) → CommentPart bs n → n ≡ 0 → comment 0 bs ≡ 0
-comment_stops_at bs n p e = p.goes ∙ rw (eq-eqb n 0 e)
-
-pub comment_goes : (bs : List ℕ) (n : ℕ) → CommentPart bs n → (n ≡ 0 → ⊥) → comment 0 bs ≡ n + comment 0 (drop n bs)
-comment_goes bs n p e = p.goes ∙ rw (ne_eqb n 0 e)
 
 pub comment_ends : (bs : List ℕ) → length bs ≡ 0 → comment 0 bs ≡ 0
 unfolding comment

@@ -16,7 +16,9 @@ use Rattle.definition.specs.Lists.{choose, found, any}
 use Rattle.definition.specs.Lexical.{byte, between, run, character, ends_line, is_digit, is_hex, escape, plain, tripled, block, lexed, unreadable, string}
 use Rattle.parser_laws.proofs.Tests.{both, clash}
 use Rattle.parser_laws.proofs.Gluing.{test_there, character_size}
-use Rattle.parser_lexer.specs.Strings.{is_simple, is_code, later, PlainPart, BlockPart, string_token}
+use Rattle.std.specs.Prelude.{Some, None}
+use Rattle.parser_lexer.specs.Measures.{counted}
+use Rattle.parser_lexer.specs.Strings.{Goes, is_simple, is_code, later, PlainPart, BlockPart, string_token}
 use Rattle.parser_lexer.proofs.CharacterLaws.{by_three, of_one}
 use Rattle.parser_lexer.proofs.NameLaws.{run_prefix}
 
@@ -138,6 +140,9 @@ part_size bs l = go (eqb (get_or bs 0 0) 92) (ends_line (get_or bs 0 0)) (eqb (e
 
 -- ---- A turn along a string.
 
+as_some : (f : List ℕ → Option ℕ) (bs : List ℕ) (n : ℕ) → 0 < n → Goes f bs (counted n) → Goes f bs (Some n)
+as_some f bs n p g = rw (ne_eqb n 0 (λ e. omega arith)) at g
+
 plain_onward : (n : ℕ) → (n ≡ 0 → ⊥) → (b : ℕ) (bs : List ℕ) → later 1 (plain (n - 1) bs) ≡ later n (plain 0 (drop n (b ∷ bs)))
 unfolding plain
 plain_onward = onward plain (λ k. refl) (λ k b bs. refl)
@@ -172,42 +177,35 @@ plain_closes [] l e = absurd (omega arith)
 plain_closes (b ∷ bs) l e = rw e
 
 -- One character, or an escape.
-one_plain : (bs : List ℕ) (n : ℕ) → 0 < length bs → eqb (get_or bs 0 0) 34 ≡ false → n ≡ plain_part bs → PlainPart bs n
+one_plain : (bs : List ℕ) (n : ℕ) → 0 < length bs → eqb (get_or bs 0 0) 34 ≡ false → n ≡ plain_part bs → PlainPart bs (counted n)
 one_plain [] n l q p = absurd (omega arith)
-one_plain (b ∷ bs) n l q p = record {
-  within = rw p (part_size (b ∷ bs) l);
-  goes = go (eqb n 0) refl;
-}
+one_plain (b ∷ bs) n l q p = go (eqb n 0) refl
   where
-    go : (t : Bool) → eqb n 0 ≡ t → plain 0 (b ∷ bs) ≡ choose t none (later n (plain 0 (drop n (b ∷ bs))))
+    go : (t : Bool) → eqb n 0 ≡ t → PlainPart (b ∷ bs) (choose t None (Some n))
     go true e = plain_none b bs q (sym p ∙ eqb-true n 0 e)
-    go false e = plain_some b bs n q p (eqb-false n 0 e)
+    go false e =
+        let z = eqb-false n 0 e in
+        let w : n ≤ length (b ∷ bs) = rw p (part_size (b ∷ bs) l) in
+        (omega arith, w, plain_some b bs n q p z)
 
 module _ (bs : List ℕ) (l : 0 < length bs) (more : eqb (get_or bs 0 0) 34 ≡ false) where
   module _ (e : ℕ) (measured : e ≡ escape (drop 1 bs)) (begun : get_or bs 0 0 ≡ 92) where
-    pub plain_no_escape : e ≡ 0 → PlainPart bs 0
+    pub plain_no_escape : e ≡ 0 → PlainPart bs None
     unfolding plain_part
     plain_no_escape z = one_plain bs 0 l more (rw (eq-eqb _ _ begun, ← measured, eq-eqb _ _ z))
 
-    pub plain_escape : (e ≡ 0 → ⊥) → PlainPart bs (1 + e)
+    pub plain_escape : (e ≡ 0 → ⊥) → PlainPart bs (Some (1 + e))
     unfolding plain_part
-    plain_escape z = one_plain bs (1 + e) l more (rw (eq-eqb _ _ begun, ← measured, ne_eqb _ _ z))
+    plain_escape z = as_some (plain 0) bs (1 + e) (omega arith) (one_plain bs (1 + e) l more (rw (eq-eqb _ _ begun, ← measured, ne_eqb _ _ z)))
 
-  pub plain_line : OneOf (10 ∷ 13 ∷ []) (get_or bs 0 0) → PlainPart bs 0
+  pub plain_line : OneOf (10 ∷ 13 ∷ []) (get_or bs 0 0) → PlainPart bs None
   unfolding plain_part ends_line
   plain_line (inl e) = one_plain bs 0 l more (rw e)
   plain_line (inr e) = one_plain bs 0 l more (rw e)
 
-  pub plain_character : (get_or bs 0 0 ≡ 92 → ⊥) → (OneOf (10 ∷ 13 ∷ []) (get_or bs 0 0) → ⊥) → PlainPart bs (character bs)
+  pub plain_character : (get_or bs 0 0 ≡ 92 → ⊥) → (OneOf (10 ∷ 13 ∷ []) (get_or bs 0 0) → ⊥) → PlainPart bs (counted (character bs))
   unfolding plain_part
   plain_character n o = one_plain bs (character bs) l more (rw (ne_eqb _ _ n, no_line (get_or bs 0 0) (λ e. o (inl e)) (λ e. o (inr e))))
-
--- A part of no byte breaks a plain string, and else it goes on.
-pub plain_broken : (bs : List ℕ) (n : ℕ) → PlainPart bs n → n ≡ 0 → plain 0 bs ≡ none
-plain_broken bs n p e = p.goes ∙ rw (eq-eqb n 0 e)
-
-pub plain_goes : (bs : List ℕ) (n : ℕ) → PlainPart bs n → (n ≡ 0 → ⊥) → plain 0 bs ≡ later n (plain 0 (drop n bs))
-plain_goes bs n p e = p.goes ∙ rw (ne_eqb n 0 e)
 
 pub plain_end : (bs : List ℕ) → length bs ≡ 0 → plain 0 bs ≡ none
 unfolding plain
@@ -277,31 +275,31 @@ part_within bs l = go (eqb (byte 0 bs) 92) (tripled (drop 1 bs)) refl
     go false u e = most bs l
 
 -- One character, or three quotes behind a backslash.
-one_part : (bs : List ℕ) (n : ℕ) → 0 < length bs → tripled bs ≡ false → n ≡ block_part bs → BlockPart bs n
+one_part : (bs : List ℕ) (n : ℕ) → 0 < length bs → tripled bs ≡ false → n ≡ block_part bs → BlockPart bs (counted n)
 one_part [] n l q p = absurd (omega arith)
-one_part (b ∷ bs) n l q p = record {
-  within = rw p (part_within (b ∷ bs) l);
-  goes = go (eqb n 0) refl;
-}
+one_part (b ∷ bs) n l q p = go (eqb n 0) refl
   where
-    go : (t : Bool) → eqb n 0 ≡ t → block 0 (b ∷ bs) ≡ choose t none (later n (block 0 (drop n (b ∷ bs))))
+    go : (t : Bool) → eqb n 0 ≡ t → BlockPart (b ∷ bs) (choose t None (Some n))
     go true e = block_none b bs q (sym p ∙ eqb-true n 0 e)
-    go false e = block_some b bs n q p (eqb-false n 0 e)
+    go false e =
+        let z = eqb-false n 0 e in
+        let w : n ≤ length (b ∷ bs) = rw p (part_within (b ∷ bs) l) in
+        (omega arith, w, block_some b bs n q p z)
 
 module _ (bs : List ℕ) (l : 0 < length bs) (more : tripled bs ≡ false) where
-  pub block_escape : get_or bs 0 0 ≡ 92 → tripled (drop 1 bs) ≡ true → BlockPart bs 4
+  pub block_escape : get_or bs 0 0 ≡ 92 → tripled (drop 1 bs) ≡ true → BlockPart bs (Some 4)
   unfolding block_part
   block_escape e t = one_part bs 4 l more (rw (eq-eqb _ _ e, t))
 
-  pub block_backslash : get_or bs 0 0 ≡ 92 → tripled (drop 1 bs) ≡ false → BlockPart bs 1
+  pub block_backslash : get_or bs 0 0 ≡ 92 → tripled (drop 1 bs) ≡ false → BlockPart bs (Some 1)
   unfolding block_part
   block_backslash e t = one_part bs 1 l more (rw (eq-eqb _ _ e, t) (sym (ascii bs (omega arith) (omega arith))))
 
-  pub block_quote : get_or bs 0 0 ≡ 34 → BlockPart bs 1
+  pub block_quote : get_or bs 0 0 ≡ 34 → BlockPart bs (Some 1)
   unfolding block_part
   block_quote e = one_part bs 1 l more (rw (ne_eqb (get_or bs 0 0) 92 (omega arith)) (sym (ascii bs (omega arith) (omega arith))))
 
-  pub block_character : (get_or bs 0 0 ≡ 92 → ⊥) → BlockPart bs (character bs)
+  pub block_character : (get_or bs 0 0 ≡ 92 → ⊥) → BlockPart bs (counted (character bs))
   unfolding block_part
   block_character e = one_part bs (character bs) l more (rw (ne_eqb _ _ e))
 
@@ -356,23 +354,21 @@ module _ (f : List ℕ → Option ℕ) (one : (b : ℕ) (bs : List ℕ) → is_s
           ap (λ (m : ℕ). later (1 + run is_simple bs) (f (drop m (b ∷ bs)))) z
       go false e h = later_zero (f (b ∷ bs))
 
-  row_goes : (bs : List ℕ) (n : ℕ) → is_simple (get_or bs 0 0) ≡ true → n ≡ run is_simple bs → f bs ≡ choose (eqb n 0) none (later n (f (drop n bs)))
+  row_goes : (bs : List ℕ) (n : ℕ) → is_simple (get_or bs 0 0) ≡ true → n ≡ run is_simple bs → Goes f bs (Some n)
   unfolding run
   row_goes [] n e p = clash e
-  row_goes (b ∷ bs) n e p = rw (ne_eqb n 0 positive, p) (goes_by (b ∷ bs))
-    where
-      positive : n ≡ 0 → ⊥
-      positive z = let q : run is_simple (b ∷ bs) ≡ 1 + run is_simple bs = rw e in absurd (omega arith)
+  row_goes (b ∷ bs) n e p =
+      let q : run is_simple (b ∷ bs) ≡ 1 + run is_simple bs = rw e in
+      let w : n ≤ length (b ∷ bs) = rw (p, run_prefix is_simple (b ∷ bs)) (prefix_len-le-length is_simple (b ∷ bs)) in
+      let g : f (b ∷ bs) ≡ later n (f (drop n (b ∷ bs))) = rw p (goes_by (b ∷ bs)) in
+      (omega arith, w, g)
 
 module _ (bs : List ℕ) (n : ℕ) (first : is_simple (get_or bs 0 0) ≡ true) (row : n ≡ run is_simple bs) where
-  row_within : n ≤ length bs
-  row_within = rw (row, run_prefix is_simple bs) (prefix_len-le-length is_simple bs)
+  pub block_row : BlockPart bs (Some n)
+  block_row = row_goes (block 0) block_one bs n first row
 
-  pub block_row : BlockPart bs n
-  block_row = record { within = row_within; goes = row_goes (block 0) block_one bs n first row }
-
-  pub plain_row : PlainPart bs n
-  plain_row = record { within = row_within; goes = row_goes (plain 0) plain_one bs n first row }
+  pub plain_row : PlainPart bs (Some n)
+  plain_row = row_goes (plain 0) plain_one bs n first row
 
 pub block_end : (bs : List ℕ) → length bs ≡ 0 → block 0 bs ≡ none
 unfolding block
@@ -396,13 +392,6 @@ reads_on f k bs rest n h l e =
     let d = length-drop n rest in
     let z : length bs - length rest + n ≡ length bs - length (drop n rest) = omega arith in
     (omega arith, h.1 ∙ ap (later (length bs - length rest)) e ∙ later_later _ n (f (drop n rest)) ∙ ap (λ (m : ℕ). later m (f (drop n rest))) z)
-
--- A part of no byte breaks a block string, and else it goes on.
-pub block_broken : (bs : List ℕ) (n : ℕ) → BlockPart bs n → n ≡ 0 → block 0 bs ≡ none
-block_broken bs n p e = p.goes ∙ rw (eq-eqb n 0 e)
-
-pub block_goes : (bs : List ℕ) (n : ℕ) → BlockPart bs n → (n ≡ 0 → ⊥) → block 0 bs ≡ later n (block 0 (drop n bs))
-block_goes bs n p e = p.goes ∙ rw (ne_eqb n 0 e)
 
 -- ---- The whole.
 

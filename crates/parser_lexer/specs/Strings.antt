@@ -1,8 +1,13 @@
 -- Parts of what Lexical says of a string, by names.
-use Rattle.std.specs.Prelude.{◌≡◌, List, Bool, ◌&&◌, not, ℕ, ◌+◌, ◌≤◌, eqb, drop, length}
+use Rattle.std.specs.Prelude.{◌≡◌, List, Bool, ◌&&◌, not, ℕ, ◌+◌, ◌≤◌, ◌<◌, eqb, drop, length, Some, None}
+use Rattle.std.specs.Prelude.{Option as Lent}
 use Rattle.std.proofs.Math.Option.{Option, none, some}
 use Rattle.definition.specs.Lists.{choose, found}
 use Rattle.definition.specs.Lexical.{byte, between, is_hex, plain, block, Lexeme, lexed, unreadable}
+
+-- What code answers, where Lexical has an option.
+abbrev pub Size : Type 0
+Size = Lent ℕ
 
 -- Whether four hexadecimal digits follow the first byte.
 abbrev pub is_code : List ℕ → Bool
@@ -20,12 +25,14 @@ later k o = found o (λ n. some (k + n)) none
 abbrev pub string_token : Option ℕ → Lexeme
 string_token o = found o (λ n. lexed 16 n) unreadable
 
--- So many bytes go on a block string that does not close there; none where it is broken.
-pub record BlockPart (bs : List ℕ) (n : ℕ) : Type 0 where
-  pub within : n ≤ length bs
-  pub goes : block 0 bs ≡ choose (eqb n 0) none (later n (block 0 (drop n bs)))
+-- So many bytes go on what f measures, one at least; none where it is broken.
+abbrev pub Goes : (List ℕ → Option ℕ) → List ℕ → Size → Type 0
+Goes f bs (Some n) = (0 < n) × (n ≤ length bs) × (f bs ≡ later n (f (drop n bs)))
+Goes f bs None = f bs ≡ none
 
--- The same of a plain string.
-pub record PlainPart (bs : List ℕ) (n : ℕ) : Type 0 where
-  pub within : n ≤ length bs
-  pub goes : plain 0 bs ≡ choose (eqb n 0) none (later n (plain 0 (drop n bs)))
+-- So many bytes go on a block string, or a plain one, that does not close there.
+abbrev pub BlockPart : List ℕ → Size → Type 0
+BlockPart bs o = Goes (block 0) bs o
+
+abbrev pub PlainPart : List ℕ → Size → Type 0
+PlainPart bs o = Goes (plain 0) bs o

@@ -2,6 +2,7 @@
 ghost use Rattle.std.specs.Prelude.{◌≡◌, [], ◌∷◌, ◌&&◌, ◌<◌, eqb, length, get_or};
 ghost use Rattle.definition.specs.Lexical as lexical;
 ghost use Rattle.parser_lexer.specs.Characters.{second_of};
+ghost use Rattle.parser_lexer.specs.Measures.{counted};
 
 // What may stand below the space.
 pub const TAB: u8 = 9;
@@ -69,26 +70,26 @@ fn is_second(b: u8, c: u8) -> bool
 }
 
 // How many bytes the character has that three bytes begin with, where the first is not ASCII.
-fn wide(b: u8, c: u8, d: u8) -> usize
+fn wide(b: u8, c: u8, d: u8) -> Option<usize>
     requires { 127 < b }
-    ensures { result ≡ lexical.character (b ∷ c ∷ d ∷ []) }
+    ensures { result ≡ counted (lexical.character (b ∷ c ∷ d ∷ [])) }
 {
     match b {
-        FIRST_OF_TWO..=LAST_OF_TWO if continues(c) => 2,
-        FIRST_OF_THREE..=LAST_OF_THREE if is_second(b, c) && continues(d) => 3,
-        _ => 0,
+        FIRST_OF_TWO..=LAST_OF_TWO if continues(c) => Some(2),
+        FIRST_OF_THREE..=LAST_OF_THREE if is_second(b, c) && continues(d) => Some(3),
+        _ => None,
     }
 }
 
 // Stays: that there is a byte is a clause of each function that reads the first; a type for bytes that are not empty would be made and opened at each call.
-// How many bytes the character has that the bytes begin with; 0 where they begin with none.
-pub fn character(bytes: &[u8]) -> usize
+// How many bytes the character has that the bytes begin with, where they begin with one.
+pub fn character(bytes: &[u8]) -> Option<usize>
     requires { 0 < length bytes.now }
-    ensures { result ≡ lexical.character bytes.now }
+    ensures { result ≡ counted (lexical.character bytes.now) }
 {
     match bytes[0] {
-        TAB | LINE_FEED | CARRIAGE_RETURN | SPACE..=LAST_OF_ONE => 1,
-        0..SPACE => 0,
+        TAB | LINE_FEED | CARRIAGE_RETURN | SPACE..=LAST_OF_ONE => Some(1),
+        0..SPACE => None,
         b => wide(b, byte_at(bytes, 1), byte_at(bytes, 2)),
     }
 }

@@ -13,13 +13,13 @@ fn is_plain(b: u8) -> bool
 }
 
 // How many bytes go on a comment: a row of such characters, or one character; none where the line ends, or where no character stands.
-fn taken(bytes: &[u8]) -> usize
+fn taken(bytes: &[u8]) -> Option<usize>
     requires { 0 < length bytes.now }
     ensures { CommentPart bytes.now result }
 {
     match bytes[0] {
-        SPACE..=LAST_OF_ONE => bytes.iter().take_while(|b| is_plain(**b)).count(),
-        LINE_FEED | CARRIAGE_RETURN => 0,
+        SPACE..=LAST_OF_ONE => Some(bytes.iter().take_while(|b| is_plain(**b)).count()),
+        LINE_FEED | CARRIAGE_RETURN => None,
         _ => character(bytes),
     }
 }
@@ -30,10 +30,9 @@ pub fn comment(bytes: &[u8]) -> usize
 {
     let mut rest = bytes;
     while let [_, ..] = rest {
-        let size = taken(rest);
-        if size == 0 {
+        let Some(size) = taken(rest) else {
             break;
-        }
+        };
         rest = &rest[size..];
     }
     bytes.len() - rest.len()

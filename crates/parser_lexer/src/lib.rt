@@ -27,40 +27,25 @@ pub fn next_token(text: &[u8], at: usize, cards: usize) -> Cursor
     ensures { Next text.now at cards result }
 {
     let mut i = at;
-    while i < text.len() {
+    let (sort, size) = loop {
+        if text.len() <= i {
+            break (Sort::EndOfText, 0);
+        }
         if text[i] == SPACE {
             i += 1;
             continue;
         }
         match tokens::lexeme(&text[i..]) {
             Lexeme::Ignored(size) => i += size,
-            Lexeme::Token(sort, size) => {
-                return Cursor {
-                    text,
-                    sort,
-                    begins: i,
-                    ends: i + size,
-                    last: at,
-                    cards,
-                };
-            }
-            Lexeme::Unreadable => {
-                return Cursor {
-                    text,
-                    sort: Sort::Unreadable,
-                    begins: i,
-                    ends: i,
-                    last: at,
-                    cards,
-                };
-            }
+            Lexeme::Token(sort, size) => break (sort, size),
+            Lexeme::Unreadable => break (Sort::Unreadable, 0),
         }
-    }
+    };
     Cursor {
         text,
-        sort: Sort::EndOfText,
+        sort,
         begins: i,
-        ends: i,
+        ends: i + size,
         last: at,
         cards,
     }

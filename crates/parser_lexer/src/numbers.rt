@@ -3,18 +3,21 @@ ghost use Rattle.std.specs.Prelude.{◌≡◌, ◌||◌, ◌≤◌, eqb, length,
 ghost use Rattle.definition.specs.Lists.{choose};
 ghost use Rattle.definition.specs.Lexical as lexical;
 ghost use Rattle.parser_lexer.specs.Lexemes.{told};
-ghost use Rattle.parser_lexer.specs.Measures.{measured, numbered};
+ghost use Rattle.parser_lexer.specs.Measures.{counted, measured, numbered};
 ghost use Rattle.parser_lexer.specs.Numbers.{is_attached, number_from};
 
 use crate::characters::byte_at;
 use crate::lexeme::Lexeme;
 use crate::sorts::Sort;
 
-// How many digits the bytes begin with.
-fn digits(bytes: &[u8]) -> usize
-    ensures { result ≡ lexical.run lexical.is_digit bytes.now }
+// How many digits the bytes begin with, where they begin with one.
+fn digits(bytes: &[u8]) -> Option<usize>
+    ensures { result ≡ counted (lexical.run lexical.is_digit bytes.now) }
 {
-    bytes.iter().take_while(|b| b.is_ascii_digit()).count()
+    match bytes.iter().take_while(|b| b.is_ascii_digit()).count() {
+        0 => None,
+        n => Some(n),
+    }
 }
 
 // A minus or nothing.
@@ -25,11 +28,11 @@ fn sign(bytes: &[u8]) -> usize
 }
 
 // The digits of an integer part: 0 stands alone.
-fn integer(bytes: &[u8]) -> usize
-    ensures { result ≡ lexical.integer bytes.now }
+fn integer(bytes: &[u8]) -> Option<usize>
+    ensures { result ≡ counted (lexical.integer bytes.now) }
 {
     if byte_at(bytes, 0) == b'0' {
-        1
+        Some(1)
     } else {
         digits(bytes)
     }
@@ -40,10 +43,8 @@ fn begun(bytes: &[u8], mark: usize) -> Option<usize>
     requires { mark ≤ length bytes.now }
     ensures { measured result ≡ lexical.begun mark bytes.now }
 {
-    match digits(&bytes[mark..]) {
-        0 => None,
-        n => Some(mark + n),
-    }
+    let size = digits(&bytes[mark..])?;
+    Some(mark + size)
 }
 
 fn fraction(bytes: &[u8]) -> Option<usize>
@@ -108,10 +109,9 @@ pub fn number(bytes: &[u8]) -> Lexeme
     ensures { told result ≡ lexical.number bytes.now }
 {
     let sign = sign(bytes);
-    let whole = integer(&bytes[sign..]);
-    if whole == 0 {
+    let Some(whole) = integer(&bytes[sign..]) else {
         return Lexeme::Unreadable;
-    }
+    };
     match number_from(bytes, sign + whole) {
         Some((sort, size)) => Lexeme::Token(sort, size),
         None => Lexeme::Unreadable,

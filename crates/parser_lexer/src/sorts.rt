@@ -81,6 +81,7 @@ pub const FIRST_LOCATION: Sort = Sort::QueryLocation;
 pub const LAST_LOCATION: Sort = Sort::InputFieldDefinitionLocation;
 
 impl Sort {
+    // Stays: a derived order tells of discriminants as signed numbers, which a second table of 57 would have to lead to Grammar's; `is_within` reads these instead.
     pub fn number(self) -> u32
         ensures { result ≡ sort_number self }
     {

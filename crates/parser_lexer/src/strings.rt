@@ -2,7 +2,7 @@
 ghost use Rattle.std.specs.Prelude.{◌≡◌, false, ◌≤◌, ◌<◌, eqb, length, get_or, drop};
 ghost use Rattle.definition.specs.Lexical as lexical;
 ghost use Rattle.parser_lexer.specs.Lexemes.{told};
-ghost use Rattle.parser_lexer.specs.Measures.{measured};
+ghost use Rattle.parser_lexer.specs.Measures.{measured, counted};
 ghost use Rattle.parser_lexer.specs.Strings.{is_simple, is_code, later, PlainPart, BlockPart, string_token};
 
 use crate::characters::{
@@ -27,15 +27,14 @@ fn is_code(bytes: &[u8]) -> bool
     first && last
 }
 
-// How many bytes an escape has after its backslash; 0 where there is none.
-fn escape(bytes: &[u8]) -> usize
-    ensures { (result ≡ lexical.escape bytes.now) ×
-        (result ≤ 5) }
+// How many bytes an escape has after its backslash, where there is one.
+fn escape(bytes: &[u8]) -> Option<usize>
+    ensures { result ≡ counted (lexical.escape bytes.now) }
 {
     match byte_at(bytes, 0) {
-        b'"' | b'\\' | b'/' | b'b' | b'f' | b'n' | b'r' | b't' => 1,
-        b'u' if is_code(bytes) => 5,
-        _ => 0,
+        b'"' | b'\\' | b'/' | b'b' | b'f' | b'n' | b'r' | b't' => Some(1),
+        b'u' if is_code(bytes) => Some(5),
+        _ => None,
     }
 }
 
@@ -53,19 +52,19 @@ fn simple_row(bytes: &[u8]) -> usize
     bytes.iter().take_while(|b| is_simple(**b)).count()
 }
 
-// How many bytes go on a string where it is not closed; 0 where it is broken. Most are ASCII, and stand in rows.
-fn plain_part(bytes: &[u8]) -> usize
+// How many bytes go on a string where it is not closed, and not broken. Most are ASCII, and stand in rows.
+fn plain_part(bytes: &[u8]) -> Option<usize>
     requires { (0 < length bytes.now) ×
         (eqb (get_or bytes.now 0 0) 34 ≡ false) }
     ensures { PlainPart bytes.now result }
 {
     match bytes[0] {
-        b'\\' => match escape(&bytes[1..]) {
-            0 => 0,
-            size => 1 + size,
-        },
-        SPACE..=LAST_OF_ONE => simple_row(bytes),
-        LINE_FEED | CARRIAGE_RETURN => 0,
+        b'\\' => {
+            let size = escape(&bytes[1..])?;
+            Some(1 + size)
+        }
+        SPACE..=LAST_OF_ONE => Some(simple_row(bytes)),
+        LINE_FEED | CARRIAGE_RETURN => None,
         _ => character(bytes),
     }
 }
@@ -80,10 +79,7 @@ fn plain_string(bytes: &[u8]) -> Option<usize>
         if *first == b'"' {
             return Some(bytes.len() - rest.len() + 1);
         }
-        let size = plain_part(rest);
-        if size == 0 {
-            return None;
-        }
+        let size = plain_part(rest)?;
         rest = &rest[size..];
     }
     None
@@ -96,16 +92,16 @@ fn is_tripled(bytes: &[u8]) -> bool
     byte_at(bytes, 0) == b'"' && is_followed(bytes, b'"', b'"')
 }
 
-// How many bytes go on a block string where it is not closed; 0 where it is broken. Most are ASCII, and stand in rows.
-fn block_part(bytes: &[u8]) -> usize
+// How many bytes go on a block string where it is not closed, and not broken. Most are ASCII, and stand in rows.
+fn block_part(bytes: &[u8]) -> Option<usize>
     requires { (0 < length bytes.now) ×
         (lexical.tripled bytes.now ≡ false) }
     ensures { BlockPart bytes.now result }
 {
     match bytes[0] {
-        b'\\' if is_tripled(&bytes[1..]) => 4,
-        b'"' | b'\\' => 1,
-        SPACE..=LAST_OF_ONE => simple_row(bytes),
+        b'\\' if is_tripled(&bytes[1..]) => Some(4),
+        b'"' | b'\\' => Some(1),
+        SPACE..=LAST_OF_ONE => Some(simple_row(bytes)),
         _ => character(bytes),
     }
 }
@@ -120,10 +116,7 @@ fn block_string(bytes: &[u8]) -> Option<usize>
         if is_tripled(rest) {
             return Some(bytes.len() - rest.len() + 3);
         }
-        let size = block_part(rest);
-        if size == 0 {
-            return None;
-        }
+        let size = block_part(rest)?;
         rest = &rest[size..];
     }
     None

@@ -1,4 +1,5 @@
 -- What the parser's functions promise.
+pub mod Depths
 pub mod Errors
 pub mod Parentheses
 pub mod Reads

@@ -6,7 +6,7 @@ ghost use Rattle.parser_values.specs.Reads.{MustRead, MayRead};
 
 use crate::parentheses::{Parenthesised, in_parentheses};
 use crate::values::value;
-use crate::{SyntaxError, name_and_colon};
+use crate::{Depth, SyntaxError, name_and_colon};
 use parser_lexer::Cursor;
 
 // An argument: a name, a colon and a value.
@@ -14,7 +14,7 @@ fn argument(c: Cursor) -> Result<Cursor, SyntaxError>
     ensures { MustRead (part Argument ∷ []) c.entry 0 result }
 {
     let k = name_and_colon(c)?;
-    value(k, 32)
+    value(k, Depth::full())
 }
 
 // What stands in the parentheses of a directive.

@@ -9,7 +9,7 @@ use crate::directives::directives;
 use crate::parentheses::{Parenthesised, in_parentheses};
 use crate::types::type_reference;
 use crate::values::default_value;
-use crate::{SyntaxError, take};
+use crate::{Depth, SyntaxError, take};
 use parser_lexer::Cursor;
 use parser_lexer::sorts::{FIRST_NAME, Sort};
 
@@ -18,7 +18,7 @@ pub fn input_value_type(c: Cursor) -> Result<Cursor, SyntaxError>
     ensures { MustRead (colon ∷ part TypeReference ∷ part Default? ∷ part Directive* ∷ []) c.entry 0 result }
 {
     let k = take(c, Sort::Colon, Sort::Colon)?;
-    let j = type_reference(k, 32)?;
+    let j = type_reference(k, Depth::full())?;
     let e = default_value(j)?;
     directives(e)
 }

@@ -1,15 +1,17 @@
 // The readers of what has no card of its own: values, type references, arguments, and directives that are not a heading's.
 #![tactic(auto)]
 
-ghost use Rattle.std.specs.Prelude.{[], ◌∷◌, ◌≤◌};
+ghost use Rattle.std.specs.Prelude.{◌≡◌, [], ◌∷◌, ◌≤◌};
 ghost use Rattle.definition.specs.Grammar.{one, name, colon};
 ghost use Rattle.parser_lexer.specs.Sorts.{sort_number};
+ghost use Rattle.parser_values.specs.Depths.{Deeper};
 ghost use Rattle.parser_values.specs.Reads.{FlatRead, OptionalRead};
 
 use parser_lexer::Cursor;
 use parser_lexer::sorts::{FIRST_NAME, Sort};
 
 pub mod arguments;
+pub mod depth;
 pub mod description;
 pub mod directives;
 pub mod error;
@@ -18,7 +20,29 @@ pub mod parentheses;
 pub mod types;
 pub mod values;
 
+pub use depth::Depth;
 pub use error::SyntaxError;
+
+impl Depth {
+    // All of them.
+    pub fn full() -> Depth
+        ensures { result.levels ≡ 32 }
+    {
+        Depth { levels: 32 }
+    }
+
+    // What is left within one more, where there is one.
+    pub fn deeper(self) -> Option<Depth>
+        ensures { Deeper self result }
+    {
+        if self.levels == 0 {
+            return None;
+        }
+        Some(Depth {
+            levels: self.levels - 1,
+        })
+    }
+}
 
 // A token whose sort lies in a range; any other is refused.
 pub fn take(c: Cursor, lo: Sort, hi: Sort) -> Result<Cursor, SyntaxError>

@@ -1,18 +1,16 @@
 // Values: 2.9 of the specification, constant.
-ghost use Rattle.std.specs.Prelude.{[], ◌∷◌, ◌≤◌, ◌-◌};
+ghost use Rattle.std.specs.Prelude.{[], ◌∷◌, ◌-◌};
 ghost use Rattle.definition.specs.Grammar.{part, Value, ObjectValue, Default?};
 ghost use Rattle.parser_values.specs.Reads.{MustRead, MayRead};
 
-use crate::{SyntaxError, name_and_colon, take};
+use crate::{Depth, SyntaxError, name_and_colon, take};
 use parser_lexer::Cursor;
 use parser_lexer::sorts::Sort;
 
-// Stays: that a depth is at most 32 is one clause of three functions; a type for it would be the same number behind the same clause, made at each level.
-// A value, with depth levels left: one token; a list, which is a level; or an object.
+// A value, with the levels of a depth left: one token; a list, which is a level; or an object.
 #[cycle(object_value_value)]
-pub fn value(c: Cursor, depth: usize) -> Result<Cursor, SyntaxError>
-    requires { depth ≤ 32 }
-    ensures { MustRead (part Value ∷ []) c.entry (32 - depth) result }
+pub fn value(c: Cursor, depth: Depth) -> Result<Cursor, SyntaxError>
+    ensures { MustRead (part Value ∷ []) c.entry (32 - depth.levels) result }
 {
     if c.sort == Sort::BraceOpens {
         return object_value(c, depth);
@@ -20,38 +18,37 @@ pub fn value(c: Cursor, depth: usize) -> Result<Cursor, SyntaxError>
     if c.sort != Sort::BracketOpens {
         return take(c, Sort::Int, Sort::Name);
     }
-    if depth == 0 {
+    let Some(inner) = depth.deeper() else {
         return Err(SyntaxError::NestedTooDeep(c.begins));
-    }
+    };
     let mut k = c.next();
     loop {
         if k.sort == Sort::BracketCloses {
             return Ok(k.next());
         }
-        let j = value(k, depth - 1)?;
+        let j = value(k, inner)?;
         k = j;
     }
 }
 
-// An object value, with depth levels left: fields in braces, which are a level.
+// An object value, with the levels of a depth left: fields in braces, which are a level.
 #[cycle(object_value_value)]
-pub fn object_value(c: Cursor, depth: usize) -> Result<Cursor, SyntaxError>
-    requires { depth ≤ 32 }
-    ensures { MustRead (part ObjectValue ∷ []) c.entry (32 - depth) result }
+pub fn object_value(c: Cursor, depth: Depth) -> Result<Cursor, SyntaxError>
+    ensures { MustRead (part ObjectValue ∷ []) c.entry (32 - depth.levels) result }
 {
     if c.sort != Sort::BraceOpens {
         return Err(SyntaxError::NotInGrammar(c.begins));
     }
-    if depth == 0 {
+    let Some(inner) = depth.deeper() else {
         return Err(SyntaxError::NestedTooDeep(c.begins));
-    }
+    };
     let mut k = c.next();
     loop {
         if k.sort == Sort::BraceCloses {
             return Ok(k.next());
         }
         let j = name_and_colon(k)?;
-        let e = value(j, depth - 1)?;
+        let e = value(j, inner)?;
         k = e;
     }
 }
@@ -64,5 +61,5 @@ pub fn default_value(c: Cursor) -> Result<Cursor, SyntaxError>
         return Ok(c);
     }
     let k = c.next();
-    value(k, 32)
+    value(k, Depth::full())
 }

@@ -17,6 +17,7 @@ impl Tally {
         }
     }
 
+    // Stays: the sign of AddAssign would not show that the sums stop at the largest number.
     pub fn add(&mut self, other: Tally) {
         self.calls = self.calls.saturating_add(other.calls);
         self.failures = self.failures.saturating_add(other.failures);

@@ -120,6 +120,7 @@ pub fn number_of(word: &[u8]) -> Option<usize>
     digits(word)
 }
 
+// Stays: std's parse takes a sign before the digits, wants a text, and lets numbers pass that are larger than MOST allows.
 fn digits(word: &[u8]) -> Option<usize>
     ensures { result ≡ digits_from 0 word.now }
 {

@@ -27,6 +27,7 @@ impl Store {
 }
 
 // How much of the store and of the rows is lent.
+// Stays: a Table owns the arrays and the lines change how much is lent; a slice would borrow from the Table that it stands in.
 #[derive(Clone, Copy)]
 pub struct Lent {
     pub text: usize,

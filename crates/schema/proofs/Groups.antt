@@ -2,7 +2,7 @@
 use mathlib.Core.Path.{◌≡◌, refl, sym, ◌∙◌, ap}
 use mathlib.Core.List.{List, [], ◌∷◌, ◌++◌, map}
 use mathlib.Core.Bool.{Bool, true, false, ◌&&◌, not}
-use Prim.Native.Nat.{ℕ, ◌+◌, ◌*◌, ◌/◌, ◌≤◌, ◌<◌, suc}
+use Prim.Native.Nat.{ℕ, ◌+◌, ◌*◌, ◌/◌, ◌≤◌, ◌<◌, zero, suc}
 use native.Mathlib.Omega.{arith}
 use borrow.Author.Tests.{eqb-true, eqb-false}
 use lib.Dec.{eqb}
@@ -17,6 +17,8 @@ use Rattle.store_reader.proofs.Words.{name_stored}
 use Rattle.schema_rows.specs.Rows.{row_at, found_from}
 use Rattle.std.specs.Prelude.{Option as Place, Some, None}
 use Rattle.std.specs.Option.{option_eq}
+use Rattle.std.specs.List.{filter as kept, range_with_len}
+use Rattle.std.specs.Prelude.{cond}
 use Rattle.schema_rows.proofs.Rows.{row_next, row_end, never_row, contradiction}
 use Rattle.schema.specs.Owners.{named}
 use Rattle.schema.specs.Groups.{implementers_named, pair_group}
@@ -98,13 +100,24 @@ module _ (p : Row → Bool) (pairs : List ℕ) (i : ℕ) where
   pub filter_over : i < length pairs / 3 → p (row_at pairs i) ≡ false → filter p (drop i (lent_rows pairs)) ≡ filter p (drop (i + 1) (lent_rows pairs))
   filter_over h e = ap (filter p) (row_next pairs i h) ∙ filter_no p (row_at pairs i) (drop (i + 1) (lent_rows pairs)) e
 
-pub counted : (cs : List NamedCard) (k : ℕ) (n : List ℕ) (pairs : List ℕ) (m i : ℕ) → length pairs / 3 ≤ i →
-    length (filter (is_part_named cs k n) (lent_rows pairs)) ≡ m + length (filter (is_part_named cs k n) (drop i (lent_rows pairs))) →
+-- The same by the numbers of the rows.
+count_from : (p : Row → Bool) (pairs : List ℕ) (k i : ℕ) → i + k ≡ length pairs / 3 →
+    length (kept (λ j. p (row_at pairs j)) (range_with_len i k)) ≡ length (filter p (drop i (lent_rows pairs)))
+count_from p pairs zero i h = sym (ap length (filter_end p pairs i (omega arith)))
+count_from p pairs (suc k) i h = go (p (row_at pairs i)) refl (count_from p pairs k (i + 1) (omega arith))
+  where
+    go : (b : Bool) → p (row_at pairs i) ≡ b →
+        length (kept (λ j. p (row_at pairs j)) (range_with_len (i + 1) k)) ≡ length (filter p (drop (i + 1) (lent_rows pairs))) →
+        length (cond b (i ∷ kept (λ j. p (row_at pairs j)) (range_with_len (i + 1) k)) (kept (λ j. p (row_at pairs j)) (range_with_len (i + 1) k)))
+        ≡ length (filter p (drop i (lent_rows pairs)))
+    go true e ih = ap suc ih ∙ sym (ap length (filter_here p pairs i (omega arith) e))
+    go false e ih = ih ∙ sym (ap length (filter_over p pairs i (omega arith) e))
+
+pub counted : (cs : List NamedCard) (k : ℕ) (n : List ℕ) (pairs : List ℕ) (m : ℕ) →
+    m ≡ length (kept (λ j. is_part_named cs k n (row_at pairs j)) (range_with_len 0 (length pairs / 3))) →
     m ≡ length (filter (is_row_of k) (filter (is_row_named cs n) (lent_rows pairs)))
-counted cs k n pairs m i h e =
-    let a = ap length (filter_end (is_part_named cs k n) pairs i h) in
-    let b : m ≡ length (filter (is_part_named cs k n) (lent_rows pairs)) = omega arith in
-    b ∙ ap length (sym (filter_both cs k n (lent_rows pairs)))
+counted cs k n pairs m e =
+    e ∙ count_from (is_part_named cs k n) pairs (length pairs / 3) 0 (omega arith) ∙ ap length (sym (filter_both cs k n (lent_rows pairs)))
 
 -- ---- The types that list an interface.
 

@@ -20,7 +20,7 @@ use Rattle.schema_rows.specs.Rows.{row_at}
 use Rattle.std.specs.Prelude.{Option as Place}
 use Rattle.std.specs.Prelude.{Some, None}
 use Rattle.schema_rows.proofs.Rows.{length_rows, row_next, row_end, taken_next, contradiction}
-use Rattle.schema.specs.Owners.{named, first_type, owner_of, LastType, is_listed}
+use Rattle.schema.specs.Owners.{named, first_type, owner_of, LastType, LastSeen, owner_seen, is_listed}
 use Rattle.definition.proofs.Lists.{any_nil}
 use Rattle.schema_rows.proofs.Walk.{any_snoc}
 use Rattle.schema.specs.Gather.{gather, owner_row, under_owner, as_row, pair_words, pairs_left}
@@ -29,20 +29,9 @@ use Rattle.schema.proofs.SearchStops.{taken_length}
 
 -- ---- The start: no type row was seen.
 
-pub last_start : (rows : List ℕ) → LastType rows 0 0
-unfolding any
-last_start rows = record { before = omega arith; outside = λ e. refl; between = refl }
-
-pub pairs_start : (cs : List NamedCard) (rows : List ℕ) → pair_words (all_implementing cs (lent_rows rows)) ≡ pairs_left cs rows (owner_of cs rows 0 0) 0
+pub pairs_start : (cs : List NamedCard) (rows : List ℕ) → pair_words (all_implementing cs (lent_rows rows)) ≡ pairs_left cs rows None 0
 unfolding pairs_left
-pairs_start cs rows = ap pair_words (sym (gather_all cs (lent_rows rows))) ∙ ap (λ (owner : Place ℕ). pairs_left cs rows owner 0) (sym owner_start)
-  where
-    owner_start : owner_of cs rows 0 0 ≡ None
-    owner_start = unfold owner_of in go (is_type (get_or rows (3 * 0) 0))
-      where
-        go : (b : Bool) → choose (b && false) (first_type cs (lent_rows rows) (row_at rows 0) 0) None ≡ None
-        go true = refl
-        go false = refl
+pairs_start cs rows = ap pair_words (sym (gather_all cs (lent_rows rows)))
 
 pub pairs_end : (cs : List NamedCard) (rows : List ℕ) (owner : Place ℕ) (i : ℕ) → length rows / 3 ≤ i → pairs_left cs rows owner i ≡ []
 unfolding pairs_left pair_words flat_map
@@ -138,7 +127,7 @@ module _ (cs : List NamedCard) (rows : List ℕ) (i : ℕ) (h : i < length rows 
 
   -- A row under a type row, or before the first one.
   module _ (e : is_type (get_or rows (3 * i) 0) ≡ false) where
-    outside_at : pairs_left cs rows None i ≡ pairs_left cs rows None (i + 1)
+    pub outside_at : pairs_left cs rows None i ≡ pairs_left cs rows None (i + 1)
     unfolding pairs_left
     outside_at =
         here [] none
@@ -243,3 +232,17 @@ module _ (cs : List NamedCard) (rows : List ℕ) (i : ℕ) (h : i < length rows 
             (λ g. contradiction false refl (sym g))
             (λ l g. new_at t l (is_21 f) (not-true _ (sym g))) g
             ∙ ap (λ (owner : Place ℕ). get_or rows (3 * t) 0 ∷ (get_or rows (3 * i + 1) 0 ∷ (get_or rows (3 * t + 1) 0 ∷ pairs_left cs rows owner (i + 1)))) owner_stays
+
+-- ---- The same where a type row was seen, or none.
+
+module _ (cs : List NamedCard) (rows : List ℕ) (i : ℕ) (o : Place ℕ) where
+  pub left_outside : i < length rows / 3 → is_type (get_or rows (3 * i) 0) ≡ false → o ≡ None →
+      LastSeen rows o (i + 1) × (pairs_left cs rows (owner_seen cs rows o i) i ≡ pairs_left cs rows (owner_seen cs rows o (i + 1)) (i + 1))
+  left_outside h e n = rw n (tt, outside_at cs rows i h e)
+
+  module _ (t : ℕ) (s : o ≡ Some t) where
+    pub seen_type : LastSeen rows o i → LastType rows t i
+    seen_type l = rw s at l
+
+    pub seen_left : pairs_left cs rows (owner_seen cs rows o i) i ≡ pairs_left cs rows (owner_of cs rows t i) i
+    seen_left = rw s refl

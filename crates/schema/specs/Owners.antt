@@ -8,7 +8,7 @@ use Rattle.definition.specs.LentRows.{name_numbered, lent_rows, is_type_row, is_
 use Rattle.definition.specs.Lookups.{is_part_named}
 use Rattle.store_reader.specs.Stored.{stored_parts}
 use Rattle.schema_rows.specs.Rows.{row_at}
-use Rattle.std.specs.Prelude.{Option}
+use Rattle.std.specs.Prelude.{Option, IfSome}
 use Rattle.std.specs.Prelude.{Some, None}
 
 -- The name of a row's card.
@@ -35,6 +35,15 @@ pub record LastType (rows : List ℕ) (t i : ℕ) : Type 0 where
   pub before : t ≤ i
   pub outside : is_type (get_or rows (3 * t) 0) ≡ false → any is_type_row (take i (lent_rows rows)) ≡ false
   pub between : any is_type_row (drop (t + 1) (take i (lent_rows rows))) ≡ false
+
+-- The same where one was seen.
+abbrev pub LastSeen : List ℕ → Option ℕ → ℕ → Type 0
+LastSeen rows o i = IfSome o (λ t. LastType rows t i)
+
+-- The type row that was seen last, if it is the first of its name.
+abbrev pub owner_seen : List NamedCard → List ℕ → Option ℕ → ℕ → Option ℕ
+owner_seen cs rows (Some t) i = owner_of cs rows t i
+owner_seen cs rows None i = None
 
 -- Whether the interface at the row i counts.
 abbrev pub is_listed : List NamedCard → List ℕ → Option ℕ → ℕ → Bool

@@ -28,27 +28,31 @@ fn collect<'list>(schema: Schema, list: &'list mut [u32]) -> &'list [u32]
         words: list,
         len: 0,
     };
-    // The last type row; before the first one any row that is none, so that no interface counts.
-    let mut owner = 0;
+    // The last type row.
+    let mut owner = None;
     for i in 0..schema.row_count() {
         let row = schema.row(i);
         if kinds::is_type(row.what) {
-            owner = i;
+            owner = Some(i);
             continue;
         }
+        let Some(t) = owner else {
+            continue;
+        };
         if row.what != kinds::IMPLEMENTS_INTERFACE {
             continue;
         }
-        if !crate::first_interface::is_first_interface(schema, owner, i) {
+        if !crate::first_interface::is_first_interface(schema, t, i) {
             continue;
         }
-        let type_row = schema.row(owner);
+        let type_row = schema.row(t);
         pairs.extend_from_slice(&[type_row.what, row.card, type_row.card]);
     }
     pairs.into_slice()
 }
 
 // The pairs that were collected, read as rows.
+// Stays: as rows the pairs are searched by the functions of Schema; an array of a struct of their own would need each of these searches again.
 #[derive(Clone, Copy)]
 struct Pairs<'text, 'lent> {
     schema: Schema<'text, 'lent>,
@@ -78,13 +82,9 @@ impl Pairs<'_, '_> {
             ≡ kind_count self.entry.schema.text.now self.entry.schema.words.now self.entry.schema.rows.now name.now
             kind }
     {
-        let mut n = 0;
-        for i in 0..self.schema.row_count() {
-            if self.schema.is_part_named(self.schema.row(i), kind, name) {
-                n += 1;
-            }
-        }
-        n
+        (0..self.schema.row_count())
+            .filter(|&i| self.schema.is_part_named(self.schema.row(i), kind, name))
+            .count() as u32
     }
 
     // Adds the cards of the types that list the interface of a name.
@@ -134,6 +134,7 @@ impl Pairs<'_, '_> {
             words: list,
             len: 0,
         };
+        // Stays: the count of a filter beside this loop would ask for each pair twice whether it is the first.
         let mut count = 0;
         for i in 0..self.schema.row_count() {
             if self.is_first(i) {

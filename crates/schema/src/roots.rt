@@ -12,6 +12,7 @@ use ast::kinds;
 use definition::{ABSENT, FieldFound, OperationType};
 use schema_rows::{Row, Schema};
 
+// Stays: a method of OperationType would stand in the crate definition, and the kinds stand above it in ast.
 fn root_kind(op: OperationType) -> u32
     ensures { result ≡ root_kind op }
 {
@@ -23,6 +24,7 @@ fn root_kind(op: OperationType) -> u32
 }
 
 // The card that has a root's name: the root's own, or for a default root its object row's.
+// Stays: `-` is a card that is not stored, which has the empty name, and that is all both callers ask for; with None each would say so again.
 fn root_card(schema: Schema, root: Row) -> u32
     requires { is_root root.what ≡ true }
     ensures { result ≡ root_card (cards_of schema.entry) (rows_of schema.entry) (row_of root) }
@@ -66,9 +68,10 @@ fn is_query_root(schema: Schema, name: &[u8]) -> bool
 fn is_typename(what: u32, field: &[u8]) -> bool
     ensures { result ≡ is_typename what field.now }
 {
-    kinds::OBJECT_TYPE_DEFINITION <= what
-        && what <= kinds::UNION_TYPE_DEFINITION
-        && name::same(field, b"__typename")
+    matches!(
+        what,
+        kinds::OBJECT_TYPE_DEFINITION..=kinds::UNION_TYPE_DEFINITION
+    ) && name::same(field, b"__typename")
 }
 
 // A meta field of a type of the kind and the name.

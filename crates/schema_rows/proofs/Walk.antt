@@ -136,64 +136,55 @@ any_snoc p (y ∷ xs) x = go (p y) (p x) (any_snoc p xs x)
     go true false ih = refl
     go false b ih = ih
 
-module _ (marks : List ℕ) (seen : List Row) (m : Marked marks seen) (r : Row) (inside : (r.card ≡ absent → ⊥) → r.card < card_capacity) where
+module _ (marks : List Bool) (seen : List Row) (m : Marked marks seen) (r : Row) (inside : (r.card ≡ absent → ⊥) → r.card < card_capacity) where
   pub free_any : is_free marks r.card ≡ not (any (same_card r) seen)
   unfolding is_free
   free_any = go (eqb r.card absent) refl
     where
-      mark : (b : Bool) → eqb (choose b 1 0) 0 ≡ not b
-      mark true = refl
-      mark false = refl
-
-      go : (b : Bool) → eqb r.card absent ≡ b → (b || eqb (get_or marks r.card 0) 0) ≡ not (any (same_card r) seen)
+      go : (b : Bool) → eqb r.card absent ≡ b → (b || not (get_or marks r.card false)) ≡ not (any (same_card r) seen)
       go true e = rw (absent_none r (eqb-true r.card absent e) seen)
       go false e =
           let n : r.card ≡ absent → ⊥ = eqb-false r.card absent e in
-          rw (present_same r n seen, m.told r.card (inside n)) (mark (any (has_card r.card) seen))
+          rw (present_same r n seen, m.told r.card (inside n))
 
   has_is : (c : ℕ) (b : Bool) → eqb c r.card ≡ b → has_card c r ≡ b
   unfolding has_card
   has_is c b t = t
 
-  mark_of : Bool → ℕ
-  mark_of b = choose b 1 0
-
-  after : (c : ℕ) (b : Bool) → eqb c r.card ≡ b →
-      ◌≡◌ {A = ℕ} (choose (choose b true (any (has_card c) seen)) 1 0) (choose (any (has_card c) (seen ++ (r ∷ []))) 1 0)
-  unfolding mark_of
+  after : (c : ℕ) (b : Bool) → eqb c r.card ≡ b → choose b true (any (has_card c) seen) ≡ any (has_card c) (seen ++ (r ∷ []))
   after c b t =
-      ap (λ (b : Bool). mark_of (choose b true (any (has_card c) seen))) (sym (has_is c b t)) ∙ ap mark_of (sym (any_snoc (has_card c) seen r))
+      ap (λ (b : Bool). choose b true (any (has_card c) seen)) (sym (has_is c b t)) ∙ sym (any_snoc (has_card c) seen r)
 
   marked_at : (c : ℕ) → c < card_capacity → (r.card ≡ absent → ⊥) → (b : Bool) → eqb c r.card ≡ b →
-      get_or (set marks r.card 1) c 0 ≡ choose (any (has_card c) (seen ++ (r ∷ []))) 1 0
+      get_or (set marks r.card true) c false ≡ any (has_card c) (seen ++ (r ∷ []))
   marked_at c h n true t =
       let q : c ≡ r.card = eqb-true c r.card t in
       let l : r.card < length marks = (let s = m.size in omega arith) in
-      ap (λ (c : ℕ). get_or (set marks r.card 1) c 0) q ∙ get_or-set_same marks r.card 1 0 l ∙ after c true t
-  marked_at c h n false t = get_or-set_other marks r.card c 1 0 (eqb-false c r.card t) ∙ m.told c h ∙ after c false t
+      ap (λ (c : ℕ). get_or (set marks r.card true) c false) q ∙ get_or-set_same marks r.card true false l ∙ after c true t
+  marked_at c h n false t = get_or-set_other marks r.card c true false (eqb-false c r.card t) ∙ m.told c h ∙ after c false t
 
   pub marked_next : Marked (marked marks r.card) (seen ++ (r ∷ []))
   unfolding marked
   marked_next = go (eqb r.card absent) refl
     where
-      go : (b : Bool) → eqb r.card absent ≡ b → Marked (choose b marks (set marks r.card 1)) (seen ++ (r ∷ []))
+      go : (b : Bool) → eqb r.card absent ≡ b → Marked (choose b marks (set marks r.card true)) (seen ++ (r ∷ []))
       go true e = record {
         size = m.size;
         told = λ c h. m.told c h ∙ after c false (ne_eqb c r.card (let a = eqb-true r.card absent e in omega arith));
       }
       go false e = record {
-        size = length-set marks r.card 1 ∙ m.size;
+        size = length-set marks r.card true ∙ m.size;
         told = λ c h. marked_at c h (eqb-false r.card absent e) (eqb c r.card) refl;
       }
 
-pub marked_start : (marks : List ℕ) → marks ≡ replicate card_capacity 0 → Marked marks []
+pub marked_start : (marks : List Bool) → marks ≡ replicate card_capacity false → Marked marks []
 unfolding any
 marked_start marks e = record {
-  size = ap length e ∙ length-replicate {A = ℕ} card_capacity 0;
-  told = λ c h. ap (λ (l : List ℕ). get_or l c 0) e ∙ get_or-replicate {A = ℕ} card_capacity c 0 0 h;
+  size = ap length e ∙ length-replicate {A = Bool} card_capacity false;
+  told = λ c h. ap (λ (l : List Bool). get_or l c false) e ∙ get_or-replicate {A = Bool} card_capacity c false false h;
 }
 
-pub marked_same : (marks marks' : List ℕ) (seen : List Row) → marks' ≡ marks → Marked marks seen → Marked marks' seen
+pub marked_same : (marks marks' : List Bool) (seen : List Row) → marks' ≡ marks → Marked marks seen → Marked marks' seen
 marked_same marks marks' seen e m = rw e m
 
 -- ---- A turn.
@@ -327,7 +318,7 @@ module _ (text words rows : List ℕ) (k p i : ℕ) (h : i < length rows / 3) wh
       let f = cards_fit_lem text words ok in
       omega arith
 
-  module _ (marks : List ℕ) (m : Marked marks (take i (lent_rows rows))) (ok : sound text words ≡ true)
+  module _ (marks : List Bool) (m : Marked marks (take i (lent_rows rows))) (ok : sound text words ≡ true)
       (e : row_passes (stored_parts text words) (lent_rows rows) (row_at rows i) ≡ true) where
     pub walk_card : is_free marks (get_or rows (3 * i + 1) 0) ≡ false →
         rest_passes (stored_parts text words) (lent_rows rows) k p (take i (lent_rows rows)) (drop i (lent_rows rows)) ≡ false

@@ -5,4 +5,5 @@ pub mod Rows
 pub mod Search
 -- What refusal 26 asks of the order of rows, and of a row by itself.
 pub mod Order
+pub mod Places
 pub mod Passing

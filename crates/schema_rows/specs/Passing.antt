@@ -1,5 +1,5 @@
 -- What 26 asks of a row by itself, and the marks.
-use Rattle.std.specs.Prelude.{List, Bool, false, ◌||◌, ℕ, eqb, ltb, get_or, set}
+use Rattle.std.specs.Prelude.{List, Bool, true, false, ◌||◌, not, ℕ, eqb, ltb, get_or, set}
 use Rattle.definition.specs.Lists.{choose}
 use Rattle.definition.specs.Answers.{absent}
 use Rattle.definition.specs.Cards.{is_extension}
@@ -24,10 +24,10 @@ origin_fits words origin = eqb origin absent || is_extension (card_kind words or
 unfoldable pub row_passes : List NamedCard → List Row → Row → Bool
 row_passes cs rs r = choose (card_passes cs r) (choose (origin_passes cs r) (default_root_passes cs rs r) false) false
 
--- ---- Marks: one for each stored card, 1 where a row had it.
+-- ---- Marks: one for each stored card, whether a row had it.
 
-unfoldable pub is_free : List ℕ → ℕ → Bool
-is_free marks card = eqb card absent || eqb (get_or marks card 0) 0
+unfoldable pub is_free : List Bool → ℕ → Bool
+is_free marks card = eqb card absent || not (get_or marks card false)
 
-unfoldable pub marked : List ℕ → ℕ → List ℕ
-marked marks card = choose (eqb card absent) marks (set marks card 1)
+unfoldable pub marked : List Bool → ℕ → List Bool
+marked marks card = choose (eqb card absent) marks (set marks card true)

@@ -22,6 +22,6 @@ unfoldable pub has_card : ℕ → Row → Bool
 has_card c r = eqb c r.card
 
 -- The marks after the rows seen.
-pub record Marked (marks : List ℕ) (seen : List Row) : Type 0 where
+pub record Marked (marks : List Bool) (seen : List Row) : Type 0 where
   pub size : length marks ≡ card_capacity
-  pub told : (c : ℕ) → c < card_capacity → get_or marks c 0 ≡ choose (any (has_card c) seen) 1 0
+  pub told : (c : ℕ) → c < card_capacity → get_or marks c false ≡ any (has_card c) seen

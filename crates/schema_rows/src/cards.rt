@@ -1,5 +1,5 @@
 // Refusal 26, the tests of a lent row by itself, and the marks that tell a card which stands in two rows.
-ghost use Rattle.std.specs.Prelude.{◌≡◌, true, ◌<◌, length, replicate};
+ghost use Rattle.std.specs.Prelude.{◌≡◌, true, false, ◌<◌, length, replicate};
 ghost use Rattle.definition.specs.Answers.{absent};
 ghost use Rattle.definition.specs.Refusals.{card_capacity};
 ghost use Rattle.definition.specs.LentRows.{is_default_root, wanted_kind, default_root_passes};
@@ -58,15 +58,15 @@ impl Schema<'_, '_> {
 // One mark for each stored card: whether a row had it.
 #[derive(Drop)]
 pub struct Marks {
-    pub marks: [u8; CARD_CAPACITY],
+    pub marks: [bool; CARD_CAPACITY],
 }
 
 impl Marks {
     pub(crate) fn new() -> Marks
-        ensures { result.marks ≡ replicate card_capacity 0 }
+        ensures { result.marks ≡ replicate card_capacity false }
     {
         Marks {
-            marks: [0; CARD_CAPACITY],
+            marks: [false; CARD_CAPACITY],
         }
     }
 
@@ -80,10 +80,10 @@ impl Marks {
         if card == ABSENT {
             return true;
         }
-        if self.marks[card as usize] != 0 {
+        if self.marks[card as usize] {
             return false;
         }
-        self.marks[card as usize] = 1;
+        self.marks[card as usize] = true;
         true
     }
 }

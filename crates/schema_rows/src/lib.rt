@@ -1,10 +1,12 @@
 // A store with the rows that are lent to its lookups, and refusal 26: what it asks of a row by itself, and one walk over the rows.
 #![tactic(auto)]
 
-ghost use Rattle.std.specs.Prelude.{◌≡◌, true, ◌/◌, ◌<◌, length};
+ghost use Rattle.std.specs.Prelude.{◌≡◌, true, false, ◌/◌, ◌<◌, length, MatchOption};
 ghost use Rattle.definition.specs.Store.{account_in, sound};
 ghost use Rattle.definition.specs.LentRows.{rows_refusal};
+ghost use Rattle.schema_rows.specs.Order.{fits, kind_after, place_after};
 ghost use Rattle.schema_rows.specs.Passing.{card_fits, row_passes};
+ghost use Rattle.schema_rows.specs.Places.{kind_of, place_of};
 ghost use Rattle.schema_rows.specs.Rows.{row_of, row_at, cards_of, rows_of};
 ghost use Rattle.definition.specs.Numbers.{told_number};
 
@@ -20,6 +22,7 @@ pub mod order;
 pub mod search;
 
 // One row: its kind, its card and its origin.
+// Stays: the three are words of rows that C lends, and are compared with words of cards; ABSENT stands in both for none.
 #[derive(Clone, Copy)]
 pub struct Row {
     pub what: u32,
@@ -42,6 +45,7 @@ impl Schema<'_, '_> {
         self.rows.len() / ROW_WORDS
     }
 
+    // Stays: a type for the numbers of rows would have to name the rows that they count; the searches below hand out numbers with this bound.
     pub fn row(self, i: usize) -> Row
         requires { i < length self.rows.now / 3 }
         ensures { row_of result ≡ row_at self.entry.rows.now i }
@@ -83,10 +87,11 @@ impl Schema<'_, '_> {
             return Err(Refusal::RowsUnsound);
         }
         let mut marks = Marks::new();
-        let mut place = RowPlace::start();
+        // Where the next row stands; None before the first row.
+        let mut place = None;
         for i in 0..self.row_count() {
             let row = self.row(i);
-            let Some(next) = place.after(row.what) else {
+            let Some(next) = next_place(place, row.what) else {
                 return Err(Refusal::RowsUnsound);
             };
             if !self.row_passes(row) {
@@ -95,11 +100,24 @@ impl Schema<'_, '_> {
             if !marks.take(row.card) {
                 return Err(Refusal::RowsUnsound);
             }
-            place = next;
+            place = Some(next);
         }
-        if place.kind == 0 {
+        if place.is_none() {
             return Err(Refusal::RowsUnsound);
         }
         Ok(())
+    }
+}
+
+// Where the row after one of a kind stands, if that row may come next.
+fn next_place(place: Option<RowPlace>, what: u32) -> Option<RowPlace>
+    ensures { MatchOption result (fits (kind_of place) (place_of place) what ≡ false)
+        (λ next. (fits (kind_of place) (place_of place) what ≡ true)
+        × (next.kind ≡ kind_after (kind_of place) what)
+        × (next.place ≡ place_after (kind_of place) what)) }
+{
+    match place {
+        Some(place) => place.after(what),
+        None => RowPlace::first(what),
     }
 }

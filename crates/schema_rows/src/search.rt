@@ -69,6 +69,7 @@ impl Schema<'_, '_> {
     }
 
     // The first type row of the name that a default root of the kind has (specification, 3.3.1).
+    // Stays: both callers have the kind as a word of a row and know it for a root's; OperationType would be made of it here and there.
     pub fn find_default_root(self, what: u32) -> Option<usize>
         requires { is_root what ≡ true }
         ensures found { result ≡ type_found self.entry (default_name what) }

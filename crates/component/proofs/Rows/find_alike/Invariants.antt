@@ -1,7 +1,7 @@
 use Prim.Native.Nat.{◌-◌}
 use mathlib.Core.Path.{◌≡◌}
 use Rattle.component.specs.Pushed.{place_of, alike_rows, rows_from, row_of}
-use Rattle.component.specs.RowsByCards.{same_stored}
+use Rattle.from_ast_index.specs.Index.{same_stored}
 use Rattle.component.proofs.Rows.find_alike.Given as goal
 
 abbrev pub invariant-loop-place : goal.invariant-loop-place

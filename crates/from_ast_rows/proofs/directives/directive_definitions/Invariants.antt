@@ -1,7 +1,8 @@
 use mathlib.Core.Path.{◌≡◌}
 use lib.ListN.{drop}
 use Rattle.component.specs.Pushed.{filled_of, pushed}
-use Rattle.component.specs.RowsByCards.{same_stored, directive_rows_of, directive_rows_at}
+use Rattle.from_ast_index.specs.Index.{same_stored}
+use Rattle.component.specs.RowsByCards.{directive_rows_of, directive_rows_at}
 use Rattle.component.proofs.Sticky.{Extending}
 use Rattle.from_ast_rows.proofs.directives.directive_definitions.Given as goal
 

@@ -10,8 +10,8 @@ use Rattle.from_ast_rows.proofs.extensions.list_matching.Given as goal
 -- Those listed so far, and then those that match of the extensions from `extension` on, are all that match.
 abbrev pub invariant-loop-extension : goal.invariant-loop-extension
 invariant-loop-extension l = record {
-  inside : l.mine.len ≤ l.extension-index;
-  same_length : length l.mine.words.now ≡ length l.initial.mine.words.now;
-  left : listed_in l.mine ++ filter (is_matching l.collection.text.now l.collection.words.now (l.definition + 7) l.card) (drop l.extension-index l.extensions)
+  inside : l.list.len ≤ l.extension-index;
+  room : length l.extensions ≤ length l.list.words.now;
+  left : listed_in l.list ++ filter (is_matching l.collection.text.now l.collection.words.now (l.definition + 7) l.card) (drop l.extension-index l.extensions)
       ≡ filter (is_matching l.collection.text.now l.collection.words.now (l.definition + 7) l.card) l.extensions;
 }

@@ -12,13 +12,13 @@ push_type-requires-clause-stored c =
 pub push_type-requires-clause-few : goal.push_type-requires-clause-few
 push_type-requires-clause-few c =
     let i = c.args.index.now in
-    omega (arith, c.loop-card.invariant.1, own_most i.listed i.spanned c.loop-card.card-index (omega arith) _ c.own_extensions.ensures)
+    omega (arith, own_most i.listed i.spanned c.loop-card.card-index (omega arith) _ c.own_extensions.ensures)
 
 pub push_type-requires-clause-room : goal.push_type-requires-clause-room
 push_type-requires-clause-room c =
     let i = c.args.index.now in
     own_capacity i.listed i.spanned c.loop-card.card-index (omega arith) _ c.own_extensions.ensures _ _
-    (pushes_fits _ _ _ _ _ c.loop-card.invariant.0 (omega arith))
+    (pushes_fits _ _ _ _ _ c.loop-card.invariant (omega arith))
 
 pub loop-card-preserved : goal.loop-card-preserved
 loop-card-preserved c =
@@ -26,4 +26,4 @@ loop-card-preserved c =
     let turn = c.loop-card.invariant in
     let r = c.push_type.ensures in
     let own = own_pushed i.listed i.spanned c.loop-card.card-index (omega arith) _ c.own_extensions.ensures _ in
-    (pushes_next _ _ _ _ _ turn.0 (omega arith) _ (record { same_slice = r.rows.same_slice; rows_are = r.rows.rows_are ∙ own }), r.mine ∙ turn.1)
+    pushes_next _ _ _ _ _ turn (omega arith) _ (record { same_slice = r.same_slice; rows_are = r.rows_are ∙ own })

@@ -1,5 +1,3 @@
-use mathlib.Core.Path.{◌≡◌}
-use lib.ListN.{length}
 use Rattle.component.specs.RowsByCards.{type_rows_at}
 use Rattle.component.proofs.Loops.{Pushes}
 use Rattle.from_ast_rows.proofs.types.push_defined_types.Given as goal
@@ -8,4 +6,3 @@ use Rattle.from_ast_rows.proofs.types.push_defined_types.Given as goal
 abbrev pub invariant-loop-card : goal.invariant-loop-card
 invariant-loop-card l =
     Pushes (type_rows_at l.index.collection.text.now l.index.collection.words.now l.index.extensions.now) l.index.types.now l.initial.rows l.rows l.card-index
-    × (length l.mine.words.now ≡ length l.initial.mine.words.now)

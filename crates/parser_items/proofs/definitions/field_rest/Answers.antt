@@ -34,7 +34,7 @@ returns-in_err-j c =
 
 pub returns-in_err-i : goal.returns-in_err-i
 returns-in_err-i c =
-    rw (handed _ _ c.from_residual-in_err-i.ensures) (fails _ (at_type c.in_ok-k.ensures c.in_ok-j.ensures) (may c.in_err-i.ensures))
+    rw (handed _ _ c.from_residual-in_err-i.ensures) (fails _ (at_type c.in_ok-k.ensures c.in_ok-j.ensures) (may (rw c.full.ensures at c.in_err-i.ensures)))
 
 pub returns : goal.returns
-returns c = let i = at-directives c.in_ok-k.ensures c.in_ok-j.ensures c.in_ok-i.ensures in ends i (may_in i.1 c.directives.ensures)
+returns c = let i = at-directives c.in_ok-k.ensures c.in_ok-j.ensures (rw c.full.ensures at c.in_ok-i.ensures) in ends i (may_in i.1 c.directives.ensures)

@@ -11,15 +11,15 @@ returns-in_err-k c =
 
 pub returns-in_err-j : goal.returns-in_err-j
 returns-in_err-j c =
-    let f = joined (flat 0 (omega arith) c.in_ok-k.ensures) c.in_err-j.ensures in
+    let f = joined (flat 0 (omega arith) c.in_ok-k.ensures) (rw c.full.ensures at c.in_err-j.ensures) in
     rw (handed _ _ c.from_residual-in_err-j.ensures) (stops (part Default? ∷ part Directive* ∷ []) f)
 
 pub returns-in_err-e : goal.returns-in_err-e
 returns-in_err-e c =
-    let f = joined (flat 0 (omega arith) c.in_ok-k.ensures) c.in_ok-j.ensures in
+    let f = joined (flat 0 (omega arith) c.in_ok-k.ensures) (rw c.full.ensures at c.in_ok-j.ensures) in
     rw (handed _ _ c.from_residual-in_err-e.ensures) (stops (part Directive* ∷ []) (joined_may f c.in_err-e.ensures))
 
 pub returns : goal.returns
 returns c =
-    let f = joined (flat 0 (omega arith) c.in_ok-k.ensures) c.in_ok-j.ensures in
+    let f = joined (flat 0 (omega arith) c.in_ok-k.ensures) (rw c.full.ensures at c.in_ok-j.ensures) in
     joined_may (joined_may f c.in_ok-e.ensures) c.directives.ensures

@@ -8,4 +8,4 @@ pub returns-then-ne : goal.returns-then-ne
 returns-then-ne c = no_default (differs c.args.c.sort c.ne.ensures c.if-ne.true) refl
 
 pub returns : goal.returns
-returns c = a_default (differs_not c.args.c.sort c.ne.ensures c.if-ne.false) refl c.next-k.ensures (may c.value.ensures)
+returns c = a_default (differs_not c.args.c.sort c.ne.ensures c.if-ne.false) refl c.next-k.ensures (may (rw c.full.ensures at c.value.ensures))

@@ -1,13 +1,11 @@
 use mathlib.Core.Path.{◌∙◌, sym, ap}
-use mathlib.Core.Bool.{not}
-use Prim.Native.Nat.{ℕ}
 use native.Mathlib.Omega.{arith}
-use borrow.Author.Tests.{ne_eqb}
-use lib.Dec.{eqb}
 use Rattle.definition.specs.Catalogue.{Row}
 use Rattle.schema_rows.specs.Order.{fits, kind_after, place_after}
 use Rattle.schema_rows.specs.Passing.{row_passes, is_free, marked}
+use Rattle.schema_rows.specs.Places.{kind_of, place_of}
 use Rattle.schema_rows.specs.Rows.{cards_of, rows_of}
+use Rattle.schema_rows.proofs.OrderLaws.{place_standing, place_any}
 use Rattle.schema_rows.proofs.Walk.{walk_number, not_whole, whole, marked_start, marked_same, walk_order, walk_row, walk_card, card_inside}
 use Rattle.schema_rows.proofs.Walk.{walk_marks, walk_next, walk_end}
 use Rattle.schema_rows.proofs.Schema.check_rows.Goals as goal
@@ -18,13 +16,13 @@ returns-then-self-ne0 c = not_whole _ _ _ c.requires c.if-self-ne0.true
 pub loop-i-init : goal.loop-i-init
 loop-i-init c = (
   marked_start _ c.new-marks.ensures,
-  rw (c.start-place.ensures.0, c.start-place.ensures.1) (whole _ _ _ c.requires c.if-self-ne0.false),
+  whole _ _ _ c.requires c.if-self-ne0.false,
 )
 
 pub returns-in_default : goal.returns-in_default
 returns-in_default c =
-    let k = c.loop-i.place.kind in
-    let p = c.loop-i.place.place in
+    let k = kind_of c.loop-i.place in
+    let p = place_of c.loop-i.place in
     let e = sym (ap (λ (r : Row). fits k p r.what) c.row-row.ensures) ∙ c.in_default.ensures in
     sym (c.loop-i.invariant.1 ∙ ap walk_number (walk_order _ _ _ _ _ _ (omega arith) e))
 
@@ -47,8 +45,8 @@ returns-then-not-take c =
 
 pub loop-i-preserved : goal.loop-i-preserved
 loop-i-preserved c =
-    let k = c.loop-i.place.kind in
-    let p = c.loop-i.place.place in
+    let k = kind_of c.loop-i.place in
+    let p = place_of c.loop-i.place in
     let marks = c.loop-i.marks.marks in
     let same = c.row-row.ensures in
     let e = sym (ap (row_passes (cards_of c.args.self) (rows_of c.args.self)) same) ∙ sym c.row_passes.ensures ∙ c.if-not-row_passes.false in
@@ -59,14 +57,14 @@ loop-i-preserved c =
       marked_same _ _ _ (c.take.ensures.1 g ∙ ap (λ (r : Row). marked marks r.card) same)
           (walk_marks _ _ _ k p _ (omega arith) _ c.loop-i.invariant.0 c.requires e free),
       c.loop-i.invariant.1
-          ∙ ap walk_number (walk_next _ _ _ k p _ (omega arith) _ c.loop-i.invariant.0 c.requires e free c.loop-i.place.standing fit _ _
+          ∙ ap walk_number (walk_next _ _ _ k p _ (omega arith) _ c.loop-i.invariant.0 c.requires e free (place_standing c.loop-i.place) fit _ _
           (next.1 ∙ ap (λ (r : Row). kind_after k r.what) same)
           (next.2 ∙ ap (λ (r : Row). place_after k r.what) same)),
     )
 
-pub returns-then-place-eq0 : goal.returns-then-place-eq0
-returns-then-place-eq0 c =
-    sym (c.loop-i.invariant.1 ∙ ap walk_number (walk_end _ _ _ _ _ (omega arith) ∙ ap (λ (k : ℕ). not (eqb k 0)) c.if-place-eq0.true))
+pub returns-then-is_none : goal.returns-then-is_none
+returns-then-is_none c =
+    sym (c.loop-i.invariant.1 ∙ ap walk_number (walk_end _ _ _ _ _ (omega arith) ∙ place_any c.loop-i.place ∙ c.if-is_none.ensures))
 
 pub returns : goal.returns
-returns c = sym (c.loop-i.invariant.1 ∙ ap walk_number (walk_end _ _ _ _ _ (omega arith) ∙ ap not (ne_eqb _ 0 c.if-place-eq0.false)))
+returns c = sym (c.loop-i.invariant.1 ∙ ap walk_number (walk_end _ _ _ _ _ (omega arith) ∙ place_any c.loop-i.place ∙ c.if-is_none.ensures))

@@ -1,6 +1,5 @@
 -- A card that comes to the first ones.
-use mathlib.Core.Path.{refl, sym}
-use native.Mathlib.Omega.{arith}
+use mathlib.Core.Path.{refl}
 use Rattle.from_ast_index.proofs.Search.{hash_at}
 use Rattle.from_ast_indexing.proofs.EntrySearch.{firsts_new}
 use Rattle.from_ast_indexing.proofs.entry.FirstCards.enter.Goals as goal

@@ -1,46 +1,58 @@
-use native.Mathlib.Omega.{arith}
-use Prim.Native.Nat.{◌-◌}
-use lib.ListN.{take, drop, get_or}
 use mathlib.Core.Path.{◌≡◌, sym, ap₂, ◌∙◌}
 use mathlib.Core.Bool.{false}
+use Rattle.std.proofs.Common.{⊎_elim}
+use Prim.Native.Nat.{◌-◌}
+use lib.ListN.{length, take, drop}
 use Rattle.definition.specs.Names.{same_name}
 use Rattle.from_ast_index.specs.Index.{same_cards}
 use Rattle.from_ast_index.proofs.Search.{hash_at}
-use Rattle.from_ast_indexing.proofs.EntrySearch.{hashes_of_part, part_has, search_hit, search_miss, search_differ}
+use Rattle.from_ast_indexing.proofs.EntrySearch.{hashes_of_part, part_has, first_hit, first_miss, first_differs, others_beside, none_left, none_beside}
 use Rattle.from_ast_indexing.proofs.entry.FirstCards.find_from.Goals as goal
-use Rattle.from_ast_indexing.proofs.entry.FirstCards.find_from.Goals.{else-hashes-i-via-then-hashes-i+else-same, else-hashes-i-via-else-hashes-i}
+use Rattle.from_ast_indexing.proofs.entry.FirstCards.find_from.Goals.{else-other_hash-hash-via-then-other_hash-hash+else-same, else-other_hash-hash-via-else-other_hash-hash}
 
-pub loop-i-init : goal.loop-i-init
-loop-i-init c =
+pub loop-other-init : goal.loop-other-init
+loop-other-init c =
     let t = c.args.collection.now in
+    let f = c.args.self.now in
+    let cards_left : c.into_iter-other-iterator.result.a.rest.now ≡ take (f.len - c.args.from) (drop c.args.from f.cards.now) =
+    rw (c.into_iter-other-iterator.ensures.into_iter_gives, c.zip-other-items.ensures.first) c.iter.ensures.rest in
+    let hashes_left : c.into_iter-other-iterator.result.b.rest.now ≡ take (f.len - c.args.from) (drop c.args.from f.hashes.now) =
+    rw c.into_iter-other-iterator.ensures.into_iter_gives c.zip-other-items.ensures.second.0 in
     record {
-      left = part_has t.text.now t.words.now c.args.self.now c.requires.firsts c.args.from c.requires.most c.args.card _
-          (hash_at _ _ _ t.hashed c.args.card c.requires.stored) c.requires.passed;
-      beside = hashes_of_part t.text.now t.words.now c.args.self.now c.requires.firsts c.args.from c.requires.most;
+      left = rw cards_left (part_has t.text.now t.words.now f c.requires.firsts c.args.from c.requires.most c.args.card _
+          (hash_at _ _ _ t.hashed c.args.card c.requires.stored) c.requires.passed);
+      beside = rw (cards_left, hashes_left) (hashes_of_part t.text.now t.words.now f c.requires.firsts c.args.from c.requires.most);
     }
 
 pub returns-then-same : goal.returns-then-same
 unfolding same_cards
 returns-then-same c =
     let t = c.args.collection.now in
-    let part = take (c.args.self.now.len - c.args.from) (drop c.args.from c.args.self.now.cards.now) in
-    let same = sym (ap₂ same_name c.name.ensures c.name-then-hashes-i.ensures) ∙ sym c.same.ensures ∙ c.if-same.true in
-    sym (c.loop-i.invariant.left ∙ search_hit t.text.now t.words.now part c.args.card c.loop-i.i (omega arith) same)
+    let same = sym (ap₂ same_name c.name.ensures c.name-then-other_hash-hash.ensures) ∙ sym c.same.ensures ∙ c.if-same.true in
+    sym (c.loop-other.invariant.left ∙ first_hit t.text.now t.words.now c.args.card _ _ _ c.in-Some.ensures.steps.0 same)
 
-pub loop-i-preserved : goal.loop-i-preserved
+pub loop-other-preserved : goal.loop-other-preserved
 unfolding same_cards
-loop-i-preserved c =
+loop-other-preserved c =
     let t = c.args.collection.now in
-    let part = take (c.args.self.now.len - c.args.from) (drop c.args.from c.args.self.now.cards.now) in
-    let other : same_cards t.text.now t.words.now c.args.card (get_or part c.loop-i.i 0) ≡ false =
-    elim c.else-hashes-i.branch [
-      | else-hashes-i-via-then-hashes-i+else-same w ↦
-          sym (ap₂ same_name w.name.ensures w.name-then-hashes-i.ensures) ∙ sym w.same.ensures ∙ w.if-same.false
-      | else-hashes-i-via-else-hashes-i w ↦
-          search_differ t.text.now t.words.now part _ c.args.card _ c.loop-i.invariant.beside
-          (hash_at _ _ _ t.hashed c.args.card c.requires.stored) c.loop-i.i (omega arith) w.if-hashes-i.false
+    let steps = c.in-Some.ensures.steps in
+    let beside = c.loop-other.invariant.beside in
+    let other : same_cards t.text.now t.words.now c.args.card c.in-Some.other.now ≡ false =
+    elim c.else-other_hash-hash.branch [
+      | else-other_hash-hash-via-then-other_hash-hash+else-same w ↦
+          sym (ap₂ same_name w.name.ensures w.name-then-other_hash-hash.ensures) ∙ sym w.same.ensures ∙ w.if-same.false
+      | else-other_hash-hash-via-else-other_hash-hash w ↦
+          first_differs t.text.now t.words.now c.args.card _ _ _ steps.0 _ _ _ beside steps.1 _ (hash_at _ _ _ t.hashed c.args.card c.requires.stored)
+          w.if-other_hash-hash.false
     ] in
     record {
-      left = c.loop-i.invariant.left ∙ search_miss t.text.now t.words.now part c.args.card c.loop-i.i (omega arith) other;
-      beside = c.loop-i.invariant.beside;
+      left = c.loop-other.invariant.left ∙ first_miss t.text.now t.words.now c.args.card _ _ _ steps.0 other;
+      beside = others_beside t.text.now t.words.now c.args.card _ _ _ steps.0 _ _ _ beside steps.1;
     }
+
+pub returns : goal.returns
+returns c =
+    let t = c.args.collection.now in
+    let none : length c.loop-other.other-iterator.a.rest.now ≡ 0 =
+    ⊎_elim (λ w. w.1.0) (λ w. none_beside t.text.now t.words.now _ _ c.loop-other.invariant.beside w.1.0) c.in-None.ensures.steps in
+    sym (c.loop-other.invariant.left ∙ none_left t.text.now t.words.now c.args.card _ none)

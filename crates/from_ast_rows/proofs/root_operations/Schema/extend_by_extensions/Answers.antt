@@ -4,7 +4,7 @@ use mathlib.Core.List.{List}
 use Prim.Native.Nat.{ℕ}
 use Rattle.definition.specs.Catalogue.{Row}
 use Rattle.component.specs.Pushed.{Filled, filled_of, extend_sticky}
-use Rattle.component.specs.RowsByCards.{same_stored}
+use Rattle.from_ast_index.specs.Index.{same_stored}
 use Rattle.component.proofs.Loops.{extends_fits, extends_next, extends_past}
 use Rattle.component.proofs.Turns.{extended_nothing}
 use Rattle.from_ast_rows.proofs.SchemaTurns.{schema_extension_not, schema_extension_is}

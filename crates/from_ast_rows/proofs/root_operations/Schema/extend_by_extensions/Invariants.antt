@@ -1,4 +1,5 @@
-use Rattle.component.specs.RowsByCards.{same_stored, schema_extension_at}
+use Rattle.from_ast_index.specs.Index.{same_stored}
+use Rattle.component.specs.RowsByCards.{schema_extension_at}
 use Rattle.component.proofs.Loops.{Extends}
 use Rattle.from_ast_rows.proofs.root_operations.Schema.extend_by_extensions.Given as goal
 

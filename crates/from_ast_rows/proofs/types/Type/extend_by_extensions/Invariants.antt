@@ -1,4 +1,5 @@
-use Rattle.component.specs.RowsByCards.{same_stored, extension_rows_at}
+use Rattle.from_ast_index.specs.Index.{same_stored}
+use Rattle.component.specs.RowsByCards.{extension_rows_at}
 use Rattle.component.proofs.Loops.{Extends}
 use Rattle.from_ast_rows.proofs.types.Type.extend_by_extensions.Given as goal
 
