@@ -68,7 +68,8 @@ fn rest(c: Cursor, d: ItemDefinition) -> Result<Cursor, SyntaxError>
     }
 }
 
-// A definition: a description or none, a name, and the rest.
+// A definition: a description or none, a name, and the rest. Compiled into each of its three callers: cursors are large to hand over.
+#[inline(always)]
 pub fn definition<'a>(
     c: Cursor<'a>,
     cards: &mut Cards,
