@@ -21,6 +21,7 @@ use Rattle.definition.proofs.StoreLayout.{written_at}
 use Rattle.definition.proofs.BuiltWords.{words_length}
 use Rattle.store_reader.specs.Stored.{stored_headings}
 use Rattle.store_reader.proofs.Laws.{headings_stored}
+use Rattle.from_ast_index.specs.declared.Collection.{Collection}
 use Rattle.from_ast_errors.specs.declared.ErrorCounts.{ErrorCounts}
 use Rattle.from_ast_errors.specs.Written.{all_errors, ErrorsWritten}
 use Rattle.from_ast_errors.proofs.Fits.{rows_fit_lem, errors_fit_lem}
@@ -48,6 +49,15 @@ module _ (text words : List ℕ) (ok : sound text words ≡ true) where
 
   pub errors_capacity_lem : (a : Bool) (out : List ℕ) → errors_capacity ≤ length out → 3 * length (all_errors a (stored_headings text words)) ≤ length out
   errors_capacity_lem a out l = let f = errors_fit_lem text words ok a in omega arith
+
+-- What was written of a collection was written of one that equals it.
+module _ {k l : Collection} (same : k ≡ l) (a : Bool) where
+  pub rows_alike : (before after : List ℕ) → after ≡ written before 0 (flat_map words_of_row (rows a (stored_headings k.text.now k.words.now))) →
+      after ≡ written before 0 (flat_map words_of_row (rows a (stored_headings l.text.now l.words.now)))
+  rows_alike before after e = e ∙ ap (λ (c : Collection). written before 0 (flat_map words_of_row (rows a (stored_headings c.text.now c.words.now)))) same
+
+  pub count_alike : {n : ℕ} → n ≡ length (rows a (stored_headings k.text.now k.words.now)) → n ≡ length (rows a (stored_headings l.text.now l.words.now))
+  count_alike e = e ∙ ap (λ (c : Collection). length (rows a (stored_headings c.text.now c.words.now))) same
 
 -- The rows that were written stand at the front.
 pub rows_stand : (xs : List ℕ) (rs : List Row) (n : ℕ) (out : List ℕ) → n ≡ length rs → out ≡ written xs 0 (flat_map words_of_row rs) →

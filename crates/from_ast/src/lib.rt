@@ -9,6 +9,7 @@ use definition::layout::CARD_CAPACITY;
 use definition::{ABSENT, Drawn, layout};
 use from_ast_index::Index;
 use from_ast_indexing::Arrays;
+use from_ast_rows::Lists;
 
 // Most stores are small, and to make arrays for all cards that a store can hold takes longer than to build those. There are more buckets than cards, so
 // that few names share one.
@@ -31,7 +32,7 @@ fn build_indexed(index: &Index, scratch: &mut [u32], rows: &mut [u32], errors: &
         rows.new errors.new }
 {
     let adopt = index.collection.words[layout::ADOPT_SWITCH] == 1;
-    let used = from_ast_rows::write_rows(index, adopt, scratch, rows);
+    let used = from_ast_rows::write_rows(&Lists::new(index), adopt, scratch, rows);
     let drawn = &rows[..layout::ROW_WORDS * used];
     let told = from_ast_errors::write_errors(index, adopt, drawn, scratch, errors);
     Drawn {

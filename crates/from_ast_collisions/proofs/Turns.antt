@@ -2,13 +2,13 @@
 use mathlib.Core.Path.{◌≡◌, refl, sym, ◌∙◌, ap}
 use mathlib.Core.List.{List, [], ◌∷◌, ◌++◌}
 use mathlib.Core.Bool.{Bool, true, false, ◌&&◌}
-use Prim.Native.Nat.{ℕ, zero, suc, ◌+◌, ◌-◌, ◌*◌, ◌≤◌, ◌<◌}
+use Prim.Native.Nat.{ℕ, zero, suc, ◌+◌, ◌-◌, ◌*◌, ◌≤◌, ◌<◌, min}
 use native.Mathlib.Omega.{arith}
 use native.Mathlib.Numerals.{towards_suc}
 use lib.Dec.{eqb, ltb}
-use lib.ListN.{length, get_or, drop, length-drop, length-append}
-use lib.Seq.{drop-cons, drop-drop}
-use borrow.Author.Tests.{eq-eqb, ne_eqb, lt-ltb, le-ltb}
+use lib.ListN.{length, get_or, take, drop, length-drop, length-append, drop_of_length-le}
+use lib.Seq.{drop-cons, drop-drop, drop-length, take_all}
+use borrow.Author.Tests.{eq-eqb, ne_eqb, lt-ltb, le-ltb, ltb-true, ltb-false}
 use Rattle.definition.specs.Lists.{choose}
 use Rattle.definition.specs.Names.{same_name}
 use Rattle.definition.specs.Cards.{is_root}
@@ -48,6 +48,17 @@ pub row_miss : (k d : ℕ) (s : List ℕ) (i : ℕ) → i + 2 < length s → is_
     row_offset k d (drop i s) ≡ 3 + row_offset k d (drop (i + 3) s)
 unfolding row_offset
 row_miss k d s i h e = rw (drop3 s i h, e)
+
+pub row_inside : (k d : ℕ) (s : List ℕ) → row_offset k d s ≤ length s
+unfolding row_offset
+row_inside k d [] = omega arith
+row_inside k d (w ∷ []) = omega arith
+row_inside k d (w ∷ (c ∷ [])) = omega arith
+row_inside k d (w ∷ (c ∷ (o ∷ s))) = go (is_row_of k d w c) (row_inside k d s)
+  where
+    go : (b : Bool) → row_offset k d s ≤ length s → choose b 0 (3 + row_offset k d s) ≤ length (w ∷ (c ∷ (o ∷ s)))
+    go true h = omega arith
+    go false h = omega arith
 
 -- The search under the row is that among the rows after it.
 pub under_after_lem : (k d : ℕ) (test : ℕ → ℕ → Bool) (s : List ℕ) → earlier_under k d test s ≡ earlier_in test (rows_under k d s)
@@ -157,23 +168,40 @@ module _ (test : ℕ → ℕ → Bool) where
 
 module _ (k d : ℕ) where
   module _ (s x t : List ℕ) (q : s ≡ x ++ t) (h : length x ≡ 3) where
-    pub under_hit : get_or x 0 0 ≡ k → get_or x 1 0 ≡ d → rows_under k d s ≡ t
-    unfolding rows_under row_offset
-    under_hit e f = rw (q, three_words x h, row_is k d (get_or x 0 0) (get_or x 1 0) e f)
+    pub sought_hit : get_or x 0 0 ≡ k → get_or x 1 0 ≡ d → row_offset k d s ≡ 0
+    unfolding row_offset
+    sought_hit e f = rw (q, three_words x h, row_is k d (get_or x 0 0) (get_or x 1 0) e f)
 
-    under_miss : is_row_of k d (get_or x 0 0) (get_or x 1 0) ≡ false → rows_under k d s ≡ rows_under k d t
-    unfolding rows_under row_offset
-    under_miss e = rw (q, three_words x h, e) (sym (drop-drop (3 + row_offset k d t) 3 (get_or x 0 0 ∷ (get_or x 1 0 ∷ (get_or x 2 0 ∷ t)))))
+    sought_miss : is_row_of k d (get_or x 0 0) (get_or x 1 0) ≡ false → row_offset k d s ≡ 3 + row_offset k d t
+    unfolding row_offset
+    sought_miss e = rw (q, three_words x h, e) refl
 
-    pub under_no_what : (get_or x 0 0 ≡ k → ⊥) → rows_under k d s ≡ rows_under k d t
-    under_no_what e = under_miss (row_no_what k d (get_or x 0 0) (get_or x 1 0) e)
+    pub sought_no_what : (get_or x 0 0 ≡ k → ⊥) → row_offset k d s ≡ 3 + row_offset k d t
+    sought_no_what e = sought_miss (row_no_what k d (get_or x 0 0) (get_or x 1 0) e)
 
-    pub under_no_card : (get_or x 1 0 ≡ d → ⊥) → rows_under k d s ≡ rows_under k d t
-    under_no_card e = under_miss (row_no_card k d (get_or x 0 0) (get_or x 1 0) e)
+    pub sought_no_card : (get_or x 1 0 ≡ d → ⊥) → row_offset k d s ≡ 3 + row_offset k d t
+    sought_no_card e = sought_miss (row_no_card k d (get_or x 0 0) (get_or x 1 0) e)
 
-  pub under_end : (t : List ℕ) → length t < 3 → rows_under k d t ≡ []
-  unfolding rows_under row_offset
-  under_end t h = short (λ l. rows_under k d l ≡ []) refl (λ w. refl) (λ w c. refl) t h
+  pub sought_end : (t : List ℕ) → length t < 3 → row_offset k d t ≡ 0
+  unfolding row_offset
+  sought_end t h = short (λ l. row_offset k d l ≡ 0) refl (λ w. refl) (λ w c. refl) t h
+
+  -- The rows under a row that was sought, where the part of all words ends with them.
+  pub under_sought : (rows : List ℕ) (at : ℕ) → at ≡ row_offset k d rows →
+      take (length rows - min (at + 3) (length rows)) (drop (min (at + 3) (length rows)) rows) ≡ rows_under k d rows
+  unfolding rows_under
+  under_sought rows at e = go (ltb (at + 3) (length rows)) refl
+    where
+      go : (b : Bool) → ltb (at + 3) (length rows) ≡ b →
+          take (length rows - min (at + 3) (length rows)) (drop (min (at + 3) (length rows)) rows) ≡ drop (3 + row_offset k d rows) rows
+      go true t =
+          let l = ltb-true (at + 3) (length rows) t in
+          let m : min (at + 3) (length rows) ≡ 3 + row_offset k d rows = omega arith in
+          rw m (take_all _ (drop (3 + row_offset k d rows) rows) (rw length-drop (omega arith)))
+      go false t =
+          let l = ltb-false (at + 3) (length rows) t in
+          let m : min (at + 3) (length rows) ≡ length rows = omega arith in
+          rw m (take_all _ (drop (length rows) rows) (rw length-drop (omega arith)) ∙ drop-length rows ∙ sym (drop_of_length-le rows (omega arith)))
 
   -- A search from a place that the row does not stand before finds what one among all rows finds.
   pub under_from : (rows : List ℕ) (from : ℕ) → row_offset k d rows ≡ from + row_offset k d (drop from rows) → rows_under k d (drop from rows) ≡ rows_under k d rows

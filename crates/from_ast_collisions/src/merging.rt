@@ -1,6 +1,6 @@
 // Parts that are merged into a type or the schema: a part collides where the finished rows have another card that stands for its name.
 // Stays: that a card is a stored one is asked of each function that reads its name: numbers are words of arrays, and a struct for a number would be made, and its fact proved, at the same calls.
-ghost use Rattle.std.specs.Prelude.{◌≡◌, true, ◌≤◌, ◌<◌, [], ◌∷◌};
+ghost use Rattle.std.specs.Prelude.{◌≡◌, true, ◌+◌, ◌≤◌, ◌<◌, [], ◌∷◌, length, drop};
 ghost use Rattle.definition.specs.Lists.{flat_map};
 ghost use Rattle.definition.specs.Cards.{is_part};
 ghost use Rattle.definition.specs.Errors.{collision_number};
@@ -9,7 +9,7 @@ ghost use Rattle.definition.specs.Numbers.{error_number};
 ghost use Rattle.definition.specs.Store.{cards_used_of};
 ghost use Rattle.store_reader.specs.Stored.{card_kind, card_at};
 ghost use Rattle.from_ast_collisions.specs.Pushing.{Capacity, push_all};
-ghost use Rattle.from_ast_collisions.specs.Earlier.{stands_for, earlier_in};
+ghost use Rattle.from_ast_collisions.specs.Earlier.{stands_for, earlier_in, row_offset};
 ghost use Rattle.from_ast_collisions.specs.Views.{cards, collision, merged, schema_merged};
 
 use crate::owner::Owner;
@@ -41,6 +41,21 @@ fn collision_error(kind: u32, part: u32) -> BuildError
         (kinds::ENUM_VALUE_DEFINITION, true) => BuildError::UnionMemberNameCollision,
         (_, true) => BuildError::DuplicateImplementsInterfaceInObject,
     }
+}
+
+// Where the row of what and card begins, or the end of the whole rows; it does not begin before `from`.
+pub fn seek_row(rows: &[u32], from: usize, what: u32, card: u32) -> usize
+    requires inside { from ≤ length rows.now }
+    requires not_before { row_offset what card rows.now ≡ from + row_offset what card (drop from rows.now) }
+    ensures { result ≡ row_offset what card rows.now }
+{
+    let left = &rows[from..];
+    for (n, row) in left.chunks_exact(layout::ROW_WORDS).enumerate() {
+        if row[0] == what && row[1] == card {
+            return from + layout::ROW_WORDS * n;
+        }
+    }
+    from + layout::ROW_WORDS * (left.len() / layout::ROW_WORDS)
 }
 
 // Whether the row of what and card stands for the part. Roots are told by their kind alone.

@@ -3,6 +3,7 @@ ghost use Rattle.std.specs.Prelude.{◌≡◌, ◌<◌};
 ghost use Rattle.from_ast_collisions.specs.Earlier.{rows_under};
 ghost use Rattle.from_ast_collisions.specs.Placing.{Placed};
 
+use crate::merging::seek_row;
 use definition::layout;
 
 // The row of a kind and a card, with the rows under it; none stand there where there is no such row.
@@ -16,16 +17,12 @@ pub struct Owner<'a> {
 }
 
 // The rows under that of what and card.
-#[tactic(auto, using(crate::proofs::Turns::under_hit, crate::proofs::Turns::under_no_what, crate::proofs::Turns::under_no_card, crate::proofs::Turns::under_end, crate::proofs::Turns::row_after))]
+#[tactic(auto, using(crate::proofs::Turns::row_inside, crate::proofs::Turns::under_sought))]
 fn rows_under(rows: &[u32], what: u32, card: u32) -> &[u32]
     ensures { result.now ≡ rows_under what card rows.now }
 {
-    for (n, row) in rows.chunks_exact(layout::ROW_WORDS).enumerate() {
-        if row[0] == what && row[1] == card {
-            return &rows[layout::ROW_WORDS * (n + 1)..];
-        }
-    }
-    &[]
+    let under = seek_row(rows, 0, what, card) + layout::ROW_WORDS;
+    &rows[under.min(rows.len())..]
 }
 
 impl<'a> Owner<'a> {

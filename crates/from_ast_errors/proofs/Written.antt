@@ -21,7 +21,7 @@ use Rattle.from_ast_collisions.specs.Pushing.{push_all, Capacity, no_errors}
 use Rattle.from_ast_collisions.specs.Earlier.{View}
 use Rattle.from_ast_collisions.specs.Placing.{word_values}
 use Rattle.from_ast_collisions.specs.ErrorsByCards.{reading_errors_at, drawing_errors_at}
-use Rattle.from_ast_collisions.specs.Views.{view, HeldHeadings, HeldExtension, HeldExtensions, Ascending}
+use Rattle.from_ast_collisions.specs.Views.{view, Held, HeldHeadings, HeldExtension, HeldExtensions, Ascending}
 use Rattle.from_ast_errors.specs.Written.{all_errors, reading_errors_in, drawing_errors_in, ErrorsAsked, ErrorsWritten}
 use Rattle.definition.proofs.Lists.{filter_nil, filter_yes, filter_no}
 use Rattle.definition.proofs.All.{all_append, all_filter, all_firsts, all_with}
@@ -94,6 +94,12 @@ module _ (i : Index) (ok : sound i.collection.text.now i.collection.words.now �
       (all_picture number_in (λ c. (c < cards_used_of words) × (card_kind words c ≤ 17)) hs
       (all_with (λ h. h.number < cards_used_of words) (λ h. card_kind words h.number ≤ 17)
       (λ h. (h.number < cards_used_of words) × (card_kind words h.number ≤ 17)) (λ h l k. (l, k)) hs known.held kinds_most))
+
+  pub extensions_held : Held words i.extensions.now
+  extensions_held =
+      subst (Held words) (sym extensions_told)
+      (all_picture number_in (λ c. c < cards_used_of words) (filter is_type_extension hs)
+      (all_filter (λ h. h.number < cards_used_of words) is_type_extension hs known.held))
 
   pub extensions_ascend : Ascending i.extensions.now
   extensions_ascend = subst Ascending (sym extensions_told) (ascending (filter is_type_extension hs) (rising_filter is_type_extension hs known.rising))

@@ -4,7 +4,9 @@ ghost use Rattle.definition.specs.Answers.{absent};
 ghost use Rattle.definition.specs.Lists.{flat_map};
 ghost use Rattle.from_ast_collisions.specs.Pushing.{Capacity, push_all};
 ghost use Rattle.from_ast_collisions.specs.ErrorsByCards.{unmet_errors, is_bare, no_schema_errors_at, drawing_errors_at};
-ghost use Rattle.from_ast_collisions.specs.Views.{cards, view};
+ghost use Rattle.from_ast_collisions.specs.Views.{cards, Held, HeldExtensions};
+ghost use Rattle.from_ast_errors.specs.Views.{owned_view};
+ghost use Rattle.from_ast_errors.specs.Written.{schema_card};
 
 use crate::finished::Finished;
 use crate::orphans::all_orphan_errors;
@@ -12,8 +14,9 @@ use ast::kinds;
 use definition::build_error::BuildError;
 use definition::layout;
 use from_ast_collisions::merging::merge_schema_extensions;
+use from_ast_collisions::owner::Owner;
 use from_ast_collisions::pushing::Errors;
-use from_ast_index::Collection;
+use from_ast_index::{Collection, card_in};
 
 // A schema extension that met no schema; other headings give nothing.
 #[tactic(auto, using(from_ast_collisions::proofs::Push::same_pushed, from_ast_collisions::proofs::Push::same_capacity, from_ast_collisions::proofs::Push::none_pushed, from_ast_collisions::proofs::Branches::unmet_other, from_ast_collisions::proofs::Branches::unmet_is))]
@@ -47,34 +50,49 @@ fn is_bare(rows: &[u32]) -> bool
 
 // Without a schema definition: adopting, or where default roots are set, the extensions are merged; else each is an error.
 #[tactic(auto, using(from_ast_collisions::proofs::Push::same_pushed, from_ast_collisions::proofs::Push::same_capacity, from_ast_collisions::proofs::Branches::no_schema_adopted, from_ast_collisions::proofs::Branches::no_schema_unmet, from_ast_collisions::proofs::Branches::no_schema_met))]
-fn no_schema_errors(finished: &Finished, adopt: bool, errors: &mut Errors)
-    requires is_absent { finished.now.schema.card ≡ absent }
+fn no_schema_errors(
+    collection: &Collection,
+    schema: &Owner,
+    headings: &[u32],
+    adopt: bool,
+    errors: &mut Errors,
+)
+    requires is_schema { schema.now.kind ≡ 4 }
+    requires is_absent { schema.now.card ≡ absent }
     requires capacity { Capacity errors.old
-        (no_schema_errors_at adopt (cards finished.now.index.collection) finished.now.schema.rows.now finished.now.index.headings.now) }
+        (no_schema_errors_at adopt (cards collection.now) schema.now.rows.now headings.now) }
     ensures { errors.new ≡ push_all errors.old
-        (no_schema_errors_at adopt (cards finished.now.index.collection) finished.now.schema.rows.now finished.now.index.headings.now) }
+        (no_schema_errors_at adopt (cards collection.now) schema.now.rows.now headings.now) }
 {
-    let index = &finished.index;
-    let collection = &index.collection;
-    if !adopt && is_bare(finished.schema.rows) {
-        unmet_errors(collection, index.headings, errors);
+    if !adopt && is_bare(schema.rows) {
+        unmet_errors(collection, headings, errors);
     } else {
-        merge_schema_extensions(collection, index.headings, &finished.schema, errors);
+        merge_schema_extensions(collection, headings, schema, errors);
     }
 }
 
 // All of them.
 #[tactic(auto, using(from_ast_index::proofs::Cards::word_absent, from_ast_index::proofs::Cards::word_present, from_ast_collisions::proofs::Push::first_capacity, from_ast_collisions::proofs::Push::second_capacity, from_ast_collisions::proofs::Push::both_pushed, from_ast_collisions::proofs::Push::same_pushed, from_ast_collisions::proofs::Branches::drawing_defined, from_ast_collisions::proofs::Branches::drawing_both, from_ast_collisions::proofs::Branches::drawing_parts))]
-pub fn drawing_errors(finished: &Finished, adopt: bool, errors: &mut Errors)
-    requires { Capacity errors.old
-        (drawing_errors_at adopt (view finished.now.index) finished.now.rows.rows.now finished.now.schema.card finished.now.index.extensions.now
-        finished.now.index.orphans.now finished.now.index.headings.now) }
+pub fn drawing_errors(
+    finished: &Finished,
+    orphans: &[u32],
+    extensions: &[u32],
+    headings: &[u32],
+    adopt: bool,
+    errors: &mut Errors,
+)
+    requires held { Held finished.now.collection.words.now extensions.now }
+    requires orphans_held { HeldExtensions finished.now.collection.words.now orphans.now }
+    requires capacity { Capacity errors.old
+        (drawing_errors_at adopt (owned_view finished.now.collection finished.now.owners.now) finished.now.rows.rows.now
+        (schema_card finished.now.rows.rows.now) extensions.now orphans.now headings.now) }
     ensures { errors.new ≡ push_all errors.old
-        (drawing_errors_at adopt (view finished.now.index) finished.now.rows.rows.now finished.now.schema.card finished.now.index.extensions.now
-        finished.now.index.orphans.now finished.now.index.headings.now) }
+        (drawing_errors_at adopt (owned_view finished.now.collection finished.now.owners.now) finished.now.rows.rows.now
+        (schema_card finished.now.rows.rows.now) extensions.now orphans.now headings.now) }
 {
-    all_orphan_errors(finished, adopt, errors);
-    if finished.schema_definition().is_none() {
-        no_schema_errors(finished, adopt, errors);
+    all_orphan_errors(finished, orphans, extensions, adopt, errors);
+    let schema = finished.schema();
+    if card_in(schema.card).is_none() {
+        no_schema_errors(&finished.collection, &schema, headings, adopt, errors);
     }
 }

@@ -57,8 +57,9 @@ impl<'a> Collection<'a> {
         store_reader::card_name(self.text, self.words, card as usize)
     }
 
-    // Whether two stored cards have one name. Most that have not are told by their hashes.
+    // Whether two stored cards have one name. Most that have not are told by their hashes. Compiled into its callers, which ask it of each pair of a list.
     #[tactic(auto, using(crate::proofs::Search::cards_differ), unfolding(crate::specs::Index::same_cards))]
+    #[inline(always)]
     pub fn same_name(&self, a: u32, b: u32) -> bool
         requires a_stored { a < cards_used_of self.now.words.now }
         requires b_stored { b < cards_used_of self.now.words.now }
@@ -67,8 +68,9 @@ impl<'a> Collection<'a> {
         self.hashes[a as usize] == self.hashes[b as usize] && name::same(self.name(a), self.name(b))
     }
 
-    // Whether two numbers are those of stored cards with one name: a row's card is not trusted to be stored.
+    // Whether two numbers are those of stored cards with one name: a row's card is not trusted to be stored. Compiled into its callers too.
     #[tactic(auto, using(crate::proofs::Search::stored_not_first, crate::proofs::Search::stored_not_second, crate::proofs::Search::stored_both))]
+    #[inline(always)]
     pub fn same_stored(&self, a: u32, b: u32) -> bool
         ensures { result ≡ same_stored self.now.text.now self.now.words.now a b }
     {

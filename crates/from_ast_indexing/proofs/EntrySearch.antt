@@ -6,8 +6,8 @@ use mathlib.Core.Option.{Option, none, some}
 use Prim.Native.Nat.{ℕ, zero, suc, ◌+◌, ◌-◌, ◌%◌, ◌≤◌, ◌<◌}
 use native.Mathlib.Numerals.{add-one}
 use native.Mathlib.Omega.{arith}
-use lib.ListN.{length, take, drop, get_or, set, length-set}
-use lib.Seq.{drop_at, length-take-le, take-add, take-suc-set}
+use lib.ListN.{length, take, drop, get_or, set, length-set, length-map, length-drop}
+use lib.Seq.{length-take-le, take-length, take-suc-set}
 use Rattle.definition.specs.Lists.{find}
 use Rattle.from_ast_index.specs.Index.{card_hash, same_cards}
 use Rattle.definition.specs.Store.{cards_used_of}
@@ -16,7 +16,8 @@ use Rattle.from_ast_index.proofs.Lists.{drop_next}
 use Rattle.name.proofs.HashLaws.{hashes_differ}
 use Rattle.std.specs.Prelude.{Some, None}
 use Rattle.from_ast_indexing.specs.declared.entry.FirstCards.{FirstCards}
-use Rattle.from_ast_indexing.specs.Entering.{entry_of, entered_in, first_entered, cards_of, hashes_of, FirstsAre}
+use Rattle.from_ast_indexing.specs.declared.entry.KnownCards.{KnownCards}
+use Rattle.from_ast_indexing.specs.Entering.{entry_of, entered_in, first_entered, cards_of, hashes_of, FirstsAre, KnownAre, SameSlices}
 use Rattle.from_ast_indexing.proofs.Hints.{hint_none, hint_passed, hint_more}
 
 -- ---- A turn of the search.
@@ -84,33 +85,28 @@ module _ (text words cards hashes : List ℕ) (card hash : ℕ) (are : hashes �
 
 -- ---- The part that is searched.
 
-part_taken : (from count : ℕ) (xs : List ℕ) → from ≤ count → from ≤ length xs → drop from (take count xs) ≡ take (count - from) (drop from xs)
-part_taken from count xs h l =
-    let e : from + (count - from) ≡ count = omega arith in
-    ap (λ (n : ℕ). drop from (take n xs)) (sym e)
-    ∙ ap (drop from) (take-add from (count - from) xs)
-    ∙ drop_at (take from xs) (take (count - from) (drop from xs)) from (length-take-le from xs l)
+pub rest_taken : (from : ℕ) (xs : List ℕ) → take (length xs - from) (drop from xs) ≡ drop from xs
+rest_taken from xs = ap (λ (n : ℕ). take n (drop from xs)) (sym (length-drop from xs)) ∙ take-length (drop from xs)
 
-module _ (text words : List ℕ) (f : FirstCards) (p : FirstsAre text words f) (from : ℕ) (most : from ≤ f.len) where
-  cards_part : drop from (cards_of f) ≡ take (f.len - from) (drop from f.cards.now)
-  cards_part = part_taken from f.len f.cards.now most (omega (arith, p.len_most, p.cards_room))
+module _ (text words : List ℕ) (k : KnownCards) (p : KnownAre text words k) where
+  pub known_beside : length k.hashes.now ≡ length k.cards.now
+  known_beside = ap length p.hashes_are ∙ length-map k.cards.now (card_hash text words)
 
-  hashes_part : drop from (hashes_of f) ≡ take (f.len - from) (drop from f.hashes.now)
-  hashes_part = part_taken from f.len f.hashes.now most (omega (arith, p.len_most, p.hashes_room))
+  module _ (from : ℕ) (most : from ≤ length k.cards.now) where
+    pub hashes_of_part : drop from k.hashes.now ≡ map (card_hash text words) (drop from k.cards.now)
+    hashes_of_part = ap (drop from) p.hashes_are ∙ drop_hash text words from k.cards.now
 
-  pub hashes_of_part : take (f.len - from) (drop from f.hashes.now) ≡ map (card_hash text words) (take (f.len - from) (drop from f.cards.now))
-  hashes_of_part =
-      rw (sym cards_part, sym hashes_part) (ap (drop from) p.hashes_are ∙ drop_hash text words from (cards_of f))
+    -- What is sought among all is found in the part.
+    pub part_has : (card hash : ℕ) → hash ≡ card_hash text words card → from ≤ get_or k.buckets.now (hash % length k.buckets.now) 0 →
+        entry_of (find (same_cards text words card) k.cards.now) ≡ entry_of (find (same_cards text words card) (drop from k.cards.now))
+    part_has card hash is hint =
+        search_from text words k.cards.now k.hashes.now card hash p.hashes_are is from most
+        (λ j l. hint_passed k.hashes.now k.buckets.now p.hinted hash from hint j l (omega (arith, known_beside)))
 
-  -- What is sought among all is found in the part.
-  pub part_has : (card hash : ℕ) → hash ≡ card_hash text words card → from ≤ get_or f.buckets.now (hash % length f.buckets.now) 0 →
-      entry_of (find (same_cards text words card) (cards_of f)) ≡ entry_of (find (same_cards text words card) (take (f.len - from) (drop from f.cards.now)))
-  part_has card hash is hint =
-      let cards_long = length-take-le f.len f.cards.now (omega (arith, p.len_most, p.cards_room)) in
-      let hashes_long = length-take-le f.len f.hashes.now (omega (arith, p.len_most, p.hashes_room)) in
-      search_from text words (cards_of f) (hashes_of f) card hash p.hashes_are is from (omega arith)
-      (λ j l. hint_passed (hashes_of f) f.buckets.now p.hinted hash from hint j l (omega arith))
-      ∙ ap (λ (xs : List ℕ). entry_of (find (same_cards text words card) xs)) cards_part
+-- What an array of first cards has known is what a search asks.
+pub firsts_known : (text words : List ℕ) (f : FirstCards) → FirstsAre text words f → (k : KnownCards) → k.cards.now ≡ cards_of f →
+    k.hashes.now ≡ hashes_of f → k.buckets.now ≡ f.buckets.now → KnownAre text words k
+firsts_known text words f p k c h b = record { hashes_are = rw (c, h) p.hashes_are; hinted = rw (h, b) p.hinted }
 
 pub occupied : (o : Option ℕ) (d : ℕ) → Some d ≡ entry_of o → o ≡ some d
 occupied (some x) d e = let q : x ≡ d = cc in ap some q
@@ -119,6 +115,18 @@ occupied none d e = absurd (let z : ◌≡◌ {A = ℕ} 0 1 = cc in omega arith)
 pub vacant : (o : Option ℕ) → None ≡ entry_of o → o ≡ none
 vacant (some x) e = absurd (let z : ◌≡◌ {A = ℕ} 0 1 = cc in omega arith)
 vacant none e = refl
+
+-- As many hashes as there are cards.
+pub firsts_hashed : (text words : List ℕ) (f : FirstCards) → FirstsAre text words f → take (length (cards_of f)) f.hashes.now ≡ map (card_hash text words) (cards_of f)
+firsts_hashed text words f p = rw (length-take-le f.len f.cards.now (omega (arith, p.len_most, p.cards_room))) p.hashes_are
+
+-- One step more in the same slices.
+pub same_on : (a b : FirstCards) → SameSlices a b → (c : FirstCards) → SameSlices b c → SameSlices a c
+same_on a b s c t = record {
+  same_cards = t.same_cards ∙ s.same_cards;
+  same_hashes = t.same_hashes ∙ s.same_hashes;
+  same_buckets = t.same_buckets ∙ s.same_buckets;
+}
 
 -- ---- A card that comes to the first ones.
 

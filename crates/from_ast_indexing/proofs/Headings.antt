@@ -6,14 +6,13 @@ use Prim.Native.Nat.{ℕ, zero, suc, ◌+◌, ◌≤◌, ◌<◌}
 use native.Mathlib.Omega.{arith}
 use lib.Dec.{ltb}
 use borrow.Author.Tests.{ltb-true, ltb-false}
-use lib.ListN.{get_or-append, length, drop, get_or}
+use lib.ListN.{get_or-append, length, get_or}
 use lib.Seq.{length-take-le, drop-length}
 use Rattle.definition.specs.Cards.{is_part}
 use Rattle.definition.specs.Headings.{NamedCard, Heading}
 use Rattle.definition.specs.Store.{cards_used_of}
 use Rattle.store_reader.specs.Stored.{card_kind, card_at, stored_parts, stored_headings, stored_headings_from, heading_at, parts_from, next_heading}
-use Rattle.store_reader.specs.Stored.{built_in_at, ignored_at, headings_of}
-use Rattle.store_reader.proofs.Group.{parts_later, headings_past_parts}
+use Rattle.store_reader.proofs.Group.{parts_later}
 use Rattle.store_reader.proofs.Words.{headings_start, headings_next, headings_skip, headings_end, next_stored, next_after, next_inside, parts_next}
 use Rattle.from_ast_index.specs.Index.{heading_number, Hashed, Cards}
 use Rattle.word_list.specs.Listed.{listed_in}
@@ -22,10 +21,12 @@ use Rattle.from_ast_indexing.specs.Steps.{HeadingsAre}
 
 -- ---- The walk.
 
--- The headings before the card i are listed, and those from it on are left.
+-- The headings before the card i are listed, and i is the next one or the end.
 pub record HeadingsSoFar (words : List ℕ) (list : WordList) (i : ℕ) : Type 0 where
   pub so_far : (text : List ℕ) → listed_in list ++ map heading_number (stored_headings_from text words i) ≡ map heading_number (stored_headings text words)
+  pub heading : i < cards_used_of words → is_part (card_kind words i) ≡ false
   pub len_most : list.len ≤ i
+  pub inside : i ≤ cards_used_of words
   pub room : cards_used_of words ≤ length list.words.now
 
 -- What follows a heading's parts is a heading.
@@ -49,10 +50,13 @@ next_headings words i h n = go (is_part (card_kind words (next_heading words i))
         let z : ◌≡◌ {A = ℕ} 0 1 = cc in omega arith)
     go false e = e
 
-pub headings_begin : (words : List ℕ) (list : WordList) → list.len ≡ 0 → cards_used_of words ≤ length list.words.now → HeadingsSoFar words list 0
-headings_begin words list e room = rw e (record {
+pub headings_begin : (words : List ℕ) (list : WordList) → list.len ≡ 0 → cards_used_of words ≤ length list.words.now →
+    (0 < cards_used_of words → is_part (card_kind words 0) ≡ false) → HeadingsSoFar words list 0
+headings_begin words list e room headed = rw e (record {
   so_far = λ text. ap (map heading_number) (sym (headings_start text words));
+  heading = headed;
   len_most = omega arith;
+  inside = omega arith;
   room = room;
 })
 
@@ -60,46 +64,31 @@ number_at : (text words : List ℕ) (i : ℕ) → heading_number (heading_at tex
 unfolding heading_number
 number_at text words i = refl
 
--- A heading is followed by those from the next card on: its parts are no headings.
-heading_here : (text words : List ℕ) (i : ℕ) → i < cards_used_of words → is_part (card_kind words i) ≡ false →
-    stored_headings_from text words i ≡ heading_at text words i ∷ stored_headings_from text words (i + 1)
-unfolding stored_headings_from
-heading_here text words i h p =
-    let cs = stored_parts text words in
-    headings_next text words i h p
-    ∙ ap (λ (l : List Heading). heading_at text words i ∷ l)
-    (sym (headings_past_parts (built_in_at words) (ignored_at words) cs (i + 1)
-    ∙ ap (λ (n : ℕ). (headings_of (built_in_at words) (ignored_at words) (drop n cs)).1) (sym (next_stored words i text h))))
-
 module _ (words : List ℕ) (list : WordList) (i : ℕ) (s : HeadingsSoFar words list i) where
-  pub headings_part : i < cards_used_of words → is_part (card_kind words i) ≡ true → HeadingsSoFar words list (i + 1)
-  headings_part h p = record {
-    so_far = λ text. ap (λ (l : List Heading). listed_in list ++ map heading_number l) (sym (headings_skip text words i h p)) ∙ s.so_far text;
-    len_most = omega (arith, s.len_most);
-    room = s.room;
-  }
-
-  pub headings_turn : i < cards_used_of words → is_part (card_kind words i) ≡ false → (list' : WordList) → listed_in list' ≡ listed_in list ++ (i ∷ []) →
-      list'.len ≡ list.len + 1 → length list'.words.now ≡ length list.words.now → HeadingsSoFar words list' (i + 1)
-  headings_turn h p list' e l k = record {
+  pub headings_turn : i < cards_used_of words → (list' : WordList) → listed_in list' ≡ listed_in list ++ (i ∷ []) →
+      list'.len ≡ list.len + 1 → length list'.words.now ≡ length list.words.now →
+      HeadingsSoFar words list' (next_heading words i)
+  headings_turn h list' e l k = record {
     so_far = λ text.
-        let rest : List ℕ = map heading_number (stored_headings_from text words (i + 1)) in
+        let rest : List ℕ = map heading_number (stored_headings_from text words (next_heading words i)) in
         ap (λ (l : List ℕ). l ++ rest) e
         ∙ append_assoc (listed_in list) (i ∷ []) rest
         ∙ ap (λ (n : ℕ). listed_in list ++ (n ∷ rest)) (sym (number_at text words i))
-        ∙ ap (λ (l : List Heading). listed_in list ++ map heading_number l) (sym (heading_here text words i h p))
+        ∙ ap (λ (l : List Heading). listed_in list ++ map heading_number l) (sym (headings_next text words i h (s.heading h)))
         ∙ s.so_far text;
-    len_most = omega (arith, s.len_most);
+    heading = next_headings words i h;
+    len_most = omega (arith, s.len_most, next_after words i h);
+    inside = next_inside words i;
     room = omega (arith, s.room);
   }
 
-  pub headings_done : cards_used_of words ≤ i → i ≤ cards_used_of words → HeadingsAre words (listed_in list)
-  headings_done h n = record {
+  pub headings_done : cards_used_of words ≤ i → HeadingsAre words (listed_in list)
+  headings_done h = record {
     headings_are = λ text.
         sym (append-nil (listed_in list))
         ∙ ap (λ (l : List Heading). listed_in list ++ map heading_number l) (sym (headings_end text words i h))
         ∙ s.so_far text;
-    headings_most = omega (arith, s.len_most, length-take-le list.len list.words.now (omega (arith, s.len_most, s.room)));
+    headings_most = omega (arith, s.len_most, s.inside, length-take-le list.len list.words.now (omega (arith, s.len_most, s.inside, s.room)));
   }
 
 -- ---- Where the headings stand: each is followed by the next heading, the last one by the end.

@@ -7,6 +7,7 @@ use Rattle.definition.specs.Answers.{absent}
 use Rattle.definition.specs.Store.{cards_used_of}
 use Rattle.from_ast_index.specs.Index.{card_hash}
 use Rattle.from_ast_indexing.specs.declared.entry.FirstCards.{FirstCards}
+use Rattle.from_ast_indexing.specs.declared.entry.KnownCards.{KnownCards}
 
 -- What a search finds, as the code answers it.
 abbrev pub entry_of : Option ℕ → Entry ℕ
@@ -29,6 +30,11 @@ pub record Hinted (hashes buckets : List ℕ) : Type 0 where
   pub slots : 0 < length buckets
   pub hinted : (j : ℕ) → j < length hashes → get_or buckets (get_or hashes j 0 % length buckets) 0 ≤ j
 
+-- What a search asks: each card has its hash beside it, and no bucket has the search begin too late.
+pub record KnownAre (text words : List ℕ) (k : KnownCards) : Type 0 where
+  pub hashes_are : k.hashes.now ≡ map (card_hash text words) k.cards.now
+  pub hinted : Hinted k.hashes.now k.buckets.now
+
 -- The cards, and what stands beside them.
 abbrev pub cards_of : FirstCards → List ℕ
 cards_of f = take f.len f.cards.now
@@ -43,3 +49,9 @@ pub record FirstsAre (text words : List ℕ) (f : FirstCards) : Type 0 where
   pub len_most : f.len ≤ cards_used_of words
   pub cards_room : cards_used_of words ≤ length f.cards.now
   pub hashes_room : cards_used_of words ≤ length f.hashes.now
+
+-- What was lent stays lent, whatever was written there.
+pub record SameSlices (old new : FirstCards) : Type 0 where
+  pub same_cards : new.cards.ghost_name ≡ old.cards.ghost_name
+  pub same_hashes : new.hashes.ghost_name ≡ old.hashes.ghost_name
+  pub same_buckets : new.buckets.ghost_name ≡ old.buckets.ghost_name

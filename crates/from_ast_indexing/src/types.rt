@@ -2,7 +2,7 @@
 ghost use Rattle.std.specs.Prelude.{◌≡◌, ◌≤◌, ◌<◌, length};
 ghost use Rattle.definition.specs.Store.{cards_used_of};
 ghost use Rattle.from_ast_index.specs.Index.{Cards};
-ghost use Rattle.from_ast_indexing.specs.Entering.{FirstsAre};
+ghost use Rattle.from_ast_indexing.specs.Entering.{FirstsAre, SameSlices};
 ghost use Rattle.from_ast_indexing.specs.Types.{TypeTurn, TypesAre};
 
 use crate::entry::FirstCards;
@@ -17,6 +17,7 @@ fn index_type(collection: &Collection, card: u32, owners: &mut [u32], types: &mu
     requires room { types.old.len < cards_used_of collection.now.words.now }
     ensures turn { TypeTurn collection.now.text.now collection.now.words.now card owners.old owners.new types.old types.new }
     ensures firsts { FirstsAre collection.now.text.now collection.now.words.now types.new }
+    ensures same { SameSlices types.old types.new }
 {
     if !kinds::is_type(collection.kind(card)) {
         return;
@@ -38,6 +39,7 @@ pub fn index_types(
     requires none { types.old.len ≡ 0 }
     ensures types { TypesAre collection.now.text.now collection.now.words.now headings.now owners.new types.new (length headings.now) }
     ensures firsts { FirstsAre collection.now.text.now collection.now.words.now types.new }
+    ensures same { SameSlices types.old types.new }
 {
     for card in headings {
         index_type(collection, *card, owners, types);

@@ -14,6 +14,7 @@ use Rattle.from_ast_index.proofs.Spans.{kept_spanned}
 use Rattle.component.specs.Pushed.{Filled, Fits, pushed}
 use Rattle.component.specs.RowsByCards.{Stored, extension_kind, is_matching, matching, lists_at, type_row_at, type_rows_at}
 use Rattle.component.proofs.Matching.{matching_unlike}
+use Rattle.from_ast_rows.specs.Parted.{Parted}
 
 matching_named : (text words : List ℕ) (ext owner n : ℕ) → is_matching text words ext owner n ≡ true → same_cards text words owner n ≡ true
 matching_named text words ext owner n h = go (same_cards text words owner n) refl
@@ -44,20 +45,28 @@ part_entry start end xs i h =
 -- ---- The part of a type.
 
 module _ {text words headings owners types orphan_cards extensions starts ends : List ℕ} (x : Listed text words headings owners types orphan_cards extensions)
-    (s : Spanned words owners extensions starts ends) (k : ℕ) (k-t : k < length types)
-    (own : List ℕ) (is : own ≡ own_extensions extensions starts ends (get_or types k 0)) where
-  part_matching : matching text words (own_extensions extensions starts ends (get_or types k 0)) (get_or types k 0) ≡ matching text words extensions (get_or types k 0)
+    (s : Spanned words owners extensions starts ends) where
+  part_matching : (k : ℕ) → k < length types →
+      matching text words (own_extensions extensions starts ends (get_or types k 0)) (get_or types k 0) ≡ matching text words extensions (get_or types k 0)
   unfolding matching
-  part_matching =
+  part_matching k k-t =
       let c = get_or types k 0 in
       sym (kept_spanned x s k k-t (is_matching text words (extension_kind words c) c) (λ d h. matching_named text words (extension_kind words c) c d h))
 
-  own_builds : type_rows_at text words own (get_or types k 0) ≡ type_rows_at text words extensions (get_or types k 0)
+  part_built : (k : ℕ) → k < length types →
+      type_rows_at text words (own_extensions extensions starts ends (get_or types k 0)) (get_or types k 0) ≡ type_rows_at text words extensions (get_or types k 0)
   unfolding type_rows_at
-  own_builds =
+  part_built k k-t =
       let c = get_or types k 0 in
-      ap (λ (l : List ℕ). type_row_at words c ∷ lists_at text words (matching text words l c) c) is
-      ∙ ap (λ (l : List ℕ). type_row_at words c ∷ lists_at text words l c) part_matching
+      ap (λ (l : List ℕ). type_row_at words c ∷ lists_at text words l c) (part_matching k k-t)
+
+  pub spanned_parted : Parted text words types extensions starts ends
+  spanned_parted = record { starts_length = s.starts_length; ends_length = s.ends_length; part_builds = part_built }
+
+module _ {text words types extensions starts ends : List ℕ} (x : Parted text words types extensions starts ends) (k : ℕ) (k-t : k < length types)
+    (own : List ℕ) (is : own ≡ own_extensions extensions starts ends (get_or types k 0)) where
+  own_builds : type_rows_at text words own (get_or types k 0) ≡ type_rows_at text words extensions (get_or types k 0)
+  own_builds = ap (λ (l : List ℕ). type_rows_at text words l (get_or types k 0)) is ∙ x.part_builds k k-t
 
   pub own_capacity : (s : Filled) (rows : List ℕ) → Fits rows (pushed (type_rows_at text words extensions (get_or types k 0)) s) →
       Fits rows (pushed (type_rows_at text words own (get_or types k 0)) s)
@@ -66,21 +75,18 @@ module _ {text words headings owners types orphan_cards extensions starts ends :
   pub own_pushed : (s : Filled) → pushed (type_rows_at text words own (get_or types k 0)) s ≡ pushed (type_rows_at text words extensions (get_or types k 0)) s
   own_pushed s = ap (λ (l : List Row). pushed l s) own_builds
 
+module _ (extensions starts ends : List ℕ) (c : ℕ) (own : List ℕ) (is : own ≡ own_extensions extensions starts ends c) where
   pub own_most : length own ≤ length extensions
   unfolding own_extensions
-  own_most =
-      let start = get_or starts (get_or types k 0) 0 in
-      let end = get_or ends (get_or types k 0) 0 in
-      omega (arith, ap length is, part_most start end extensions)
+  own_most = omega (arith, ap length is, part_most (get_or starts c 0) (get_or ends c 0) extensions)
 
-  pub own_stored : Stored words own
+  pub own_stored : (words : List ℕ) → Stored words extensions → Stored words own
   unfolding own_extensions
-  own_stored = record { stored = λ i h. entry i h }
+  own_stored words x = record { stored = λ i h. entry i h }
     where
       entry : (i : ℕ) → i < length own → get_or own i 0 < cards_used_of words
       entry i h =
-          let start = get_or starts (get_or types k 0) 0 in
-          let end = get_or ends (get_or types k 0) 0 in
-          let w = part_entry start end extensions i (omega (arith, ap length is)) in
+          let start = get_or starts c 0 in
+          let w = part_entry start (get_or ends c 0) extensions i (omega (arith, ap length is)) in
           let at : get_or own i 0 ≡ get_or extensions (start + i) 0 = ap (λ (ns : List ℕ). get_or ns i 0) is ∙ w.0 in
-          rw at (x.extensions_stored (start + i) w.1)
+          rw at (x.stored (start + i) w.1)

@@ -8,6 +8,7 @@ ghost use Rattle.definition.specs.Catalogue.{default_name};
 ghost use Rattle.definition.specs.Store.{cards_used_of};
 ghost use Rattle.component.specs.Pushed.{HasRoom, Becomes, pushed};
 ghost use Rattle.component.specs.RowsByCards.{
+  Stored,
   schema_card,
   extend_by_schema_extensions,
   is_type_kind,
@@ -25,7 +26,7 @@ ghost use Rattle.component.specs.RowsByCards.{
 
 use ast::kinds;
 use component::{Row, Rows};
-use from_ast_index::{Collection, Index};
+use from_ast_index::Collection;
 
 // The kinds of the schema's lists in their order: its directive uses, then the roots, each in a list of at most one.
 const LISTS: [u32; 4] = [
@@ -37,23 +38,26 @@ const LISTS: [u32; 4] = [
 
 // How the schema is made: the card of its definition, if there is one; whether orphans are adopted; and whether default roots belong to it.
 #[derive(Clone, Copy)]
-struct Schema<'a> {
-    index: Index<'a>,
-    card: Option<u32>,
-    adopt: bool,
-    implicit: bool,
-    ghost card_stored: { (c : ℕ) → card ≡ Some c → c < cards_used_of index.collection.words.now },
+pub struct Schema<'a> {
+    pub collection: Collection<'a>,
+    pub headings: &'a [u32],
+    pub card: Option<u32>,
+    pub adopt: bool,
+    pub implicit: bool,
+    ghost headings_stored: { Stored collection.words.now headings.now },
+    ghost card_stored: { (c : ℕ) → card ≡ Some c → c < cards_used_of collection.words.now },
 }
 
 // The card of the schema definition, which is the first one.
 #[tactic(auto, using(crate::proofs::SchemaTurns::first_hit, crate::proofs::SchemaTurns::first_miss, crate::proofs::SchemaTurns::first_end, crate::proofs::SchemaTurns::schema_is, crate::proofs::SchemaTurns::schema_not), unfolding(component::specs::RowsByCards::schema_card))]
-fn schema_definition(index: &Index) -> Option<u32>
+fn schema_definition(collection: &Collection, headings: &[u32]) -> Option<u32>
+    requires { Stored collection.now.words.now headings.now }
     ensures first { unwrap_or result absent
-        ≡ schema_card index.now.collection.words.now index.now.headings.now }
-    ensures stored { (c : ℕ) → result ≡ Some c → c < cards_used_of index.now.collection.words.now }
+        ≡ schema_card collection.now.words.now headings.now }
+    ensures stored { (c : ℕ) → result ≡ Some c → c < cards_used_of collection.now.words.now }
 {
-    for card in index.headings {
-        if index.collection.kind(*card) == kinds::SCHEMA_DEFINITION {
+    for card in headings {
+        if collection.kind(*card) == kinds::SCHEMA_DEFINITION {
             return Some(*card);
         }
     }
@@ -74,18 +78,23 @@ fn is_type_kind(kind: u32, extending: bool) -> bool
 
 // The kind of the first heading of a name that extends a type or, where no extension is sought, defines one.
 #[tactic(auto, using(crate::proofs::SchemaTurns::first_hit, crate::proofs::SchemaTurns::first_miss, crate::proofs::SchemaTurns::first_end, crate::proofs::SchemaTurns::named_other, crate::proofs::SchemaTurns::named_is, crate::proofs::SchemaTurns::kind_some), unfolding(component::specs::RowsByCards::first_kind))]
-fn first_kind(index: &Index, extending: bool, name: &[u8]) -> Option<u32>
+fn first_kind(
+    collection: &Collection,
+    headings: &[u32],
+    extending: bool,
+    name: &[u8],
+) -> Option<u32>
     ensures first { unwrap_or result 0
-        ≡ first_kind index.now.collection.text.now index.now.collection.words.now index.now.headings.now extending
+        ≡ first_kind collection.now.text.now collection.now.words.now headings.now extending
         name.now }
     ensures kind { MatchOption result ⊤ (λ k. 0 < k) }
 {
-    for card in index.headings {
-        let kind = index.collection.kind(*card);
+    for card in headings {
+        let kind = collection.kind(*card);
         if !is_type_kind(kind, extending) {
             continue;
         }
-        if name::same(name, index.collection.name(*card)) {
+        if name::same(name, collection.name(*card)) {
             return Some(kind);
         }
     }
@@ -94,15 +103,15 @@ fn first_kind(index: &Index, extending: bool, name: &[u8]) -> Option<u32>
 
 // The kind of the type of a name: that of its definition, else, adopting, the one that its first extension extends.
 #[tactic(auto, using(crate::proofs::SchemaTurns::kind_defined, crate::proofs::SchemaTurns::kind_none, crate::proofs::SchemaTurns::kind_adopted), unfolding(definition::specs::Cards::definition_of))]
-fn kind_named(index: &Index, adopt: bool, name: &[u8]) -> Option<u32>
+fn kind_named(collection: &Collection, headings: &[u32], adopt: bool, name: &[u8]) -> Option<u32>
     ensures { unwrap_or result 0
-        ≡ kind_named_at index.now.collection.text.now index.now.collection.words.now adopt index.now.headings.now
+        ≡ kind_named_at collection.now.text.now collection.now.words.now adopt headings.now
         name.now }
 {
-    match first_kind(index, false, name) {
+    match first_kind(collection, headings, false, name) {
         Some(kind) => Some(kind),
         None if adopt => {
-            let extended = first_kind(index, true, name)?;
+            let extended = first_kind(collection, headings, true, name)?;
             Some(kinds::definition_of(extended))
         }
         None => None,
@@ -124,23 +133,24 @@ fn default_name(kind: u32) -> &'static [u8]
 
 // Whether an object type has the default name of a root operation.
 #[tactic(auto, using(crate::proofs::SchemaTurns::default_is, crate::proofs::SchemaTurns::some_six))]
-fn is_default_object(index: &Index, adopt: bool, kind: u32) -> bool
+fn is_default_object(collection: &Collection, headings: &[u32], adopt: bool, kind: u32) -> bool
     requires { is_root kind ≡ true }
     ensures { result
-        ≡ has_default index.now.collection.text.now index.now.collection.words.now adopt index.now.headings.now kind }
+        ≡ has_default collection.now.text.now collection.now.words.now adopt headings.now kind }
 {
-    kind_named(index, adopt, default_name(kind)) == Some(kinds::OBJECT_TYPE_DEFINITION)
+    kind_named(collection, headings, adopt, default_name(kind))
+        == Some(kinds::OBJECT_TYPE_DEFINITION)
 }
 
 // Whether there is a default root.
 #[tactic(auto, using(crate::proofs::SchemaTurns::some_first, crate::proofs::SchemaTurns::some_second, crate::proofs::SchemaTurns::some_third, from_ast_index::proofs::Lists::never), unfolding(definition::specs::Cards::is_root))]
-fn has_implicit_root_operation(index: &Index, adopt: bool) -> bool
+fn has_implicit_root_operation(collection: &Collection, headings: &[u32], adopt: bool) -> bool
     ensures { result
-        ≡ any_default index.now.collection.text.now index.now.collection.words.now adopt index.now.headings.now }
+        ≡ any_default collection.now.text.now collection.now.words.now adopt headings.now }
 {
-    is_default_object(index, adopt, kinds::QUERY)
-        || is_default_object(index, adopt, kinds::MUTATION)
-        || is_default_object(index, adopt, kinds::SUBSCRIPTION)
+    is_default_object(collection, headings, adopt, kinds::QUERY)
+        || is_default_object(collection, headings, adopt, kinds::MUTATION)
+        || is_default_object(collection, headings, adopt, kinds::SUBSCRIPTION)
 }
 
 // Whether a heading is a schema extension that has a root.
@@ -166,11 +176,12 @@ fn sets_root(collection: &Collection, card: u32) -> bool
 
 // Whether any schema extension has a root.
 #[tactic(auto, using(crate::proofs::SchemaTurns::any_hit, crate::proofs::SchemaTurns::any_miss, crate::proofs::SchemaTurns::any_end))]
-fn any_root(index: &Index) -> bool
-    ensures { result ≡ any (sets_root index.now.collection.words.now) index.now.headings.now }
+fn any_root(collection: &Collection, headings: &[u32]) -> bool
+    requires { Stored collection.now.words.now headings.now }
+    ensures { result ≡ any (sets_root collection.now.words.now) headings.now }
 {
-    for card in index.headings {
-        if sets_root(&index.collection, *card) {
+    for card in headings {
+        if sets_root(collection, *card) {
             return true;
         }
     }
@@ -179,14 +190,15 @@ fn any_root(index: &Index) -> bool
 
 // Whether default roots belong to a schema that has no definition: adopting, if its extensions set no root, and else if there are any.
 #[tactic(auto, using(crate::proofs::SchemaTurns::implicit_adopting, crate::proofs::SchemaTurns::implicit_unadopting))]
-fn is_implicit(index: &Index, adopt: bool) -> bool
+fn is_implicit(collection: &Collection, headings: &[u32], adopt: bool) -> bool
+    requires { Stored collection.now.words.now headings.now }
     ensures { result
-        ≡ is_implicit index.now.collection.text.now index.now.collection.words.now adopt index.now.headings.now }
+        ≡ is_implicit collection.now.text.now collection.now.words.now adopt headings.now }
 {
     if adopt {
-        return !any_root(index);
+        return !any_root(collection, headings);
     }
-    has_implicit_root_operation(index, false)
+    has_implicit_root_operation(collection, headings, false)
 }
 
 impl<'a> Schema<'a> {
@@ -196,17 +208,17 @@ impl<'a> Schema<'a> {
     fn extend_by_extensions(&self, start: usize, kind: u32, rows: &mut Rows)
         requires begun { start ≤ rows.old.used }
         requires room { HasRoom rows.old
-            (extend_by_schema_extensions self.now.index.collection.text.now self.now.index.collection.words.now kind
-            self.now.index.headings.now start) }
+            (extend_by_schema_extensions self.now.collection.text.now self.now.collection.words.now kind
+            self.now.headings.now start) }
         ensures { Becomes rows.old rows.new
-            (extend_by_schema_extensions self.now.index.collection.text.now self.now.index.collection.words.now kind
-            self.now.index.headings.now start) }
+            (extend_by_schema_extensions self.now.collection.text.now self.now.collection.words.now kind
+            self.now.headings.now start) }
     {
-        for card in self.index.headings {
-            if self.index.collection.kind(*card) != kinds::SCHEMA_EXTENSION {
+        for card in self.headings {
+            if self.collection.kind(*card) != kinds::SCHEMA_EXTENSION {
                 continue;
             }
-            rows.extend_ast(&self.index.collection, start, kind, *card, Some(*card));
+            rows.extend_ast(&self.collection, start, kind, *card, Some(*card));
         }
     }
 
@@ -214,16 +226,16 @@ impl<'a> Schema<'a> {
     #[tactic(auto, using(component::proofs::Turns::extended_nothing, crate::proofs::SchemaTurns::no_default, crate::proofs::SchemaTurns::default_unset, crate::proofs::SchemaTurns::default_set))]
     fn add_implicit_root(&self, start: usize, kind: u32, rows: &mut Rows)
         requires { HasRoom rows.old
-            (extend_by_default self.now.index.collection.text.now self.now.index.collection.words.now self.now.adopt
-            self.now.index.headings.now kind start) }
+            (extend_by_default self.now.collection.text.now self.now.collection.words.now self.now.adopt
+            self.now.headings.now kind start) }
         ensures { Becomes rows.old rows.new
-            (extend_by_default self.now.index.collection.text.now self.now.index.collection.words.now self.now.adopt
-            self.now.index.headings.now kind start) }
+            (extend_by_default self.now.collection.text.now self.now.collection.words.now self.now.adopt
+            self.now.headings.now kind start) }
     {
         if !kinds::is_root(kind) {
             return;
         }
-        if !is_default_object(&self.index, self.adopt, kind) {
+        if !is_default_object(&self.collection, self.headings, self.adopt, kind) {
             return;
         }
         let row = Row {
@@ -231,7 +243,7 @@ impl<'a> Schema<'a> {
             card: None,
             origin: None,
         };
-        rows.extend_sticky(&self.index.collection, start, row);
+        rows.extend_sticky(&self.collection, start, row);
     }
 
     // Pushes one list of the schema. With a definition: its parts, then those of the extensions. Without one, adopting: the extensions', then the
@@ -239,16 +251,16 @@ impl<'a> Schema<'a> {
     fn push_list(&self, kind: u32, rows: &mut Rows)
         requires { HasRoom rows.old
             (pushed
-            (schema_list_at self.now.index.collection.text.now self.now.index.collection.words.now self.now.adopt
-            self.now.index.headings.now (unwrap_or self.now.card absent) self.now.implicit kind)) }
+            (schema_list_at self.now.collection.text.now self.now.collection.words.now self.now.adopt
+            self.now.headings.now (unwrap_or self.now.card absent) self.now.implicit kind)) }
         ensures { Becomes rows.old rows.new
             (pushed
-            (schema_list_at self.now.index.collection.text.now self.now.index.collection.words.now self.now.adopt
-            self.now.index.headings.now (unwrap_or self.now.card absent) self.now.implicit kind)) }
+            (schema_list_at self.now.collection.text.now self.now.collection.words.now self.now.adopt
+            self.now.headings.now (unwrap_or self.now.card absent) self.now.implicit kind)) }
     {
         let start = rows.used;
         if let Some(card) = self.card {
-            rows.extend_ast(&self.index.collection, start, kind, card, None);
+            rows.extend_ast(&self.collection, start, kind, card, None);
             self.extend_by_extensions(start, kind, rows);
             return;
         }
@@ -271,12 +283,12 @@ impl<'a> Schema<'a> {
     fn push_lists(&self, rows: &mut Rows)
         requires { HasRoom rows.old
             (pushed
-            (schema_lists_at self.now.index.collection.text.now self.now.index.collection.words.now self.now.adopt
-            self.now.index.headings.now (unwrap_or self.now.card absent) self.now.implicit)) }
+            (schema_lists_at self.now.collection.text.now self.now.collection.words.now self.now.adopt
+            self.now.headings.now (unwrap_or self.now.card absent) self.now.implicit)) }
         ensures { Becomes rows.old rows.new
             (pushed
-            (schema_lists_at self.now.index.collection.text.now self.now.index.collection.words.now self.now.adopt
-            self.now.index.headings.now (unwrap_or self.now.card absent) self.now.implicit)) }
+            (schema_lists_at self.now.collection.text.now self.now.collection.words.now self.now.adopt
+            self.now.headings.now (unwrap_or self.now.card absent) self.now.implicit)) }
     {
         for kind in LISTS {
             self.push_list(kind, rows);
@@ -285,19 +297,21 @@ impl<'a> Schema<'a> {
 }
 
 // Pushes the schema: its row and its lists.
-pub fn push_schema(index: &Index, adopt: bool, rows: &mut Rows)
-    requires { HasRoom rows.old
+pub fn push_schema(collection: &Collection, headings: &[u32], adopt: bool, rows: &mut Rows)
+    requires stored { Stored collection.now.words.now headings.now }
+    requires room { HasRoom rows.old
         (pushed
-        (schema_rows_at index.now.collection.text.now index.now.collection.words.now adopt index.now.headings.now)) }
+        (schema_rows_at collection.now.text.now collection.now.words.now adopt headings.now)) }
     ensures { Becomes rows.old rows.new
         (pushed
-        (schema_rows_at index.now.collection.text.now index.now.collection.words.now adopt index.now.headings.now)) }
+        (schema_rows_at collection.now.text.now collection.now.words.now adopt headings.now)) }
 {
     let schema = Schema {
-        index: *index,
-        card: schema_definition(index),
+        collection: *collection,
+        headings,
+        card: schema_definition(collection, headings),
         adopt,
-        implicit: is_implicit(index, adopt),
+        implicit: is_implicit(collection, headings, adopt),
     };
     rows.push(Row {
         what: kinds::SCHEMA_DEFINITION,

@@ -2,11 +2,10 @@
 ghost use Rattle.std.specs.Prelude.{◌≡◌, ◌∷◌, [], ◌+◌, ◌*◌, ◌≤◌, ◌<◌, length};
 ghost use Rattle.definition.specs.Store.{cards_used_of};
 ghost use Rattle.component.specs.Pushed.{HasRoom, Becomes, pushed};
-ghost use Rattle.from_ast_index.specs.Index.{is_type_extension_kind};
+ghost use Rattle.from_ast_index.specs.Index.{is_type_extension_kind, own_extensions};
 ghost use Rattle.store_reader.specs.Stored.{card_kind};
 ghost use Rattle.component.specs.RowsByCards.{
   Stored,
-  extend_by_extensions,
   list_at,
   lists_at,
   type_row_at,
@@ -14,11 +13,12 @@ ghost use Rattle.component.specs.RowsByCards.{
   types_rows_at,
   all_types_rows_at,
 };
+ghost use Rattle.from_ast_rows.specs.Parted.{Parted};
 
-use crate::extensions::list_matching;
+use crate::extensions::{list_matching, type_extensions};
 use ast::kinds;
 use component::{Row, Rows};
-use from_ast_index::{Collection, Index};
+use from_ast_index::Collection;
 
 // The kinds of a type's lists in their order; those of kinds that a type lacks are empty.
 const LISTS: [u32; 6] = [
@@ -56,21 +56,6 @@ impl<'a> Type<'a> {
         });
     }
 
-    // Extends a list of the type by the extensions that it takes in.
-    #[tactic(auto, using(component::proofs::Loops::extends_first, component::proofs::Loops::extends_last), unfolding(component::specs::RowsByCards::extension_rows))]
-    fn extend_by_extensions(&self, start: usize, kind: u32, rows: &mut Rows)
-        requires begun { start ≤ rows.old.used }
-        requires room { HasRoom rows.old
-            (extend_by_extensions self.now.collection.text.now self.now.collection.words.now kind self.now.extensions.now start) }
-        ensures { Becomes rows.old rows.new
-            (extend_by_extensions self.now.collection.text.now self.now.collection.words.now kind
-            self.now.extensions.now start) }
-    {
-        for card in self.extensions {
-            rows.extend_ast(&self.collection, start, kind, *card, Some(*card));
-        }
-    }
-
     // Pushes one list of the type: of a definition its own parts and then those of its extensions, of an adopted type only these.
     #[tactic(auto, using(component::proofs::Loops::two_first, component::proofs::Loops::two_second, component::proofs::Turns::list_defined), unfolding(component::specs::RowsByCards::list_at))]
     fn collect_sticky(&self, kind: u32, rows: &mut Rows)
@@ -83,11 +68,11 @@ impl<'a> Type<'a> {
     {
         let start = rows.used;
         if self.adopted {
-            self.extend_by_extensions(start, kind, rows);
+            type_extensions(&self.collection, self.extensions, start, kind, rows);
             return;
         }
         rows.extend_ast(&self.collection, start, kind, self.card, None);
-        self.extend_by_extensions(start, kind, rows);
+        type_extensions(&self.collection, self.extensions, start, kind, rows);
     }
 
     // Pushes the lists of the type.
@@ -131,42 +116,72 @@ fn push_type(
     taken.collect_lists(rows);
 }
 
+// What the types are made from: the cards of the defined types, of the first orphan of each name and of all type extensions. `starts` and `ends` tell
+// of a defined type in which part of all extensions its own stand.
+#[derive(Clone, Copy)]
+pub struct TypeLists<'a> {
+    pub collection: Collection<'a>,
+    pub types: &'a [u32],
+    pub orphans: &'a [u32],
+    pub extensions: &'a [u32],
+    pub starts: &'a [u32],
+    pub ends: &'a [u32],
+    ghost types_stored: { Stored collection.words.now types.now },
+    ghost orphans_stored: { Stored collection.words.now orphans.now },
+    ghost extensions_stored: { Stored collection.words.now extensions.now },
+    ghost parted: { Parted collection.text.now collection.words.now types.now extensions.now starts.now ends.now },
+}
+
+impl<'a> TypeLists<'a> {
+    // The part of all extensions in which those of a type stand.
+    #[tactic(auto, using(from_ast_index::proofs::Spans::part_clipped), unfolding(from_ast_index::specs::Index::own_extensions))]
+    fn own_extensions(&self, card: u32) -> &'a [u32]
+        requires { card < cards_used_of self.now.collection.words.now }
+        ensures { result.now
+            ≡ own_extensions self.now.extensions.now self.now.starts.now self.now.ends.now card }
+    {
+        let end = (self.ends[card as usize] as usize).min(self.extensions.len());
+        let start = (self.starts[card as usize] as usize).min(end);
+        &self.extensions[start..end]
+    }
+}
+
 // Pushes the adopted types, the first orphans of each name. No array tells where their extensions stand, so each walks all.
 // Stays: beside push_defined_types it has one loop with one call; one function with a closure for the extensions would be longer than both.
 #[tactic(auto, using(component::proofs::Loops::pushes_first, component::proofs::Loops::pushes_last))]
-fn push_adopted_types(index: &Index, mine: &mut [u32], rows: &mut Rows)
-    requires few { length index.now.extensions.now ≤ length mine.old }
+fn push_adopted_types(lists: &TypeLists, mine: &mut [u32], rows: &mut Rows)
+    requires few { length lists.now.extensions.now ≤ length mine.old }
     requires room { HasRoom rows.old
         (pushed
-        (types_rows_at index.now.collection.text.now index.now.collection.words.now index.now.orphans.now
-        index.now.extensions.now)) }
+        (types_rows_at lists.now.collection.text.now lists.now.collection.words.now lists.now.orphans.now
+        lists.now.extensions.now)) }
     ensures { Becomes rows.old rows.new
         (pushed
-        (types_rows_at index.now.collection.text.now index.now.collection.words.now index.now.orphans.now
-        index.now.extensions.now)) }
+        (types_rows_at lists.now.collection.text.now lists.now.collection.words.now lists.now.orphans.now
+        lists.now.extensions.now)) }
 {
-    for card in index.orphans {
-        push_type(&index.collection, index.extensions, *card, mine, rows);
+    for card in lists.orphans {
+        push_type(&lists.collection, lists.extensions, *card, mine, rows);
     }
 }
 
 // Pushes the defined types, each with the part of all extensions in which its own stand: a walk over all of them for each type takes long.
 #[tactic(auto, using(component::proofs::Loops::pushes_first, component::proofs::Loops::pushes_last))]
-fn push_defined_types(index: &Index, mine: &mut [u32], rows: &mut Rows)
-    requires few { length index.now.extensions.now ≤ length mine.old }
+fn push_defined_types(lists: &TypeLists, mine: &mut [u32], rows: &mut Rows)
+    requires few { length lists.now.extensions.now ≤ length mine.old }
     requires room { HasRoom rows.old
         (pushed
-        (types_rows_at index.now.collection.text.now index.now.collection.words.now index.now.types.now
-        index.now.extensions.now)) }
+        (types_rows_at lists.now.collection.text.now lists.now.collection.words.now lists.now.types.now
+        lists.now.extensions.now)) }
     ensures { Becomes rows.old rows.new
         (pushed
-        (types_rows_at index.now.collection.text.now index.now.collection.words.now index.now.types.now
-        index.now.extensions.now)) }
+        (types_rows_at lists.now.collection.text.now lists.now.collection.words.now lists.now.types.now
+        lists.now.extensions.now)) }
 {
-    for card in index.types {
+    for card in lists.types {
         push_type(
-            &index.collection,
-            index.own_extensions(*card),
+            &lists.collection,
+            lists.own_extensions(*card),
             *card,
             mine,
             rows,
@@ -175,20 +190,20 @@ fn push_defined_types(index: &Index, mine: &mut [u32], rows: &mut Rows)
 }
 
 // Pushes the defined types and then, adopting, those that the first orphans of each name make.
-pub fn push_all_types(index: &Index, adopt: bool, mine: &mut [u32], rows: &mut Rows)
-    requires few { length index.now.extensions.now ≤ length mine.old }
+pub fn push_all_types(lists: &TypeLists, adopt: bool, mine: &mut [u32], rows: &mut Rows)
+    requires few { length lists.now.extensions.now ≤ length mine.old }
     requires room { HasRoom rows.old
         (pushed
-        (all_types_rows_at index.now.collection.text.now index.now.collection.words.now adopt index.now.types.now
-        index.now.orphans.now index.now.extensions.now)) }
+        (all_types_rows_at lists.now.collection.text.now lists.now.collection.words.now adopt lists.now.types.now
+        lists.now.orphans.now lists.now.extensions.now)) }
     ensures { Becomes rows.old rows.new
         (pushed
-        (all_types_rows_at index.now.collection.text.now index.now.collection.words.now adopt index.now.types.now
-        index.now.orphans.now index.now.extensions.now)) }
+        (all_types_rows_at lists.now.collection.text.now lists.now.collection.words.now adopt lists.now.types.now
+        lists.now.orphans.now lists.now.extensions.now)) }
 {
-    push_defined_types(index, mine, rows);
+    push_defined_types(lists, mine, rows);
     if !adopt {
         return;
     }
-    push_adopted_types(index, mine, rows);
+    push_adopted_types(lists, mine, rows);
 }

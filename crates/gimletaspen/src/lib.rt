@@ -81,7 +81,7 @@ fn copy_name(found: &[u8], name: &mut [u8]) -> usize
         × (name.new ≡ copied_name name.old found.now) }
 {
     if found.len() <= name.len() {
-        name[..found.len()].copy_from_slice(found);
+        store::copying::copy_text(name, found);
     }
     found.len()
 }

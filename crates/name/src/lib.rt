@@ -46,8 +46,8 @@ pub fn bytes_at(text: &[u8], at: usize, len: usize) -> &[u8]
     &rest[..len.min(rest.len())]
 }
 
+// The only place where the bytes of two names are compared: the first byte in which they differ decides, and a shorter beginning is before.
 // Stays: the body is std's `cmp`; the function gives it the definition's word for the order of names.
-// The only place where the order of two names is told: the first byte in which they differ decides, and a shorter beginning is before.
 #[tactic(auto, using(definition::proofs::NamesInOrder::names_by_std))]
 pub fn compare(a: &[u8], b: &[u8]) -> Ordering
     ensures { result ≡ compare_names a.now b.now }
@@ -55,13 +55,12 @@ pub fn compare(a: &[u8], b: &[u8]) -> Ordering
     a.cmp(b)
 }
 
-// Whether two names are the same.
-// Stays: the body is std's `==`; the function gives it the definition's word for the same name.
-#[tactic(auto, using(crate::proofs::Laws::same_decided))]
+// Whether two names are the same, by their order.
+#[tactic(auto, unfolding(definition::specs::Names::same_name))]
 pub fn same(a: &[u8], b: &[u8]) -> bool
     ensures { result ≡ same_name a.now b.now }
 {
-    a == b
+    compare(a, b).is_eq()
 }
 
 // Whether two spans of one text have the same name.

@@ -26,9 +26,9 @@ impl<'a> Sought<'a> {
 
 // The names of cards, each with its hash.
 #[derive(Clone, Copy)]
-pub struct HashedNames<'a> {
-    pub names: Names<'a>,
-    pub hashes: &'a [u32],
+pub struct HashedNames<'text, 'lent> {
+    pub names: Names<'text, 'lent>,
+    pub hashes: &'lent [u32],
     pub ghost hashed: { HashesAre (named names) (count names) hashes.now },
 }
 
@@ -42,7 +42,7 @@ pub fn hash_names(names: Names, hashes: &mut [u32])
     }
 }
 
-impl<'a> HashedNames<'a> {
+impl<'text> HashedNames<'text, '_> {
     // Whether a card has the name, which may be that of no card: by their hashes first, then by the bytes.
     pub fn has_name(self, card: u32, sought: Sought) -> bool
         requires { card < count self.names }
@@ -53,7 +53,7 @@ impl<'a> HashedNames<'a> {
     }
 
     // The name of a card, to be sought among the others.
-    pub fn sought(self, card: u32) -> Sought<'a>
+    pub fn sought(self, card: u32) -> Sought<'text>
         requires { card < count self.names }
         ensures { result.name.now ≡ named self.entry.names card }
     {

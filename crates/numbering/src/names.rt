@@ -5,14 +5,14 @@ ghost use Rattle.numbering.specs.Numbers.{one_name};
 
 use definition::layout::CARD_WORDS;
 
-// The cards of a text.
+// The cards of a text. A name is a part of the text alone, and may be kept longer than the cards are lent.
 #[derive(Clone, Copy)]
-pub struct Names<'a> {
-    pub text: &'a [u8],
-    pub cards: &'a [u32],
+pub struct Names<'text, 'cards> {
+    pub text: &'text [u8],
+    pub cards: &'cards [u32],
 }
 
-impl<'a> Names<'a> {
+impl<'text> Names<'text, '_> {
     // How many cards are whole.
     pub fn count(self) -> usize
         ensures { result ≡ count self.entry }
@@ -21,7 +21,7 @@ impl<'a> Names<'a> {
     }
 
     // The name of a card. Words that are missing count as 0, and so the name is empty.
-    pub fn name(self, card: usize) -> &'a [u8]
+    pub fn name(self, card: usize) -> &'text [u8]
         ensures { result.now ≡ named self.entry card }
     {
         let card = ast::card_at(self.cards, card);

@@ -8,6 +8,7 @@ use Rattle.parser_laws.specs.Standing.{standing}
 use Rattle.parser_lexer.specs.Ahead.{Ahead}
 use Rattle.parser_lexer.specs.declared.cursor.Cursor.{Cursor}
 use Rattle.parser_values.specs.Reads.{End, goes_on, Ready, Stays, Moves}
+use Rattle.parser_items.specs.declared.cards.ItemEnd.{ItemEnd}
 
 abbrev pub card_of : ℕ → ℕ → ℕ → ℕ → ℕ → Card
 card_of k at size name n = record { kind = k; item_at = at; item_len = size; name_at = name; name_len = n }
@@ -15,6 +16,10 @@ card_of k at size name n = record { kind = k; item_at = at; item_len = size; nam
 -- The card of an item of a kind whose first token stands ahead of `first` and whose name ahead of `name`, and that ends at a place.
 abbrev pub item_card : ℕ → Cursor → Cursor → ℕ → Card
 item_card k first name end = card_of k first.begins (end - first.begins) name.begins (name.ends - name.begins)
+
+-- What is told behind an item: what c tells, with one card more than where the item began.
+abbrev pub one_more : Cursor → Cursor → ItemEnd
+one_more first c = record { sort = c.sort; begins = c.begins; ends = c.ends; last = c.last; cards = first.cards + 1 }
 
 -- The cursor k behind an item: that of c, with one card more than where the item began.
 abbrev pub OneMore : Cursor → Cursor → Cursor → Type 0

@@ -1,25 +1,23 @@
 -- The laws of a comment.
-use mathlib.Core.Path.{◌≡◌, refl, sym, ap, ◌∙◌}
+use mathlib.Core.Path.{◌≡◌, refl, sym, ◌∙◌}
 use mathlib.Core.List.{List, [], ◌∷◌}
 use mathlib.Core.Logic.{inl, inr}
 use mathlib.Core.Bool.{Bool, true, false, ◌||◌}
 use Prim.Native.Nat.{ℕ, zero, suc, ◌+◌, ◌-◌, ◌≤◌, ◌<◌}
 use native.Mathlib.Omega.{arith}
-use borrow.Author.Tests.{ne_eqb, eqb-true, eqb-false, leb-true, le-leb}
+use borrow.Author.Tests.{ne_eqb, eqb-true, eqb-false, leb-true}
 use lib.Dec.{eqb, leb}
 use lib.ListN.{length, get_or, drop, length-drop}
 use lib.Seq.{drop-drop}
-use Rattle.std.proofs.lemmas.List.Sums.{prefix_len-le-length}
 use types.Run.{OneOf}
 use Rattle.definition.specs.Lists.{choose}
-use Rattle.definition.specs.Lexical.{between, run, character, ends_line, comment}
+use Rattle.definition.specs.Lexical.{between, character, ends_line, comment}
 use Rattle.parser_laws.proofs.Gluing.{character_size}
 use Rattle.parser_laws.proofs.Tests.{both}
 use Rattle.std.specs.Prelude.{Some, None}
 use Rattle.parser_lexer.specs.Comments.{CommentPart}
 use Rattle.parser_lexer.specs.Measures.{counted}
 use Rattle.parser_lexer.proofs.CharacterLaws.{by_three, of_one}
-use Rattle.parser_lexer.proofs.NameLaws.{run_prefix}
 
 -- ---- The bytes that a character takes.
 
@@ -96,39 +94,11 @@ line_taken bs l o = one_taken bs 0 l (rw (line_ends (get_or bs 0 0) o))
 pub other_taken : (bs : List ℕ) → 0 < length bs → (OneOf (10 ∷ 13 ∷ []) (get_or bs 0 0) → ⊥) → CommentPart bs (counted (character bs))
 other_taken bs l n = one_taken bs (character bs) l (rw (no_end (get_or bs 0 0) (λ e. n (inl e)) (λ e. n (inr e))))
 
--- A row of ASCII takes as many bytes as it has.
-one_on : (b : ℕ) (bs : List ℕ) → between 32 127 b ≡ true → comment 0 (b ∷ bs) ≡ 1 + comment 0 bs
-one_on b bs e =
-    let p = both (leb 32 b) (leb b 127) e in
-    (comment_on (b ∷ bs) 1 (omega arith) (one_of_ascii (b ∷ bs) (leb-true 32 b p.0) (leb-true b 127 p.1)) (omega arith)).1
-
-row_on : (bs : List ℕ) → comment 0 bs ≡ run (between 32 127) bs + comment 0 (drop (run (between 32 127) bs) bs)
-unfolding run
-row_on [] = omega arith
-row_on (b ∷ bs) = go (between 32 127 b) refl (row_on bs)
-  where
-    n : ℕ
-    n = run (between 32 127) bs
-
-    go : (t : Bool) → between 32 127 b ≡ t → comment 0 bs ≡ n + comment 0 (drop n bs) →
-        comment 0 (b ∷ bs) ≡ choose t (1 + n) 0 + comment 0 (drop (choose t (1 + n) 0) (b ∷ bs))
-    go true e h =
-        let z : suc n ≡ 1 + n = omega arith in
-        let k : comment 0 (drop (suc n) (b ∷ bs)) ≡ comment 0 (drop (1 + n) (b ∷ bs)) = ap (λ (m : ℕ). comment 0 (drop m (b ∷ bs))) z in
-        omega (arith, one_on b bs e)
-    go false e h = omega arith
-
-pub row_taken : (bs : List ℕ) (n : ℕ) → 32 ≤ get_or bs 0 0 → get_or bs 0 0 ≤ 127 → n ≡ run (between 32 127) bs → CommentPart bs (Some n)
-unfolding run
-row_taken bs n h k p =
-    let z = positive bs h k p in
-    let w : n ≤ length bs = rw (p, run_prefix (between 32 127) bs) (prefix_len-le-length (between 32 127) bs) in
-    let g : comment 0 bs ≡ n + comment 0 (drop n bs) = rw p (row_on bs) in
-    (omega arith, w, g)
-  where
-    positive : (bs : List ℕ) → 32 ≤ get_or bs 0 0 → get_or bs 0 0 ≤ 127 → n ≡ run (between 32 127) bs → n ≡ 0 → ⊥
-    positive [] h k p z = omega arith
-    positive (b ∷ bs) h k p z = let q : run (between 32 127) (b ∷ bs) ≡ 1 + run (between 32 127) bs = rw (le-leb 32 b h, le-leb b 127 k) in omega arith
+-- A byte of ASCII goes it on by one.
+pub one_on : (bs : List ℕ) → 0 < length bs → between 32 127 (get_or bs 0 0) ≡ true → comment 0 bs ≡ 1 + comment 0 (drop 1 bs)
+one_on bs l e =
+    let p = both (leb 32 (get_or bs 0 0)) (leb (get_or bs 0 0) 127) e in
+    (comment_on bs 1 l (one_of_ascii bs (leb-true 32 _ p.0) (leb-true _ 127 p.1)) (omega arith)).1
 
 -- ---- A turn.
 

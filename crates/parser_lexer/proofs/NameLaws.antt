@@ -5,7 +5,7 @@ use mathlib.Core.Bool.{Bool, true, false, ◌&&◌, ◌||◌, not, cond}
 use Prim.Native.Nat.{ℕ, suc, ◌+◌, ◌≤◌, ◌<◌}
 use native.Mathlib.Omega.{arith}
 use borrow.Author.Tests.{eq-eqb, ne_eqb, le-leb, lt-leb}
-use lib.Dec.{eqb, ltb}
+use lib.Dec.{eqb, ltb, leb}
 use lib.ListN.{length, get_or}
 use Rattle.std.specs.Cmp.Lexicographic.{pointwise}
 use Rattle.std.specs.List.{prefix_len}
@@ -17,13 +17,21 @@ use Rattle.definition.specs.Grammar.{words, place_of, sort_of_name}
 use Rattle.definition.specs.Lexical.{byte, run}
 use Rattle.definition.proofs.Lists.{same_name_eq, same_name_refl}
 use Rattle.parser_lexer.specs.Words.{telling_place}
-use Rattle.name.proofs.Laws.{start_lower, continue_start}
+use Rattle.name.proofs.Laws.{start_lower, continue_start, continue_digit}
 use Rattle.parser_laws.proofs.Tests.{clash, both}
 
 -- ---- How far a name reaches.
 
 pub lower : (b : ℕ) → 97 ≤ b → b ≤ 122 → is_name_byte b ≡ true
 lower b h k = continue_start b (start_lower b h ∙ le-leb b 122 k)
+
+-- From the first small letter on, what goes on a name is a small letter.
+pub letters_told : (b : ℕ) → 97 ≤ b → leb b 122 ≡ is_name_byte b
+letters_told b h = go (leb b 122) refl
+  where
+    go : (t : Bool) → leb b 122 ≡ t → t ≡ is_name_byte b
+    go true e = sym (continue_start b (start_lower b h ∙ e))
+    go false e = sym (continue_digit b (start_lower b h ∙ e) (omega arith) ∙ lt-leb b 57 (omega arith))
 
 -- What lies below the letters begins no name, and what lies below the digits goes on none.
 pub below_letters : (b : ℕ) → b < 65 → is_name_start b ≡ false

@@ -1,26 +1,24 @@
 -- The laws of strings: first of what both kinds share, then one for each answer.
 use mathlib.Core.Path.{◌≡◌, refl, sym, ap, ◌∙◌}
-use mathlib.Core.Bool.{Bool, true, false, cond, not, ◌&&◌, ◌||◌}
+use mathlib.Core.Bool.{Bool, true, false, not, ◌&&◌, ◌||◌}
 use mathlib.Core.List.{List, [], ◌∷◌}
 use mathlib.Core.Logic.{inl, inr}
 use mathlib.Core.Option.{Option, none, some}
 use Prim.Native.Nat.{ℕ, zero, suc, ◌+◌, ◌-◌, ◌<◌, ◌≤◌}
 use native.Mathlib.Nat.{add_assoc, zero-add}
 use native.Mathlib.Omega.{arith}
-use borrow.Author.Tests.{eq-eqb, ne_eqb, eqb-true, eqb-false, leb-true, le-leb}
+use borrow.Author.Tests.{eq-eqb, ne_eqb, eqb-true, eqb-false, leb-true}
 use lib.Dec.{eqb, leb}
 use lib.ListN.{length, get_or, drop, length-drop}
-use Rattle.std.proofs.lemmas.List.Sums.{prefix_len-le-length}
 use types.Run.{OneOf}
 use Rattle.definition.specs.Lists.{choose, found, any}
-use Rattle.definition.specs.Lexical.{byte, between, run, character, ends_line, is_digit, is_hex, escape, plain, tripled, block, lexed, unreadable, string}
+use Rattle.definition.specs.Lexical.{byte, between, character, ends_line, is_digit, is_hex, escape, plain, tripled, block, lexed, unreadable, string}
 use Rattle.parser_laws.proofs.Tests.{both, clash}
 use Rattle.parser_laws.proofs.Gluing.{test_there, character_size}
 use Rattle.std.specs.Prelude.{Some, None}
 use Rattle.parser_lexer.specs.Measures.{counted}
 use Rattle.parser_lexer.specs.Strings.{Goes, is_simple, is_code, later, PlainPart, BlockPart, string_token}
 use Rattle.parser_lexer.proofs.CharacterLaws.{by_three, of_one}
-use Rattle.parser_lexer.proofs.NameLaws.{run_prefix}
 
 -- ---- Bytes that are passed over.
 
@@ -64,12 +62,17 @@ escape_size bs =
     go false e true false f = omega arith
     go false e false v f = omega arith
 
-pub and_and : (a b c : Bool) → (a && (b && c)) ≡ (a && b && c)
-and_and true b c = refl
-and_and false b c = refl
-
-pub and_pairs : (a b c d : Bool) → ((a && b) && (c && d)) ≡ (a && b && c && d)
-and_pairs a b c d = and_and (a && b) c d
+-- Four digits don't lie in fewer than five bytes.
+pub code_short : (bs : List ℕ) → length bs < 5 → false ≡ is_code bs
+unfolding is_hex is_digit
+code_short bs l = go (is_code bs) refl
+  where
+    go : (t : Bool) → is_code bs ≡ t → false ≡ t
+    go true e =
+        let p = both (is_hex (byte 1 bs) && is_hex (byte 2 bs) && is_hex (byte 3 bs)) (is_hex (byte 4 bs)) e in
+        let m = test_there [] is_hex refl 4 bs p.1 in
+        absurd (omega arith)
+    go false e = refl
 
 pub escape_one : (bs : List ℕ) → OneOf (34 ∷ 47 ∷ 92 ∷ 98 ∷ 102 ∷ 110 ∷ 114 ∷ 116 ∷ []) (get_or bs 0 0) → 1 ≡ escape bs
 unfolding escape any
@@ -241,18 +244,6 @@ block_some b bs n q m z = rw q (go (eqb b 92 && tripled bs) m)
     go true m = let e : 3 ≡ n - 1 = omega arith in ap (λ (k : ℕ). later 1 (block k bs)) e ∙ block_onward n z b bs
     go false m = rw (← m, ne_eqb n 0 z) (block_onward n z b bs)
 
--- Three quotes, told in the order of the code.
-pub tripled_then : (bs : List ℕ) → get_or bs 0 0 ≡ 34 → (eqb (get_or bs 1 0) 34 && eqb (get_or bs 2 0) 34) ≡ tripled bs
-unfolding tripled
-tripled_then bs e = rw e
-
-pub tripled_first : (bs : List ℕ) → (get_or bs 0 0 ≡ 34 → ⊥) → false ≡ tripled bs
-unfolding tripled
-tripled_first bs e = rw (ne_eqb _ _ e)
-
-pub simple_first : (b : ℕ) → 32 ≤ b → b ≤ 127 → (b ≡ 34 → ⊥) → (b ≡ 92 → ⊥) → is_simple b ≡ true
-simple_first b h k q s = rw (le-leb 32 b h, le-leb b 127 k, ne_eqb b 34 q, ne_eqb b 92 s)
-
 pub block_closes : (bs : List ℕ) → tripled bs ≡ true → block 0 bs ≡ some 3
 unfolding block tripled
 block_closes [] q = clash q
@@ -264,6 +255,28 @@ triple_size bs e =
     let p = both (eqb (byte 0 bs) 34 && eqb (byte 1 bs) 34) (eqb (byte 2 bs) 34) e in
     let l = test_there [] (λ y. eqb y 34) refl 2 bs p.1 in
     omega arith
+
+-- Three quotes, however the code has told them.
+pub tripled_told : (bs : List ℕ) → get_or bs 0 0 ≡ 34 → get_or bs 1 0 ≡ 34 → get_or bs 2 0 ≡ 34 → true ≡ tripled bs
+unfolding tripled
+tripled_told bs e f g = rw (e, f, g)
+
+pub no_triple : (bs : List ℕ) → (get_or bs 0 0 ≡ 34 → get_or bs 1 0 ≡ 34 → get_or bs 2 0 ≡ 34 → ⊥) → false ≡ tripled bs
+unfolding tripled
+no_triple bs h = go (eqb (get_or bs 0 0) 34) refl (eqb (get_or bs 1 0) 34) refl (eqb (get_or bs 2 0) 34) refl
+  where
+    go : (t : Bool) → eqb (get_or bs 0 0) 34 ≡ t → (u : Bool) → eqb (get_or bs 1 0) 34 ≡ u → (v : Bool) → eqb (get_or bs 2 0) 34 ≡ v → false ≡ (t && u && v)
+    go true a true b true c = absurd (h (eqb-true _ 34 a) (eqb-true _ 34 b) (eqb-true _ 34 c))
+    go true a true b false c = refl
+    go true a false b v c = refl
+    go false a u b v c = refl
+
+pub too_short : (bs : List ℕ) → length bs < 3 → false ≡ tripled bs
+too_short bs l = go (tripled bs) refl
+  where
+    go : (t : Bool) → tripled bs ≡ t → false ≡ t
+    go true e = absurd (let m = triple_size bs e in omega arith)
+    go false e = refl
 
 part_within : (bs : List ℕ) → 0 < length bs → block_part bs ≤ length bs
 unfolding block_part
@@ -295,15 +308,15 @@ module _ (bs : List ℕ) (l : 0 < length bs) (more : tripled bs ≡ false) where
   unfolding block_part
   block_backslash e t = one_part bs 1 l more (rw (eq-eqb _ _ e, t) (sym (ascii bs (omega arith) (omega arith))))
 
-  pub block_quote : get_or bs 0 0 ≡ 34 → BlockPart bs (Some 1)
+  pub block_ascii : (get_or bs 0 0 ≡ 92 → ⊥) → 32 ≤ get_or bs 0 0 → get_or bs 0 0 ≤ 127 → BlockPart bs (Some 1)
   unfolding block_part
-  block_quote e = one_part bs 1 l more (rw (ne_eqb (get_or bs 0 0) 92 (omega arith)) (sym (ascii bs (omega arith) (omega arith))))
+  block_ascii e h k = one_part bs 1 l more (rw (ne_eqb _ _ e) (sym (ascii bs h k)))
 
   pub block_character : (get_or bs 0 0 ≡ 92 → ⊥) → BlockPart bs (counted (character bs))
   unfolding block_part
   block_character e = one_part bs (character bs) l more (rw (ne_eqb _ _ e))
 
--- ---- A row of bytes that stand for themselves.
+-- ---- A byte that stands for itself.
 
 -- What such a byte is not.
 pub record Simple (b : ℕ) : Type 0 where
@@ -328,47 +341,14 @@ simple b e =
     no_test true e = clash e
     no_test false e = refl
 
-block_one : (b : ℕ) (bs : List ℕ) → is_simple b ≡ true → block 0 (b ∷ bs) ≡ later 1 (block 0 bs)
-unfolding block_part tripled
-block_one b bs e =
-    let s = simple b e in
-    block_some b bs 1 (rw s.quote) (rw s.backslash (sym (ascii (b ∷ bs) s.ascii_least s.ascii_most))) (omega arith)
-
-plain_one : (b : ℕ) (bs : List ℕ) → is_simple b ≡ true → plain 0 (b ∷ bs) ≡ later 1 (plain 0 bs)
-plain_one b bs e =
+plain_one : (bs : List ℕ) → 0 < length bs → is_simple (get_or bs 0 0) ≡ true → plain 0 bs ≡ later 1 (plain 0 (drop 1 bs))
+plain_one [] l e = absurd (omega arith)
+plain_one (b ∷ bs) l e =
     let s = simple b e in
     plain_some b bs 1 s.quote (part_ascii (b ∷ bs) (eqb-false b 92 s.backslash) s.ascii_least s.ascii_most) (omega arith)
 
--- A measure that each such byte goes on by one goes on by a row of them.
-module _ (f : List ℕ → Option ℕ) (one : (b : ℕ) (bs : List ℕ) → is_simple b ≡ true → f (b ∷ bs) ≡ later 1 (f bs)) where
-  goes_by : (bs : List ℕ) → f bs ≡ later (run is_simple bs) (f (drop (run is_simple bs) bs))
-  unfolding run
-  goes_by [] = later_zero (f [])
-  goes_by (b ∷ bs) = go (is_simple b) refl (goes_by bs)
-    where
-      go : (t : Bool) → is_simple b ≡ t → f bs ≡ later (run is_simple bs) (f (drop (run is_simple bs) bs)) →
-          f (b ∷ bs) ≡ later (choose t (1 + run is_simple bs) 0) (f (drop (choose t (1 + run is_simple bs) 0) (b ∷ bs)))
-      go true e h =
-          let z : suc (run is_simple bs) ≡ 1 + run is_simple bs = omega arith in
-          one b bs e ∙ ap (later 1) h ∙ later_later 1 (run is_simple bs) (f (drop (run is_simple bs) bs)) ∙
-          ap (λ (m : ℕ). later (1 + run is_simple bs) (f (drop m (b ∷ bs)))) z
-      go false e h = later_zero (f (b ∷ bs))
-
-  row_goes : (bs : List ℕ) (n : ℕ) → is_simple (get_or bs 0 0) ≡ true → n ≡ run is_simple bs → Goes f bs (Some n)
-  unfolding run
-  row_goes [] n e p = clash e
-  row_goes (b ∷ bs) n e p =
-      let q : run is_simple (b ∷ bs) ≡ 1 + run is_simple bs = rw e in
-      let w : n ≤ length (b ∷ bs) = rw (p, run_prefix is_simple (b ∷ bs)) (prefix_len-le-length is_simple (b ∷ bs)) in
-      let g : f (b ∷ bs) ≡ later n (f (drop n (b ∷ bs))) = rw p (goes_by (b ∷ bs)) in
-      (omega arith, w, g)
-
-module _ (bs : List ℕ) (n : ℕ) (first : is_simple (get_or bs 0 0) ≡ true) (row : n ≡ run is_simple bs) where
-  pub block_row : BlockPart bs (Some n)
-  block_row = row_goes (block 0) block_one bs n first row
-
-  pub plain_row : PlainPart bs (Some n)
-  plain_row = row_goes (plain 0) plain_one bs n first row
+pub plain_simple : (bs : List ℕ) → 0 < length bs → is_simple (get_or bs 0 0) ≡ true → PlainPart bs (Some 1)
+plain_simple bs l e = (omega arith, omega arith, plain_one bs l e)
 
 pub block_end : (bs : List ℕ) → length bs ≡ 0 → block 0 bs ≡ none
 unfolding block

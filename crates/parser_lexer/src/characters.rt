@@ -82,14 +82,18 @@ fn wide(b: u8, c: u8, d: u8) -> Option<usize>
 }
 
 // Stays: that there is a byte is a clause of each function that reads the first; a type for bytes that are not empty would be made and opened at each call.
-// How many bytes the character has that the bytes begin with, where they begin with one.
+// How many bytes the character has that the bytes begin with, where they begin with one. Those of more than a byte are told first: a string and a comment tell
+// most of the others themselves.
 pub fn character(bytes: &[u8]) -> Option<usize>
     requires { 0 < length bytes.now }
     ensures { result ≡ counted (lexical.character bytes.now) }
 {
-    match bytes[0] {
+    let first = bytes[0];
+    if LAST_OF_ONE < first {
+        return wide(first, byte_at(bytes, 1), byte_at(bytes, 2));
+    }
+    match first {
         TAB | LINE_FEED | CARRIAGE_RETURN | SPACE..=LAST_OF_ONE => Some(1),
-        0..SPACE => None,
-        b => wide(b, byte_at(bytes, 1), byte_at(bytes, 2)),
+        _ => None,
     }
 }

@@ -12,13 +12,15 @@ fn is_plain(b: u8) -> bool
     matches!(b, SPACE..=LAST_OF_ONE)
 }
 
-// How many bytes go on a comment: a row of such characters, or one character; none where the line ends, or where no character stands.
+// How many bytes go on a comment: one character; none where the line ends, or where no character stands. Most are ASCII, and are told first.
 fn taken(bytes: &[u8]) -> Option<usize>
     requires { 0 < length bytes.now }
     ensures { CommentPart bytes.now result }
 {
+    if is_plain(bytes[0]) {
+        return Some(1);
+    }
     match bytes[0] {
-        SPACE..=LAST_OF_ONE => Some(bytes.iter().take_while(|b| is_plain(**b)).count()),
         LINE_FEED | CARRIAGE_RETURN => None,
         _ => character(bytes),
     }

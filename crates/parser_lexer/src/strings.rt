@@ -5,26 +5,25 @@ ghost use Rattle.parser_lexer.specs.Lexemes.{told};
 ghost use Rattle.parser_lexer.specs.Measures.{measured, counted};
 ghost use Rattle.parser_lexer.specs.Strings.{is_simple, is_code, later, PlainPart, BlockPart, string_token};
 
-use crate::characters::{
-    CARRIAGE_RETURN, LAST_OF_ONE, LINE_FEED, SPACE, byte_at, character, is_followed,
-};
+use crate::characters::{CARRIAGE_RETURN, LAST_OF_ONE, LINE_FEED, SPACE, byte_at, character};
 use crate::lexeme::Lexeme;
 use crate::sorts::Sort;
 
-// Whether a hexadecimal digit stands at a place.
-fn is_hex(bytes: &[u8], i: usize) -> bool
-    ensures { result ≡ lexical.is_hex (get_or bytes.now i 0) }
+// Whether a byte is a hexadecimal digit.
+fn is_hex(b: u8) -> bool
+    ensures { result ≡ lexical.is_hex b }
 {
-    byte_at(bytes, i).is_ascii_hexdigit()
+    b.is_ascii_hexdigit()
 }
 
 // Whether four hexadecimal digits follow the first byte.
 fn is_code(bytes: &[u8]) -> bool
     ensures { result ≡ is_code bytes.now }
 {
-    let first = is_hex(bytes, 1) && is_hex(bytes, 2);
-    let last = is_hex(bytes, 3) && is_hex(bytes, 4);
-    first && last
+    let [_, first, second, third, fourth, ..] = bytes else {
+        return false;
+    };
+    is_hex(*first) && is_hex(*second) && is_hex(*third) && is_hex(*fourth)
 }
 
 // How many bytes an escape has after its backslash, where there is one.
@@ -42,28 +41,23 @@ fn escape(bytes: &[u8]) -> Option<usize>
 fn is_simple(b: u8) -> bool
     ensures { result ≡ is_simple b }
 {
-    matches!(b, b' '..=b'!' | b'#'..=b'[' | b']'..=LAST_OF_ONE)
+    b != b'\\' && b != b'"' && matches!(b, SPACE..=LAST_OF_ONE)
 }
 
-// How many of them stand in a row.
-fn simple_row(bytes: &[u8]) -> usize
-    ensures { result ≡ lexical.run is_simple bytes.now }
-{
-    bytes.iter().take_while(|b| is_simple(**b)).count()
-}
-
-// How many bytes go on a string where it is not closed, and not broken. Most are ASCII, and stand in rows.
+// How many bytes go on a string where it is not closed, and not broken. Most stand for themselves, and are told first, each by itself: many rows are short.
 fn plain_part(bytes: &[u8]) -> Option<usize>
     requires { (0 < length bytes.now) ×
         (eqb (get_or bytes.now 0 0) 34 ≡ false) }
     ensures { PlainPart bytes.now result }
 {
+    if is_simple(bytes[0]) {
+        return Some(1);
+    }
     match bytes[0] {
         b'\\' => {
             let size = escape(&bytes[1..])?;
             Some(1 + size)
         }
-        SPACE..=LAST_OF_ONE => Some(simple_row(bytes)),
         LINE_FEED | CARRIAGE_RETURN => None,
         _ => character(bytes),
     }
@@ -89,10 +83,10 @@ fn plain_string(bytes: &[u8]) -> Option<usize>
 fn is_tripled(bytes: &[u8]) -> bool
     ensures { result ≡ lexical.tripled bytes.now }
 {
-    byte_at(bytes, 0) == b'"' && is_followed(bytes, b'"', b'"')
+    byte_at(bytes, 0) == b'"' && matches!(bytes, [_, b'"', b'"', ..])
 }
 
-// How many bytes go on a block string where it is not closed, and not broken. Most are ASCII, and stand in rows.
+// How many bytes go on a block string where it is not closed, and not broken.
 fn block_part(bytes: &[u8]) -> Option<usize>
     requires { (0 < length bytes.now) ×
         (lexical.tripled bytes.now ≡ false) }
@@ -100,8 +94,7 @@ fn block_part(bytes: &[u8]) -> Option<usize>
 {
     match bytes[0] {
         b'\\' if is_tripled(&bytes[1..]) => Some(4),
-        b'"' | b'\\' => Some(1),
-        SPACE..=LAST_OF_ONE => Some(simple_row(bytes)),
+        SPACE..=LAST_OF_ONE => Some(1),
         _ => character(bytes),
     }
 }

@@ -52,8 +52,8 @@ pub fn lexeme(bytes: &[u8]) -> Lexeme
         b' ' | b'\n' | b',' | b'\r' | b'\t' => Lexeme::Ignored(1),
         b'"' => strings::string(bytes),
         b'#' => Lexeme::Ignored(1 + ignored::comment(&bytes[1..])),
-        b'-' => numbers::number(bytes),
-        b'0'..=b'9' => numbers::number(bytes),
+        // One arm for both: `number` is called once, and so becomes a part of this.
+        b'-' | b'0'..=b'9' => numbers::number(bytes),
         b'.' if is_followed(bytes, b'.', b'.') => Lexeme::Token(Sort::Dots, 3),
         FIRST_OF_MARK if is_followed(bytes, SECOND_OF_MARK, THIRD_OF_MARK) => Lexeme::Ignored(3),
         _ => punctuator(byte),

@@ -26,7 +26,7 @@ fn goes_on(b: u8) -> bool
     ensures { result ≡ is_name_byte b }
 {
     match b {
-        b'a'..=b'z' => true,
+        b'a'.. => b <= b'z',
         0..b'0' => false,
         _ => name::is_name_continue(b),
     }

@@ -1,4 +1,4 @@
--- What is printed.
+-- What is printed, and put into buffers.
 pub mod Text
 pub mod Listing
 -- What is read from files. What the system itself reads is tested, not proved.

@@ -51,6 +51,10 @@ listing d rows errors =
     let shown = rows_shown d.rows rows ++ errors_shown d.reading_errors d.drawing_errors errors in
     choose (eqb d.number 0) shown (refused d.number 0)
 
+-- The bytes that are room enough for a drawing of so many words of rows and errors: 33 for each line of three words, and two lines of counts.
+abbrev pub listing_capacity : ℕ → ℕ
+listing_capacity words = 11 * words + 75
+
 -- The name of a numbered file: its folder, a stem, the number and an ending.
 unfoldable pub file_name : List ℕ → List ℕ → ℕ → List ℕ → List ℕ
 unfolding decimal

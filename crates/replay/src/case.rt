@@ -1,4 +1,8 @@
 // A case: its file of calls, and the lines of it, one after another, over its table.
+ghost use Rattle.std.specs.Prelude.{IfOk, IfSome, length};
+ghost use Rattle.std.specs.Iterator.{IsFinite, size};
+ghost use Rattle.replay.specs.Counted.{Few, calls_capacity};
+
 use crate::builds::run_build;
 use crate::filing::{run_filing, run_switch};
 use crate::held::hold_tallies;
@@ -16,7 +20,9 @@ use std::rt::Files;
 pub const FILE_CAPACITY: usize = 262144;
 
 // Runs the case of a number, in the folder of that name. Where there is no such folder, or it has no file `calls`, there are no more cases.
-pub fn run_case(rt: &(impl Files + AllocGlobal + Print + Eprint), number: usize) -> Option<Tally> {
+pub fn run_case(rt: &(impl Files + AllocGlobal + Print + Eprint), number: usize) -> Option<Tally>
+    ensures { IfSome result (Few calls_capacity) }
+{
     match run_folder(rt, number) {
         Ok(tally) => Some(tally),
         Err(unread) if unread.is_missing() => None,
@@ -34,23 +40,42 @@ pub fn run_case(rt: &(impl Files + AllocGlobal + Print + Eprint), number: usize)
 fn run_folder(
     rt: &(impl Files + AllocGlobal + Print + Eprint),
     number: usize,
-) -> Result<Tally, Unread> {
+) -> Result<Tally, Unread>
+    ensures { IfOk result (Few calls_capacity) }
+{
     let path = format!(in rt.alloc(); "{number}/calls")?;
     let calls = read_file(rt, path, FILE_CAPACITY)?;
     let folder = format!(in rt.alloc(); "{number}/")?;
     Ok(run_lines(rt, number, folder.as_str(), calls.as_slice()))
 }
 
-// A last line that no line feed ends is malformed.
+// At most a call and a failure for each byte, since each line has at least one.
 fn run_lines(
     rt: &(impl Files + AllocGlobal + Print + Eprint),
     case: usize,
     folder: &str,
     calls: &[u8],
-) -> Tally {
+) -> Tally
+    ensures { Few (length calls.now) result }
+{
+    let lines = (1usize..).zip(calls.split_inclusive(|b| *b == b'\n'));
+    run_numbered(rt, case, folder, lines)
+}
+
+// At most a call and a failure for each line: what is counted is bounded by what the lines, as any iterator, have left. A last line that no line feed ends is malformed.
+fn run_numbered<'a, L: Iterator<Item = (usize, &'a [u8])>>(
+    rt: &(impl Files + AllocGlobal + Print + Eprint),
+    case: usize,
+    folder: &str,
+    lines: L,
+) -> Tally
+    requires can { L.can_next lines }
+    requires finite { IsFinite (L.remaining lines) }
+    ensures { Few (size (L.remaining lines)) result }
+{
     let mut table = Table::new();
     let mut tally = Tally::none();
-    for (number, whole) in (1usize..).zip(calls.split_inclusive(|b| *b == b'\n')) {
+    for (number, whole) in lines {
         let bytes = whole.strip_suffix(b"\n").unwrap_or(whole);
         let command = if whole.ends_with(b"\n") {
             command_of(&Line { bytes })

@@ -32,7 +32,7 @@ impl<'a> Line<'a> {
     }
 
     // What follows so many words, each with the space behind it.
-    fn after(&self, count: usize) -> &'a [u8]
+    pub fn after(&self, count: usize) -> &'a [u8]
         ensures { result.now ≡ after_words count self.now.bytes.now }
     {
         let mut rest = self.bytes;

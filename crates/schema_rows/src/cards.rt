@@ -55,6 +55,23 @@ impl Schema<'_, '_> {
     }
 }
 
+// Marks a card, if no row before had it; `-` is never marked.
+#[tactic(auto, unfolding(crate::specs::Passing::is_free, crate::specs::Passing::marked))]
+pub fn mark(marks: &mut [bool], card: u32) -> bool
+    requires { (card ≡ absent → ⊥) → card < length marks.old }
+    ensures { (result ≡ is_free marks.old card)
+        × (is_free marks.old card ≡ true → marks.new ≡ marked marks.old card) }
+{
+    if card == ABSENT {
+        return true;
+    }
+    if marks[card as usize] {
+        return false;
+    }
+    marks[card as usize] = true;
+    true
+}
+
 // One mark for each stored card: whether a row had it.
 #[derive(Drop)]
 pub struct Marks {
@@ -70,20 +87,12 @@ impl Marks {
         }
     }
 
-    // Marks a card, if no row before had it; `-` is never marked.
-    #[tactic(auto, unfolding(crate::specs::Passing::is_free, crate::specs::Passing::marked))]
+    // Marks a stored card, if no row before had it; `-` is never marked.
     pub fn take(&mut self, card: u32) -> bool
         requires { (card ≡ absent → ⊥) → card < card_capacity }
         ensures { (result ≡ is_free self.old.marks card)
             × (is_free self.old.marks card ≡ true → self.new.marks ≡ marked self.old.marks card) }
     {
-        if card == ABSENT {
-            return true;
-        }
-        if self.marks[card as usize] {
-            return false;
-        }
-        self.marks[card as usize] = true;
-        true
+        mark(&mut self.marks, card)
     }
 }

@@ -1,13 +1,27 @@
 -- A list written over the front of another, or into its unused tail: what a loop that writes makes of a lent part, said of the whole.
 use mathlib.Core.Path.{◌≡◌, sym, ap, ◌∙◌}
 use mathlib.Core.List.{List, ◌++◌, append_assoc, append-nil}
-use Prim.Native.Nat.{ℕ, ◌+◌, ◌-◌, ◌≤◌}
+use Prim.Native.Nat.{ℕ, ◌+◌, ◌-◌, ◌<◌, ◌≤◌}
 use native.Mathlib.Nat.{zero-add}
+use native.Mathlib.Numerals.{add-one}
 use native.Mathlib.Omega.{arith}
-use lib.ListN.{length, take, drop, length-append, length-drop, take-append-drop, drop_of_length-le}
-use lib.Seq.{take_all, take-length, length-take-le, take_at, drop_at, drop-drop, sets, sets-eq}
+use lib.ListN.{length, get_or, take, drop, set, length-append, length-drop, take-append-drop, drop_of_length-le}
+use lib.Seq.{take_all, take-length, length-take-le, take_at, drop_at, drop-drop, sets, sets-eq, paste, paste-zero, paste-suc}
 use borrow.Rule.Slice.PartMut.{put_mid}
 use Rattle.definition.specs.Lists.{written}
+
+-- ---- A loop that copies one element a turn.
+
+pub copied_none : (dst src : List ℕ) → dst ≡ paste dst 0 src 0
+copied_none dst src = paste-zero dst 0 src
+
+pub copied_next : (dst src : List ℕ) (i : ℕ) → i < length dst → i < length src → set (paste dst 0 src i) i (get_or src i 0) ≡ paste dst 0 src (i + 1)
+copied_next dst src i h k =
+    rw (add-one i) (ap (λ (n : ℕ). set (paste dst 0 src i) n (get_or src i 0)) (sym (zero-add i)) ∙ paste-suc dst 0 src i 0 (omega arith) k)
+
+pub copied_all : (dst src : List ℕ) (i : ℕ) → i ≡ length src → paste dst 0 src i ≡ written dst 0 src
+unfolding written
+copied_all dst src i e = rw e
 
 -- ---- A loop that writes some elements a turn: those before i are written, and those from i on are as they were.
 

@@ -9,17 +9,17 @@ use Rattle.from_ast_indexing.proofs.index.Goals as goal
 pub index_orphans-orphans-requires-clause-extensions : goal.index_orphans-orphans-requires-clause-extensions
 index_orphans-orphans-requires-clause-extensions c =
     extensions_stored _ _ _ _ (cards_ready _ _ _ _ c.hash_names.ensures c.index_headings-headings.ensures) _ c.index_types.new.types _ _
-    c.index_extensions-extensions.ensures.extensions
+    (rw c.known.ensures.cards at c.index_extensions-extensions.ensures.extensions)
 
 pub index_starts-requires-clause-stored : goal.index_starts-requires-clause-stored
 index_starts-requires-clause-stored c =
     extensions_owned _ _ _ _ (cards_ready _ _ _ _ c.hash_names.ensures c.index_headings-headings.ensures) _ c.index_types.new.types _ _
-    c.index_extensions-extensions.ensures.extensions (omega (arith, c.requires.room.owners_room))
+    (rw c.known.ensures.cards at c.index_extensions-extensions.ensures.extensions) (omega (arith, c.requires.room.owners_room))
 
 pub index_ends-requires-clause-stored : goal.index_ends-requires-clause-stored
 index_ends-requires-clause-stored c =
     extensions_owned _ _ _ _ (cards_ready _ _ _ _ c.hash_names.ensures c.index_headings-headings.ensures) _ c.index_types.new.types _ _
-    c.index_extensions-extensions.ensures.extensions (omega (arith, c.requires.room.owners_room))
+    (rw c.known.ensures.cards at c.index_extensions-extensions.ensures.extensions) (omega (arith, c.requires.room.owners_room))
 
 pub invariant_of-result : goal.invariant_of-result
 invariant_of-result c =
@@ -27,7 +27,7 @@ invariant_of-result c =
     record {
       listed =
           indexed _ _ _ (cards_fit_lem _ _ c.requires.sound) c.index_headings-headings.ensures _ _ _ _
-          (owners_done _ _ _ _ a _ c.index_types.new.types _ _ c.index_extensions-extensions.ensures.extensions c.index_types.ensures.types _
+          (owners_done _ _ _ _ a _ c.index_types.new.types _ _ (rw c.known.ensures.cards at c.index_extensions-extensions.ensures.extensions) c.index_types.ensures.types _
           c.index_orphans-orphans.ensures.orphans c.index_extensions-extensions.ensures.most c.index_orphans-orphans.ensures.most)
           (omega (arith, c.requires.room.owners_room));
       spanned = record {

@@ -37,7 +37,8 @@ impl From<AllocError> for DocumentError {
 }
 
 impl Document {
-    // Document `number` of a folder, whose path is empty or ends with a slash. Where one of its two files is missing the list of documents ended before it.
+    // Document `number` of a folder, whose path is empty or ends with a slash. Where one of its two files is missing the list of documents ended before it;
+    // where that is the text, the cards are not looked at.
     pub fn read(
         rt: &(impl Files + AllocGlobal),
         folder: &str,
@@ -46,8 +47,11 @@ impl Document {
         ensures { IfOk result (λ read. IfSome read Lies) }
     {
         let text = read_file(rt, path(rt.alloc(), folder, number, ".txt")?, FILE_CAPACITY);
+        if is_missing(&text) {
+            return Ok(None);
+        }
         let cards = read_file(rt, path(rt.alloc(), folder, number, ".crd")?, FILE_CAPACITY);
-        if is_missing(&text) || is_missing(&cards) {
+        if is_missing(&cards) {
             return Ok(None);
         }
         let text = text?;

@@ -1,7 +1,7 @@
 use Rattle.from_ast_collisions.specs.ErrorsByCards.{adoption_errors_at}
-use Rattle.from_ast_collisions.specs.Views.{view}
 use Rattle.from_ast_collisions.proofs.Push.{Turn}
+use Rattle.from_ast_errors.specs.Views.{owned_view}
 use Rattle.from_ast_errors.proofs.orphans.adoption_errors.Given as goal
 
 abbrev pub invariant-loop-card : goal.invariant-loop-card
-invariant-loop-card l = Turn (adoption_errors_at (view l.finished.index) l.finished.rows.rows.now l.g) l.finished.index.extensions.now l.initial.errors l.errors l.card-index
+invariant-loop-card l = Turn (adoption_errors_at (owned_view l.finished.collection l.finished.owners.now) l.finished.rows.rows.now l.g) l.extensions l.initial.errors l.errors l.card-index

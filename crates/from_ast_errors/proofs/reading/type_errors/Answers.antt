@@ -4,36 +4,41 @@ use Prim.Native.Nat.{◌≤◌}
 use lib.ListN.{get_or}
 use Rattle.from_ast_index.specs.Index.{own_extensions}
 use Rattle.from_ast_index.proofs.Cards.{none_waits, some_waits}
-use Rattle.from_ast_collisions.proofs.Spans.{defined_owned}
 use Rattle.from_ast_collisions.proofs.Push.{first_capacity, second_capacity, both_pushed}
+use Rattle.from_ast_errors.proofs.Definitions.{defined_once}
 use Rattle.from_ast_errors.proofs.reading.type_errors.Goals as goal
 use Rattle.from_ast_errors.proofs.reading.type_errors.Goals.{in_default-via-in-Some+else-first-h, in_default-via-in_default}
 
 pub merge_errors-requires : goal.merge_errors-requires
 merge_errors-requires c =
     let f = c.args.finished.now in
-    let waits : c.args.h ≤ get_or f.index.owners.now c.args.h 0 = elim c.in_default.branch [
+    let x = c.args.extensions.now in
+    let waits : c.args.h ≤ get_or f.owners.now c.args.h 0 = elim c.in_default.branch [
       | in_default-via-in-Some+else-first-h w ↦ some_waits _ _ _ _ c.owner.ensures.word w.in-Some.is w.if-first-h.false
       | in_default-via-in_default w ↦ none_waits _ _ _ c.owner.ensures.word w.in_default.is (omega arith)
     ] in
-    first_capacity _ c.args.errors.now _ _ _ (defined_owned c.args.finished.now.index _ c.owner-owner.result _ _ c.requires.stored refl waits _ c.kind.ensures
-    c.owner-owner.ensures.rows c.owner-owner.ensures.kind c.owner-owner.ensures.card
-    (own_extensions f.index.extensions.now f.index.starts.now f.index.ends.now c.args.h) refl) c.requires.capacity
+    first_capacity _ c.args.errors.now _ _ _ (defined_once f.collection f.owners.now _ _ _ _ c.requires.spanned c.owner-owner.result _ _ c.requires.stored refl
+    waits _ c.kind.ensures c.owner-owner.ensures.rows c.owner-owner.ensures.kind c.owner-owner.ensures.card
+    (own_extensions x.all.now x.starts.now x.ends.now c.args.h) refl) c.requires.capacity
 
 pub early_errors-requires-clause-capacity : goal.early_errors-requires-clause-capacity
 early_errors-requires-clause-capacity c =
-    let waits : c.args.h ≤ get_or c.args.finished.now.index.owners.now c.args.h 0 = elim c.in_default.branch [
+    let f = c.args.finished.now in
+    let waits : c.args.h ≤ get_or f.owners.now c.args.h 0 = elim c.in_default.branch [
       | in_default-via-in-Some+else-first-h w ↦ some_waits _ _ _ _ c.owner.ensures.word w.in-Some.is w.if-first-h.false
       | in_default-via-in_default w ↦ none_waits _ _ _ c.owner.ensures.word w.in_default.is (omega arith)
     ] in
-    second_capacity _ _ _ _ _ (defined_owned c.args.finished.now.index _ c.owner-owner.result _ _ c.requires.stored refl waits _ c.kind.ensures
-    c.owner-owner.ensures.rows c.owner-owner.ensures.kind c.owner-owner.ensures.card _ c.own_extensions.ensures) c.merge_errors.ensures c.requires.capacity
+    second_capacity _ _ _ _ _ (defined_once f.collection f.owners.now _ _ _ _ c.requires.spanned c.owner-owner.result _ _ c.requires.stored refl waits _
+    c.kind.ensures c.owner-owner.ensures.rows c.owner-owner.ensures.kind c.owner-owner.ensures.card _ c.of_type.ensures) c.merge_errors.ensures
+    c.requires.capacity
 
 pub returns-in_default : goal.returns-in_default
 returns-in_default c =
-    let waits : c.args.h ≤ get_or c.args.finished.now.index.owners.now c.args.h 0 = elim c.in_default.branch [
+    let f = c.args.finished.now in
+    let waits : c.args.h ≤ get_or f.owners.now c.args.h 0 = elim c.in_default.branch [
       | in_default-via-in-Some+else-first-h w ↦ some_waits _ _ _ _ c.owner.ensures.word w.in-Some.is w.if-first-h.false
       | in_default-via-in_default w ↦ none_waits _ _ _ c.owner.ensures.word w.in_default.is (omega arith)
     ] in
-    both_pushed _ _ _ _ _ (defined_owned c.args.finished.now.index _ c.owner-owner.result _ _ c.requires.stored refl waits _ c.kind.ensures
-    c.owner-owner.ensures.rows c.owner-owner.ensures.kind c.owner-owner.ensures.card _ c.own_extensions.ensures) _ c.merge_errors.ensures c.early_errors.ensures
+    both_pushed _ _ _ _ _ (defined_once f.collection f.owners.now _ _ _ _ c.requires.spanned c.owner-owner.result _ _ c.requires.stored refl waits _
+    c.kind.ensures c.owner-owner.ensures.rows c.owner-owner.ensures.kind c.owner-owner.ensures.card _ c.of_type.ensures) _ c.merge_errors.ensures
+    c.early_errors.ensures

@@ -1,4 +1,5 @@
 use native.Mathlib.Omega.{arith}
+use Rattle.from_ast_indexing.proofs.EntrySearch.{same_on}
 use Rattle.from_ast_indexing.proofs.TypesTurns.{types_turn}
 use Rattle.from_ast_indexing.proofs.types.index_types.Goals as goal
 
@@ -11,4 +12,5 @@ loop-card-preserved c =
           types_turn _ _ _ c.args.headings.now c.requires.headings l.card-index (omega arith) _ _ l.invariant.types _ _
           (omega (arith, c.requires.owners)) r.turn;
       firsts = r.firsts;
+      same = same_on _ _ l.invariant.same _ r.same;
     }

@@ -6,7 +6,7 @@ use Rattle.component.proofs.Turns.{directives_begin}
 use Rattle.from_ast_rows.proofs.directives.directive_definitions.Goals as goal
 
 pub loop-card-init : goal.loop-card-init
-loop-card-init c = record { same_slice = refl; left = directives_begin _ _ _ _ c.requires }
+loop-card-init c = record { same_slice = refl; left = directives_begin _ _ _ _ c.requires.room }
 
 pub directive_definition-requires-clause-room : goal.directive_definition-requires-clause-room
 directive_definition-requires-clause-room c =

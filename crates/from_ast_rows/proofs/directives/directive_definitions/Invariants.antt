@@ -10,7 +10,7 @@ use Rattle.from_ast_rows.proofs.directives.directive_definitions.Given as goal
 abbrev pub invariant-loop-card : goal.invariant-loop-card
 invariant-loop-card l = record {
   same_slice : l.rows.words.ghost_name ≡ l.initial.rows.words.ghost_name;
-  left : Extending (same_stored l.index.collection.text.now l.index.collection.words.now) l.start
-      (directive_rows_of l.index.collection.text.now l.index.collection.words.now l.index.headings.now) (drop l.card-index l.index.headings.now) (filled_of l.rows)
-      (pushed (directive_rows_at l.index.collection.text.now l.index.collection.words.now l.index.headings.now) (filled_of l.initial.rows));
+  left : Extending (same_stored l.collection.text.now l.collection.words.now) l.start
+      (directive_rows_of l.collection.text.now l.collection.words.now l.headings) (drop l.card-index l.headings) (filled_of l.rows)
+      (pushed (directive_rows_at l.collection.text.now l.collection.words.now l.headings) (filled_of l.initial.rows));
 }

@@ -10,6 +10,6 @@ use Rattle.from_ast_rows.proofs.directives.standing_directive.Given as goal
 -- What stands of all headings is what stands of those left, after the one that stands so far.
 abbrev pub invariant-loop-other : goal.invariant-loop-other
 invariant-loop-other l =
-    standing_at l.index.collection.text.now l.index.collection.words.now l.index.headings.now l.card
-    ≡ standing_card (built_in_at l.index.collection.words.now) (unwrap_or l.standing absent)
-    (filter (names_directive l.index.collection.text.now l.index.collection.words.now l.card) (drop l.other-index l.index.headings.now))
+    standing_at l.collection.text.now l.collection.words.now l.headings l.card
+    ≡ standing_card (built_in_at l.collection.words.now) (unwrap_or l.standing absent)
+    (filter (names_directive l.collection.text.now l.collection.words.now l.card) (drop l.other-index l.headings))

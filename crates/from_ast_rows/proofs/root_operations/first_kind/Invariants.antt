@@ -6,5 +6,5 @@ use Rattle.from_ast_rows.proofs.root_operations.first_kind.Given as goal
 
 abbrev pub invariant-loop-card : goal.invariant-loop-card
 invariant-loop-card l =
-    find (is_type_named l.index.collection.text.now l.index.collection.words.now l.extending l.name) l.index.headings.now
-    ≡ find (is_type_named l.index.collection.text.now l.index.collection.words.now l.extending l.name) (drop l.card-index l.index.headings.now)
+    find (is_type_named l.collection.text.now l.collection.words.now l.extending l.name) l.headings
+    ≡ find (is_type_named l.collection.text.now l.collection.words.now l.extending l.name) (drop l.card-index l.headings)

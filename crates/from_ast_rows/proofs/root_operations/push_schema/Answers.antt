@@ -7,12 +7,12 @@ use Rattle.from_ast_rows.proofs.root_operations.push_schema.Goals as goal
 pub push-requires : goal.push-requires
 push-requires c =
     let cut = schema_cut _ _ _ _ _ _ c.schema_definition.ensures.first c.is_implicit.ensures in
-    one_capacity _ _ _ (run_first c.args.rows.now _ _ _ cut c.requires)
+    one_capacity _ _ _ (run_first c.args.rows.now _ _ _ cut c.requires.room)
 
 pub push_lists-requires : goal.push_lists-requires
-push_lists-requires c = run_second _ _ _ _ (schema_cut _ _ _ _ _ _ c.schema_definition.ensures.first c.is_implicit.ensures) c.requires _ c.push.ensures
+push_lists-requires c = run_second _ _ _ _ (schema_cut _ _ _ _ _ _ c.schema_definition.ensures.first c.is_implicit.ensures) c.requires.room _ c.push.ensures
 
 pub returns : goal.returns
 returns c =
     let cut = schema_cut _ _ _ _ _ _ c.schema_definition.ensures.first c.is_implicit.ensures in
-    run_both _ _ _ _ cut c.requires _ c.push.ensures _ c.push_lists.ensures
+    run_both _ _ _ _ cut c.requires.room _ c.push.ensures _ c.push_lists.ensures

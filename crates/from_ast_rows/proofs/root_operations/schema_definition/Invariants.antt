@@ -7,5 +7,5 @@ use Rattle.from_ast_rows.proofs.root_operations.schema_definition.Given as goal
 -- The first of all headings is the first of those left.
 abbrev pub invariant-loop-card : goal.invariant-loop-card
 invariant-loop-card l =
-    find (is_schema_card l.index.collection.words.now) l.index.headings.now
-    ≡ find (is_schema_card l.index.collection.words.now) (drop l.card-index l.index.headings.now)
+    find (is_schema_card l.collection.words.now) l.headings
+    ≡ find (is_schema_card l.collection.words.now) (drop l.card-index l.headings)

@@ -17,14 +17,14 @@ returns-then-not-adopt c =
 pub push_adopted_types-requires-clause-room : goal.push_adopted_types-requires-clause-room
 push_adopted_types-requires-clause-room c =
     let n = rest_next _ _ _ (rest_begin _ _ _ refl c.requires.room) _ _ refl _ c.push_defined_types.ensures.rows_are in
-    let i = c.args.index.now in
+    let i = c.args.lists.now in
     let adopted = types_rows_at i.collection.text.now i.collection.words.now i.orphans.now i.extensions.now in
     rest_capacity _ _ _ n _ _ (choose_left c.args.adopt adopted c.if-not-adopt.false)
 
 pub returns : goal.returns
 returns c =
     let n = rest_next _ _ _ (rest_begin _ _ _ refl c.requires.room) _ _ refl _ c.push_defined_types.ensures.rows_are in
-    let i = c.args.index.now in
+    let i = c.args.lists.now in
     let adopted = types_rows_at i.collection.text.now i.collection.words.now i.orphans.now i.extensions.now in
     let left = choose_left c.args.adopt adopted c.if-not-adopt.false in
     let r = c.push_adopted_types.ensures in

@@ -13,11 +13,14 @@ returns-in-9-2 c = same_count 1 (character c.args.bytes.now) (sym (by_three c.ar
 pub returns-in-9-3 : goal.returns-in-9-3
 returns-in-9-3 c = same_count 1 (character c.args.bytes.now) (sym (by_three c.args.bytes.now ∙ of_first _ _ _ (omega arith) (omega arith) (λ h n. omega arith)))
 
-pub returns-in-0-to-31 : goal.returns-in-0-to-31
-returns-in-0-to-31 c = same_count 0 (character c.args.bytes.now) (sym (by_three c.args.bytes.now ∙ of_control _ _ _ (omega arith) (omega arith) (omega arith) (omega arith)))
-
-pub returns-in-0-to-31-2 : goal.returns-in-0-to-31-2
-returns-in-0-to-31-2 c = same_count 0 (character c.args.bytes.now) (sym (by_three c.args.bytes.now ∙ of_control _ _ _ (omega arith) (omega arith) (omega arith) (omega arith)))
-
 pub returns-in_default : goal.returns-in_default
-returns-in_default c = c.wide.ensures ∙ rw (c.byte_at.ensures, c.byte_at-in_default.ensures) (three_counted c.args.bytes.now)
+returns-in_default c = same_count 0 (character c.args.bytes.now) (sym (by_three c.args.bytes.now ∙ of_control _ _ _ (omega arith) (omega arith) (omega arith) (omega arith)))
+
+pub returns-in_default-2 : goal.returns-in_default-2
+returns-in_default-2 c = same_count 0 (character c.args.bytes.now) (sym (by_three c.args.bytes.now ∙ of_control _ _ _ (omega arith) (omega arith) (omega arith) (omega arith)))
+
+pub returns-in_default-3 : goal.returns-in_default-3
+returns-in_default-3 c = same_count 0 (character c.args.bytes.now) (sym (by_three c.args.bytes.now ∙ of_control _ _ _ (omega arith) (omega arith) (omega arith) (omega arith)))
+
+pub returns-then-first-gt-LAST_OF_ONE : goal.returns-then-first-gt-LAST_OF_ONE
+returns-then-first-gt-LAST_OF_ONE c = c.wide.ensures ∙ rw (c.byte_at.ensures, c.byte_at-then-first-gt-LAST_OF_ONE.ensures) (three_counted c.args.bytes.now)

@@ -1,14 +1,12 @@
 use borrow.Author.Rules.{rules}
 use mathlib.Core.Path.{refl, sym, ◌∙◌}
 use native.Mathlib.Omega.{arith}
-use borrow.Author.Tests.{eqb-false}
-use lib.ListN.{get_or, drop, length-drop}
+use lib.ListN.{drop, length-drop}
 use Rattle.std.proofs.lemmas.List.{take_rest}
 use Rattle.definition.specs.Lexical.{escape}
 use Rattle.parser_lexer.proofs.CharacterLaws.{counted_none, counted_some}
-use Rattle.parser_lexer.proofs.StringLaws.{escape_size, simple_first, plain_no_escape, plain_escape, plain_line, plain_character, plain_row}
+use Rattle.parser_lexer.proofs.StringLaws.{escape_size, plain_simple, plain_no_escape, plain_escape, plain_line, plain_character}
 use Rattle.parser_lexer.proofs.strings.plain_part.Goals as goal
-use Rattle.parser_lexer.proofs.strings.plain_part.Goals.{in_default-via-then-this-lt32, in_default-via-else-this-lt32+else-this-lt128}
 
 pub overflow_add-result : goal.overflow_add-result
 overflow_add-result c =
@@ -28,16 +26,11 @@ returns-in_ok-size-in-92 c =
     let z = counted_some (escape (drop 1 bs)) _ (rw (take_rest bs 1) at (sym c.in_ok-size-in-92.was ∙ c.escape.ensures)) in
     plain_escape bs c.requires.0 c.requires.1 c.in_ok-size-in-92.size (sym z.0) c.in-92.is (omega (arith, z.1))
 
+pub returns-then-is_simple : goal.returns-then-is_simple
+returns-then-is_simple c = plain_simple c.args.bytes.now c.requires.0 (sym c.is_simple.ensures ∙ c.if-is_simple.true)
+
 pub returns-in-10 : goal.returns-in-10
 returns-in-10 c = plain_line c.args.bytes.now c.requires.0 c.requires.1 c.in-10.is
 
-pub returns-in-32-to-127 : goal.returns-in-32-to-127
-returns-in-32-to-127 c =
-    plain_row c.args.bytes.now _ (simple_first (get_or c.args.bytes.now 0 0) (omega arith) (omega arith) (eqb-false _ 34 c.requires.1) (omega arith)) c.simple_row.ensures
-
 pub returns-in_default : goal.returns-in_default
-returns-in_default c =
-    elim c.in_default.branch [
-      | in_default-via-then-this-lt32 w ↦ rw c.character.ensures (plain_character c.args.bytes.now c.requires.0 c.requires.1 (omega arith) (search rules))
-      | in_default-via-else-this-lt32+else-this-lt128 w ↦ rw c.character.ensures (plain_character c.args.bytes.now c.requires.0 c.requires.1 (omega arith) (search rules))
-    ]
+returns-in_default c = rw c.character.ensures (plain_character c.args.bytes.now c.requires.0 c.requires.1 (omega arith) (search rules))

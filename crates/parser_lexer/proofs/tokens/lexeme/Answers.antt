@@ -8,10 +8,11 @@ use Rattle.std.proofs.lemmas.List.{take_rest}
 use Rattle.definition.specs.Names.{is_name_byte}
 use Rattle.definition.specs.Lexical.{named, ignored}
 use Rattle.parser_laws.proofs.Gluing.{run_size, comment_size}
-use Rattle.parser_lexer.proofs.LexemeLaws.{of_name, of_line, of_blank, of_quote, of_hash, of_dots, of_minus, of_mark, of_digit, no_dots, no_mark}
+use Rattle.parser_lexer.proofs.LexemeLaws.{of_name, of_line, of_blank, of_quote, of_hash, of_dots, of_mark, of_minus, of_digit, no_dots, no_mark}
 use Rattle.parser_lexer.proofs.LexemeLaws.{of_low, of_middle, of_high}
 use Rattle.parser_lexer.proofs.tokens.lexeme.Goals as goal
 use Rattle.parser_lexer.proofs.tokens.lexeme.Goals.{in_default-via-in-46+else-is_followed, in_default-via-in-239+else-is_followed-2}
+use Rattle.parser_lexer.proofs.tokens.lexeme.Goals.{in-45-1, in_default+else-byte-lt9+else-byte-lt11+else-byte-lt48+then-byte-lt58}
 use Rattle.parser_lexer.proofs.tokens.lexeme.Goals.{in_default-via-in_default+then-byte-lt9}
 use Rattle.parser_lexer.proofs.tokens.lexeme.Goals.{in_default-via-in_default+else-byte-lt9+else-byte-lt11+then-byte-lt48}
 use Rattle.parser_lexer.proofs.tokens.lexeme.Goals.{in_default-via-in_default+else-byte-lt9+else-byte-lt11+else-byte-lt48+else-byte-lt58}
@@ -43,10 +44,11 @@ slice_bounds-word_sort-end c =
     sym (length-take-le c.name_size-size.result bs (omega (arith, c.name_size-size.ensures, run_size is_name_byte bs)))
 
 pub returns-in-45 : goal.returns-in-45
-returns-in-45 c = c.number.ensures ∙ sym (of_minus c.args.bytes.now c.in-45.is)
-
-pub returns-in-48-to-57 : goal.returns-in-48-to-57
-returns-in-48-to-57 c = c.number-in-48-to-57.ensures ∙ sym (of_digit c.args.bytes.now (omega arith) (omega arith))
+returns-in-45 c =
+    elim c.in-45-1.branch [
+      | in-45-1 w ↦ c.number.ensures ∙ sym (of_minus c.args.bytes.now (omega arith))
+      | in_default+else-byte-lt9+else-byte-lt11+else-byte-lt48+then-byte-lt58 w ↦ c.number.ensures ∙ sym (of_digit c.args.bytes.now (omega arith) (omega arith))
+    ]
 
 pub returns-in-239 : goal.returns-in-239
 returns-in-239 c = sym (of_mark c.args.bytes.now c.in-239.is (sym c.if-is_followed-2.ensures))

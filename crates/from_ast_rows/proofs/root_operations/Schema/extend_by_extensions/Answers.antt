@@ -12,12 +12,12 @@ use Rattle.from_ast_rows.proofs.root_operations.Schema.extend_by_extensions.Goal
 
 pub loop-card-preserved-then-kind-ne-SCHEMA_EXTENSION : goal.loop-card-preserved-then-kind-ne-SCHEMA_EXTENSION
 loop-card-preserved-then-kind-ne-SCHEMA_EXTENSION c =
-    let none = schema_extension_not c.args.self.now.index.collection.text.now _ c.args.kind _ (λ q. c.if-kind-ne-SCHEMA_EXTENSION.true (c.kind.ensures ∙ q)) in
+    let none = schema_extension_not c.args.self.now.collection.text.now _ c.args.kind _ (λ q. c.if-kind-ne-SCHEMA_EXTENSION.true (c.kind.ensures ∙ q)) in
     extends_past _ _ _ _ _ _ _ c.loop-card.invariant (omega arith) (extended_nothing _ c.args.start _ _ none)
 
 pub extend_ast-requires-clause-room : goal.extend_ast-requires-clause-room
 extend_ast-requires-clause-room c =
-    let i = c.args.self.now.index.collection in
+    let i = c.args.self.now.collection in
     let is = schema_extension_is i.text.now i.words.now c.args.kind _ (sym c.kind.ensures ∙ c.if-kind-ne-SCHEMA_EXTENSION.false) in
     let made : List Row → ℕ = λ l. (extend_sticky (same_stored i.text.now i.words.now) c.args.start l (filled_of c.loop-card.rows)).used in
     let fits = extends_fits _ _ _ _ _ _ _ c.loop-card.invariant (omega arith) in
@@ -25,7 +25,7 @@ extend_ast-requires-clause-room c =
 
 pub loop-card-preserved : goal.loop-card-preserved
 loop-card-preserved c =
-    let i = c.args.self.now.index.collection in
+    let i = c.args.self.now.collection in
     let is = schema_extension_is i.text.now i.words.now c.args.kind _ (sym c.kind.ensures ∙ c.if-kind-ne-SCHEMA_EXTENSION.false) in
     let made : List Row → Filled = λ l. extend_sticky (same_stored i.text.now i.words.now) c.args.start l (filled_of c.loop-card.rows) in
     let r = c.extend_ast.ensures in

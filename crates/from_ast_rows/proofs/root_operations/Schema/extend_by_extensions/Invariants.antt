@@ -6,5 +6,5 @@ use Rattle.from_ast_rows.proofs.root_operations.Schema.extend_by_extensions.Give
 -- The headings from `card` on are left to extend the list by.
 abbrev pub invariant-loop-card : goal.invariant-loop-card
 invariant-loop-card l =
-    Extends (same_stored l.self.index.collection.text.now l.self.index.collection.words.now) l.start
-    (schema_extension_at l.self.index.collection.text.now l.self.index.collection.words.now l.kind) l.self.index.headings.now l.initial.rows l.rows l.card-index
+    Extends (same_stored l.self.collection.text.now l.self.collection.words.now) l.start
+    (schema_extension_at l.self.collection.text.now l.self.collection.words.now l.kind) l.self.headings.now l.initial.rows l.rows l.card-index

@@ -14,7 +14,7 @@ use Rattle.from_ast_rows.proofs.root_operations.Schema.push_list.Goals as goal
 pub extend_ast-requires-clause-room : goal.extend_ast-requires-clause-room
 unfolding schema_list_at
 extend_ast-requires-clause-room c =
-    let i = c.args.self.now.index in
+    let i = c.args.self.now in
     let cut = schema_defined _ _ c.args.self.now.adopt _ _ c.args.self.now.implicit c.args.kind c.in-Some.card (ap (λ (o : Option ℕ). unwrap_or o absent) c.in-Some.is)
     (omega (arith, i.collection.hashed.cards_most, c.args.self.now.card_stored c.in-Some.card c.in-Some.is)) in
     two_first _ c.args.rows.now _ _ _ cut c.requires
@@ -22,7 +22,7 @@ extend_ast-requires-clause-room c =
 pub extend_by_extensions-requires-clause-begun : goal.extend_by_extensions-requires-clause-begun
 unfolding schema_list_at
 extend_by_extensions-requires-clause-begun c =
-    let i = c.args.self.now.index in
+    let i = c.args.self.now in
     let cut = schema_defined _ _ c.args.self.now.adopt _ _ c.args.self.now.implicit c.args.kind c.in-Some.card (ap (λ (o : Option ℕ). unwrap_or o absent) c.in-Some.is)
     (omega (arith, i.collection.hashed.cards_most, c.args.self.now.card_stored c.in-Some.card c.in-Some.is)) in
     two_begun _ _ _ _ _ cut c.requires _ c.extend_ast.ensures
@@ -30,7 +30,7 @@ extend_by_extensions-requires-clause-begun c =
 pub extend_by_extensions-requires-clause-room : goal.extend_by_extensions-requires-clause-room
 unfolding schema_list_at
 extend_by_extensions-requires-clause-room c =
-    let i = c.args.self.now.index in
+    let i = c.args.self.now in
     let cut = schema_defined _ _ c.args.self.now.adopt _ _ c.args.self.now.implicit c.args.kind c.in-Some.card (ap (λ (o : Option ℕ). unwrap_or o absent) c.in-Some.is)
     (omega (arith, i.collection.hashed.cards_most, c.args.self.now.card_stored c.in-Some.card c.in-Some.is)) in
     two_second _ _ _ _ _ cut c.requires _ c.extend_ast.ensures
@@ -38,7 +38,7 @@ extend_by_extensions-requires-clause-room c =
 pub returns-in-Some : goal.returns-in-Some
 unfolding schema_list_at
 returns-in-Some c =
-    let i = c.args.self.now.index in
+    let i = c.args.self.now in
     let cut = schema_defined _ _ c.args.self.now.adopt _ _ c.args.self.now.implicit c.args.kind c.in-Some.card (ap (λ (o : Option ℕ). unwrap_or o absent) c.in-Some.is)
     (omega (arith, i.collection.hashed.cards_most, c.args.self.now.card_stored c.in-Some.card c.in-Some.is)) in
     two_both _ _ _ _ _ cut c.requires _ c.extend_ast.ensures _ c.extend_by_extensions.ensures
