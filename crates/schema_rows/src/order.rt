@@ -98,20 +98,20 @@ impl RowPlace {
     }
 
     // Where the row after one of a kind stands, if that row may follow: types anywhere and other kinds in order, each root once.
-    #[tactic(auto, using(crate::proofs::OrderLaws::range_standing), unfolding(definition::specs::Cards::is_type, crate::specs::Order::fits, crate::specs::Order::kind_after, crate::specs::Order::place_after, definition::specs::LentRows::in_place, definition::specs::LentRows::row_place))]
+    #[tactic(auto, using(crate::proofs::OrderLaws::range_standing), unfolding(definition::specs::Cards::is_type, crate::specs::Order::fits, crate::specs::Order::kind_after, crate::specs::Order::place_after, crate::specs::Order::place_told, definition::specs::LentRows::in_place, definition::specs::LentRows::row_place))]
     pub fn after(self, what: u32) -> Option<RowPlace>
         ensures { MatchOption result (fits self.kind self.place what ≡ false)
             (λ next. (fits self.kind self.place what ≡ true)
             × (next.kind ≡ kind_after self.kind what)
             × (next.place ≡ place_after self.kind what)) }
     {
-        let place = place_after(self.kind, what).place;
         if kinds::is_type(what) {
-            return Some(RowPlace { kind: what, place });
+            return Some(RowPlace {
+                kind: what,
+                place: place_after(self.kind, what).place,
+            });
         }
-        if places_under(self.kind) <= place {
-            return None;
-        }
+        let place = place_under(self.kind, what)?;
         if place < self.place {
             return None;
         }
