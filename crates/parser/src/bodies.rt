@@ -54,7 +54,8 @@ fn uses_and_last<'a>(c: Cursor<'a>, cards: &mut Cards, kind: u32) -> Result<Curs
     last_part(k, cards, kind)
 }
 
-// A body. Objects and interfaces may name interfaces first.
+// A body. Objects and interfaces may name interfaces first. Compiled into its callers, as `heading_rest` is: cursors are large to hand over.
+#[inline(always)]
 fn body<'a>(c: Cursor<'a>, cards: &mut Cards, kind: u32) -> Result<Cursor<'a>, SyntaxError>
     requires { Short c }
     ensures { MayListed (body_of kind) c.entry result cards.old cards.new }
@@ -107,6 +108,7 @@ fn more<'a>(c: Cursor<'a>, cards: &mut Cards, kind: u32) -> Result<Cursor<'a>, S
 pub const TO_EXTENSION: u32 = SCALAR_TYPE_EXTENSION - SCALAR_TYPE_DEFINITION;
 
 // What follows the name of a heading, or the word `schema`.
+#[inline(always)]
 pub fn heading_rest<'a>(
     c: Cursor<'a>,
     cards: &mut Cards,

@@ -118,7 +118,8 @@ fn type_kind(sort: Sort) -> u32
     }
 }
 
-// A definition that began at `first`, from its keyword on. Its card is counted with the keyword.
+// A definition that began at `first`, from its keyword on. Its card is counted with the keyword. Compiled into its callers: cursors are large to hand over.
+#[inline(always)]
 fn described<'a>(
     first: Cursor<'a>,
     c: Cursor<'a>,

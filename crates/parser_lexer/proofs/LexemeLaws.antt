@@ -5,7 +5,7 @@ use mathlib.Core.Bool.{Bool, true, false, ◌&&◌}
 use mathlib.Core.Logic.{inl, inr}
 use Prim.Native.Nat.{ℕ, ◌+◌, ◌≤◌, ◌<◌}
 use native.Mathlib.Omega.{arith}
-use borrow.Author.Tests.{ne_eqb, eqb-false, le-leb, lt-leb, ltb-true, ltb-false}
+use borrow.Author.Tests.{ne_eqb, le-leb, lt-leb, ltb-true, ltb-false}
 use lib.Dec.{eqb, ltb}
 use lib.ListN.{get_or, drop}
 use types.Run.{OneOf}
@@ -44,19 +44,16 @@ module _ (bs : List ℕ) where
         h,
       )
 
-  pub of_line : 9 ≤ get_or bs 0 0 → get_or bs 0 0 ≤ 10 → lexeme bs ≡ ignored 1
-  unfolding lexeme ends_line
-  of_line h k = go (eqb (get_or bs 0 0) 9) refl
-    where
-      go : (t : Bool) → eqb (get_or bs 0 0) 9 ≡ t → lexeme bs ≡ ignored 1
-      go true e = rw e
-      go false e = let n = eqb-false (get_or bs 0 0) 9 e in let m : get_or bs 0 0 ≡ 10 = omega arith in rw m
+  pub of_tab : get_or bs 0 0 ≡ 9 → lexeme bs ≡ ignored 1
+  unfolding lexeme
+  of_tab h = rw h
 
-  pub of_blank : OneOf (13 ∷ 32 ∷ 44 ∷ []) (get_or bs 0 0) → lexeme bs ≡ ignored 1
+  pub of_blank : OneOf (10 ∷ 13 ∷ 32 ∷ 44 ∷ []) (get_or bs 0 0) → lexeme bs ≡ ignored 1
   unfolding lexeme ends_line
   of_blank (inl h) = rw h
   of_blank (inr (inl h)) = rw h
-  of_blank (inr (inr h)) = rw h
+  of_blank (inr (inr (inl h))) = rw h
+  of_blank (inr (inr (inr h))) = rw h
 
   pub of_quote : get_or bs 0 0 ≡ 34 → lexeme bs ≡ string bs
   unfolding lexeme ends_line is_name_start is_digit
@@ -124,14 +121,10 @@ module _ (bs : List ℕ) where
           ne_eqb b 239 mark,
         )
 
-    pub of_low : get_or bs 0 0 < 9 → lexeme bs ≡ punctuator (get_or bs 0 0) punctuators
-    of_low h = other _ refl (no_digit_below _ (omega arith)) (omega arith) (omega arith) (omega arith) (omega arith) (omega arith) (omega arith)
-        (omega arith) (omega arith) (omega arith) (omega arith)
-
-    pub of_middle : 10 < get_or bs 0 0 → get_or bs 0 0 < 48 → (OneOf (13 ∷ 32 ∷ 44 ∷ []) (get_or bs 0 0) → ⊥) → (get_or bs 0 0 ≡ 34 → ⊥) →
+    pub of_low : get_or bs 0 0 < 48 → (get_or bs 0 0 ≡ 9 → ⊥) → (OneOf (10 ∷ 13 ∷ 32 ∷ 44 ∷ []) (get_or bs 0 0) → ⊥) → (get_or bs 0 0 ≡ 34 → ⊥) →
         (get_or bs 0 0 ≡ 35 → ⊥) → (get_or bs 0 0 ≡ 45 → ⊥) → (get_or bs 0 0 ≡ 46 → ⊥) → lexeme bs ≡ punctuator (get_or bs 0 0) punctuators
-    of_middle h k blank quote hash minus dot = other _ refl (no_digit_below _ k) (omega arith) (omega arith) (λ e. blank (inl e)) (λ e. blank (inr (inl e)))
-        (λ e. blank (inr (inr e))) quote hash minus dot (omega arith)
+    of_low h tab blank quote hash minus dot = other _ refl (no_digit_below _ h) tab (λ e. blank (inl e)) (λ e. blank (inr (inl e)))
+        (λ e. blank (inr (inr (inl e)))) (λ e. blank (inr (inr (inr e)))) quote hash minus dot (omega arith)
 
     pub of_high : 57 < get_or bs 0 0 → (get_or bs 0 0 ≡ 239 → ⊥) → lexeme bs ≡ punctuator (get_or bs 0 0) punctuators
     of_high h mark = other _ refl (no_digit_above _ h) (omega arith) (omega arith) (omega arith) (omega arith) (omega arith) (omega arith)

@@ -2,7 +2,7 @@
 use Rattle.std.specs.Prelude.{◌≡◌, List, Bool, ◌&&◌, not, ℕ, ◌+◌, ◌≤◌, ◌<◌, eqb, drop, length, Some, None}
 use Rattle.std.specs.Prelude.{Option as Lent}
 use Rattle.std.proofs.Math.Option.{Option, none, some}
-use Rattle.definition.specs.Lists.{choose, found}
+use Rattle.definition.specs.Lists.{found}
 use Rattle.definition.specs.Lexical.{byte, between, is_hex, plain, block, Lexeme, lexed, unreadable}
 
 -- What code answers, where Lexical has an option.

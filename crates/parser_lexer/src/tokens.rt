@@ -49,7 +49,9 @@ pub fn lexeme(bytes: &[u8]) -> Lexeme
         return Lexeme::Token(words::word_sort(&bytes[..size]), size);
     }
     match byte {
-        b' ' | b'\n' | b',' | b'\r' | b'\t' => Lexeme::Ignored(1),
+        b' ' | b'\n' | b',' | b'\r' => Lexeme::Ignored(1),
+        // An arm by itself: with the line feed it would be a range, and ranges are told after all single bytes.
+        b'\t' => Lexeme::Ignored(1),
         b'"' => strings::string(bytes),
         b'#' => Lexeme::Ignored(1 + ignored::comment(&bytes[1..])),
         // One arm for both: `number` is called once, and so becomes a part of this.

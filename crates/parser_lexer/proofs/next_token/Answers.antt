@@ -18,7 +18,7 @@ loop-i-preserved-then-text-i-eq-SPACE c = (
   omega arith,
   omega arith,
   ignored_on c.args.text.now c.args.at c.loop-i.i c.loop-i.invariant.2 1 (omega arith)
-      (of_blank (drop c.loop-i.i c.args.text.now) (inr (inl (simp (get_or-drop, add-zero) c.if-text-i-eq-SPACE.true)))),
+      (of_blank (drop c.loop-i.i c.args.text.now) (inr (inr (inl (simp (get_or-drop, add-zero) c.if-text-i-eq-SPACE.true))))),
 )
 
 pub overflow_add-i-in-Ignored : goal.overflow_add-i-in-Ignored

@@ -1,7 +1,7 @@
 use native.Mathlib.Omega.{arith}
 use lib.ListN.{length-drop}
 use Rattle.std.proofs.lemmas.List.{take_rest}
-use Rattle.std.specs.Prelude.{Some, None}
+use Rattle.std.specs.Prelude.{Some}
 use Rattle.parser_lexer.specs.Comments.{CommentPart}
 use Rattle.parser_lexer.proofs.CommentLaws.{comment_ends}
 use Rattle.parser_lexer.proofs.ignored.comment.Goals as goal

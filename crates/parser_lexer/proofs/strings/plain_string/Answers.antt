@@ -1,11 +1,10 @@
 use mathlib.Core.Path.{sym, ap, ◌∙◌}
 use native.Mathlib.Omega.{arith}
-use borrow.Author.Tests.{ne_eqb}
 use Rattle.std.proofs.lemmas.List.{take_rest}
 use Rattle.definition.specs.Lexical.{plain}
-use Rattle.std.specs.Prelude.{Some, None}
+use Rattle.std.specs.Prelude.{Some}
 use Rattle.parser_lexer.specs.Strings.{later, PlainPart}
-use Rattle.parser_lexer.proofs.StringLaws.{at_first, reads_on, plain_closes, plain_end}
+use Rattle.parser_lexer.proofs.StringLaws.{reads_on, plain_closes, plain_end}
 use Rattle.parser_lexer.proofs.strings.plain_string.Goals as goal
 
 pub returns-then-first-eq34 : goal.returns-then-first-eq34

@@ -8,14 +8,12 @@ use Rattle.std.proofs.lemmas.List.{take_rest}
 use Rattle.definition.specs.Names.{is_name_byte}
 use Rattle.definition.specs.Lexical.{named, ignored}
 use Rattle.parser_laws.proofs.Gluing.{run_size, comment_size}
-use Rattle.parser_lexer.proofs.LexemeLaws.{of_name, of_line, of_blank, of_quote, of_hash, of_dots, of_mark, of_minus, of_digit, no_dots, no_mark}
-use Rattle.parser_lexer.proofs.LexemeLaws.{of_low, of_middle, of_high}
+use Rattle.parser_lexer.proofs.LexemeLaws.{of_name, of_tab, of_blank, of_quote, of_hash, of_dots, of_mark, of_minus, of_digit, no_dots, no_mark}
+use Rattle.parser_lexer.proofs.LexemeLaws.{of_low, of_high}
 use Rattle.parser_lexer.proofs.tokens.lexeme.Goals as goal
 use Rattle.parser_lexer.proofs.tokens.lexeme.Goals.{in_default-via-in-46+else-is_followed, in_default-via-in-239+else-is_followed-2}
-use Rattle.parser_lexer.proofs.tokens.lexeme.Goals.{in-45-1, in_default+else-byte-lt9+else-byte-lt11+else-byte-lt48+then-byte-lt58}
-use Rattle.parser_lexer.proofs.tokens.lexeme.Goals.{in_default-via-in_default+then-byte-lt9}
-use Rattle.parser_lexer.proofs.tokens.lexeme.Goals.{in_default-via-in_default+else-byte-lt9+else-byte-lt11+then-byte-lt48}
-use Rattle.parser_lexer.proofs.tokens.lexeme.Goals.{in_default-via-in_default+else-byte-lt9+else-byte-lt11+else-byte-lt48+else-byte-lt58}
+use Rattle.parser_lexer.proofs.tokens.lexeme.Goals.{in-45-1, in_default+else-byte-lt48+then-byte-lt58}
+use Rattle.parser_lexer.proofs.tokens.lexeme.Goals.{in_default-via-in_default+then-byte-lt48, in_default-via-in_default+else-byte-lt48+else-byte-lt58}
 
 pub returns-then-begins : goal.returns-then-begins
 unfolding named
@@ -47,7 +45,7 @@ pub returns-in-45 : goal.returns-in-45
 returns-in-45 c =
     elim c.in-45-1.branch [
       | in-45-1 w ↦ c.number.ensures ∙ sym (of_minus c.args.bytes.now (omega arith))
-      | in_default+else-byte-lt9+else-byte-lt11+else-byte-lt48+then-byte-lt58 w ↦ c.number.ensures ∙ sym (of_digit c.args.bytes.now (omega arith) (omega arith))
+      | in_default+else-byte-lt48+then-byte-lt58 w ↦ c.number.ensures ∙ sym (of_digit c.args.bytes.now (omega arith) (omega arith))
     ]
 
 pub returns-in-239 : goal.returns-in-239
@@ -56,8 +54,8 @@ returns-in-239 c = sym (of_mark c.args.bytes.now c.in-239.is (sym c.if-is_follow
 pub returns-in-32 : goal.returns-in-32
 returns-in-32 c = sym (of_blank c.args.bytes.now c.in-32.is)
 
-pub returns-in-32-2 : goal.returns-in-32-2
-returns-in-32-2 c = sym (of_line c.args.bytes.now (omega arith) (omega arith))
+pub returns-in-9 : goal.returns-in-9
+returns-in-9 c = sym (of_tab c.args.bytes.now c.in-9.is)
 
 pub returns-in_default : goal.returns-in_default
 returns-in_default c =
@@ -66,10 +64,9 @@ returns-in_default c =
           c.punctuator.ensures ∙ sym (no_dots c.args.bytes.now w.in-46.is (sym w.is_followed.ensures ∙ w.if-is_followed.false))
       | in_default-via-in-239+else-is_followed-2 w ↦
           c.punctuator.ensures ∙ sym (no_mark c.args.bytes.now w.in-239.is (sym w.if-is_followed-2.ensures))
-      | in_default-via-in_default+then-byte-lt9 w ↦ c.punctuator.ensures ∙ sym (of_low c.args.bytes.now (sym c.begins.ensures ∙ c.if-begins.false) (omega arith))
-      | in_default-via-in_default+else-byte-lt9+else-byte-lt11+then-byte-lt48 w ↦
-          c.punctuator.ensures ∙ sym (of_middle c.args.bytes.now (sym c.begins.ensures ∙ c.if-begins.false) (omega arith) (omega arith) (search rules) (search rules) (search rules)
-          (search rules) (search rules))
-      | in_default-via-in_default+else-byte-lt9+else-byte-lt11+else-byte-lt48+else-byte-lt58 w ↦
+      | in_default-via-in_default+then-byte-lt48 w ↦
+          c.punctuator.ensures ∙ sym (of_low c.args.bytes.now (sym c.begins.ensures ∙ c.if-begins.false) (omega arith) (search rules) (search rules) (search rules)
+          (search rules) (search rules) (search rules))
+      | in_default-via-in_default+else-byte-lt48+else-byte-lt58 w ↦
           c.punctuator.ensures ∙ sym (of_high c.args.bytes.now (sym c.begins.ensures ∙ c.if-begins.false) (omega arith) (search rules))
     ]
