@@ -182,9 +182,28 @@ module _ (k d : ℕ) where
     pub sought_no_card : (get_or x 1 0 ≡ d → ⊥) → row_offset k d s ≡ 3 + row_offset k d t
     sought_no_card e = sought_miss (row_no_card k d (get_or x 0 0) (get_or x 1 0) e)
 
+    -- The rows under it, by the row that stands first.
+    pub under_hit : get_or x 0 0 ≡ k → get_or x 1 0 ≡ d → rows_under k d s ≡ t
+    unfolding rows_under row_offset
+    under_hit e f = rw (q, three_words x h, row_is k d (get_or x 0 0) (get_or x 1 0) e f)
+
+    under_miss : is_row_of k d (get_or x 0 0) (get_or x 1 0) ≡ false → rows_under k d s ≡ rows_under k d t
+    unfolding rows_under row_offset
+    under_miss e = rw (q, three_words x h, e) (sym (drop-drop (3 + row_offset k d t) 3 (get_or x 0 0 ∷ (get_or x 1 0 ∷ (get_or x 2 0 ∷ t)))))
+
+    pub under_no_what : (get_or x 0 0 ≡ k → ⊥) → rows_under k d s ≡ rows_under k d t
+    under_no_what e = under_miss (row_no_what k d (get_or x 0 0) (get_or x 1 0) e)
+
+    pub under_no_card : (get_or x 1 0 ≡ d → ⊥) → rows_under k d s ≡ rows_under k d t
+    under_no_card e = under_miss (row_no_card k d (get_or x 0 0) (get_or x 1 0) e)
+
   pub sought_end : (t : List ℕ) → length t < 3 → row_offset k d t ≡ 0
   unfolding row_offset
   sought_end t h = short (λ l. row_offset k d l ≡ 0) refl (λ w. refl) (λ w c. refl) t h
+
+  pub under_end : (t : List ℕ) → length t < 3 → rows_under k d t ≡ []
+  unfolding rows_under row_offset
+  under_end t h = short (λ l. rows_under k d l ≡ []) refl (λ w. refl) (λ w c. refl) t h
 
   -- The rows under a row that was sought, where the part of all words ends with them.
   pub under_sought : (rows : List ℕ) (at : ℕ) → at ≡ row_offset k d rows →

@@ -7,7 +7,7 @@ use Prim.Native.Nat.{ℕ, zero, suc, ◌+◌, ◌-◌, ◌%◌, ◌≤◌, ◌<�
 use native.Mathlib.Numerals.{add-one}
 use native.Mathlib.Omega.{arith}
 use lib.ListN.{length, take, drop, get_or, set, length-set, length-map, length-drop}
-use lib.Seq.{length-take-le, take-length, take-suc-set}
+use lib.Seq.{drop_at, length-take-le, take-length, take-add, take-suc-set}
 use Rattle.definition.specs.Lists.{find}
 use Rattle.from_ast_index.specs.Index.{card_hash, same_cards}
 use Rattle.definition.specs.Store.{cards_used_of}
@@ -85,6 +85,36 @@ module _ (text words cards hashes : List ℕ) (card hash : ℕ) (are : hashes �
 
 -- ---- The part that is searched.
 
+part_taken : (from count : ℕ) (xs : List ℕ) → from ≤ count → from ≤ length xs → drop from (take count xs) ≡ take (count - from) (drop from xs)
+part_taken from count xs h l =
+    let e : from + (count - from) ≡ count = omega arith in
+    ap (λ (n : ℕ). drop from (take n xs)) (sym e)
+    ∙ ap (drop from) (take-add from (count - from) xs)
+    ∙ drop_at (take from xs) (take (count - from) (drop from xs)) from (length-take-le from xs l)
+
+-- Of the cards in arrays that grow.
+module _ (text words : List ℕ) (f : FirstCards) (p : FirstsAre text words f) (from : ℕ) (most : from ≤ f.len) where
+  cards_part : drop from (cards_of f) ≡ take (f.len - from) (drop from f.cards.now)
+  cards_part = part_taken from f.len f.cards.now most (omega (arith, p.len_most, p.cards_room))
+
+  hashes_part : drop from (hashes_of f) ≡ take (f.len - from) (drop from f.hashes.now)
+  hashes_part = part_taken from f.len f.hashes.now most (omega (arith, p.len_most, p.hashes_room))
+
+  pub hashes_of_part : take (f.len - from) (drop from f.hashes.now) ≡ map (card_hash text words) (take (f.len - from) (drop from f.cards.now))
+  hashes_of_part =
+      rw (sym cards_part, sym hashes_part) (ap (drop from) p.hashes_are ∙ drop_hash text words from (cards_of f))
+
+  -- What is sought among all is found in the part.
+  pub part_has : (card hash : ℕ) → hash ≡ card_hash text words card → from ≤ get_or f.buckets.now (hash % length f.buckets.now) 0 →
+      entry_of (find (same_cards text words card) (cards_of f)) ≡ entry_of (find (same_cards text words card) (take (f.len - from) (drop from f.cards.now)))
+  part_has card hash is hint =
+      let cards_long = length-take-le f.len f.cards.now (omega (arith, p.len_most, p.cards_room)) in
+      let hashes_long = length-take-le f.len f.hashes.now (omega (arith, p.len_most, p.hashes_room)) in
+      search_from text words (cards_of f) (hashes_of f) card hash p.hashes_are is from (omega arith)
+      (λ j l. hint_passed (hashes_of f) f.buckets.now p.hinted hash from hint j l (omega arith))
+      ∙ ap (λ (xs : List ℕ). entry_of (find (same_cards text words card) xs)) cards_part
+
+-- Of the known cards, all of which are searched from there on.
 pub rest_taken : (from : ℕ) (xs : List ℕ) → take (length xs - from) (drop from xs) ≡ drop from xs
 rest_taken from xs = ap (λ (n : ℕ). take n (drop from xs)) (sym (length-drop from xs)) ∙ take-length (drop from xs)
 
@@ -93,13 +123,12 @@ module _ (text words : List ℕ) (k : KnownCards) (p : KnownAre text words k) wh
   known_beside = ap length p.hashes_are ∙ length-map k.cards.now (card_hash text words)
 
   module _ (from : ℕ) (most : from ≤ length k.cards.now) where
-    pub hashes_of_part : drop from k.hashes.now ≡ map (card_hash text words) (drop from k.cards.now)
-    hashes_of_part = ap (drop from) p.hashes_are ∙ drop_hash text words from k.cards.now
+    pub hashes_of_rest : drop from k.hashes.now ≡ map (card_hash text words) (drop from k.cards.now)
+    hashes_of_rest = ap (drop from) p.hashes_are ∙ drop_hash text words from k.cards.now
 
-    -- What is sought among all is found in the part.
-    pub part_has : (card hash : ℕ) → hash ≡ card_hash text words card → from ≤ get_or k.buckets.now (hash % length k.buckets.now) 0 →
+    pub rest_has : (card hash : ℕ) → hash ≡ card_hash text words card → from ≤ get_or k.buckets.now (hash % length k.buckets.now) 0 →
         entry_of (find (same_cards text words card) k.cards.now) ≡ entry_of (find (same_cards text words card) (drop from k.cards.now))
-    part_has card hash is hint =
+    rest_has card hash is hint =
         search_from text words k.cards.now k.hashes.now card hash p.hashes_are is from most
         (λ j l. hint_passed k.hashes.now k.buckets.now p.hinted hash from hint j l (omega (arith, known_beside)))
 

@@ -1,18 +1,20 @@
 -- All rows: by the numbers of cards they are those of the definition, for the headings of the store.
 use mathlib.Core.Path.{◌≡◌, sym, ap, ◌∙◌}
 use mathlib.Core.Bool.{Bool, true, false}
-use mathlib.Core.List.{List, [], ◌++◌, append-nil}
+use mathlib.Core.List.{List, [], ◌++◌, map, append-nil}
 use Prim.Native.Nat.{ℕ, ◌*◌, ◌≤◌}
 use native.Mathlib.Nat.{zero-add}
 use native.Mathlib.Omega.{arith}
 use lib.ListN.{length}
-use Rattle.definition.specs.Lists.{choose, flat_map, firsts, written}
-use Rattle.definition.specs.Headings.{defined_types, orphans, same_named}
+use Rattle.definition.specs.Lists.{choose, flat_map, filter, firsts, written}
+use Rattle.definition.specs.Headings.{defined_types, orphans, same_named, is_type_extension}
 use Rattle.definition.specs.Catalogue.{Row, rows, type_rows, adopted, adopted_rows}
 use Rattle.definition.specs.Outcomes.{words_of_row}
+use Rattle.definition.specs.Refusals.{card_capacity}
+use Rattle.definition.specs.Store.{cards_used_of}
 use Rattle.store_reader.specs.Stored.{stored_headings}
 use Rattle.store_reader.proofs.Words.{headings_at}
-use Rattle.from_ast_index.specs.Index.{Hashed, Listed}
+use Rattle.from_ast_index.specs.Index.{Hashed, Listed, heading_number}
 use Rattle.component.specs.Pushed.{Filled, filled, Fits, pushed}
 use Rattle.component.specs.RowsByCards.{types_rows_at, all_types_rows_at, type_rows_at, directive_rows_at, schema_rows_at}
 use Rattle.from_ast_rows.specs.Arrays.{Arrays}
@@ -43,16 +45,21 @@ first_capacity : (ws : List ℕ) (rs : List Row) → 3 * length rs ≤ length ws
 unfolding pushed
 first_capacity ws rs h = omega arith
 
-module _ {text words headings hashes types orphan_cards extensions : List ℕ} (x : Arrays text words headings hashes types orphan_cards extensions)
-    (adopt : Bool) where
+-- By what the lists hold, whoever says it.
+module _ (text words : List ℕ) {headings types orphan_cards extensions : List ℕ}
+    (headings_are : headings ≡ map heading_number (stored_headings text words))
+    (types_are : types ≡ map heading_number (defined_types (stored_headings text words)))
+    (orphans_are : orphan_cards ≡ map heading_number (firsts same_named [] (orphans (stored_headings text words))))
+    (extensions_are : extensions ≡ map heading_number (filter is_type_extension (stored_headings text words)))
+    (most : cards_used_of words ≤ card_capacity) (adopt : Bool) where
   types_built : types_rows_at text words types extensions ≡ flat_map (type_rows (stored_headings text words)) (defined_types (stored_headings text words))
   types_built =
-      (λ i. flat_map (type_rows_at text words (x.extensions_are i)) (x.types_are i)) ∙ types_rows text words (stored_headings text words) (headings_at text words)
+      (λ i. flat_map (type_rows_at text words (extensions_are i)) (types_are i)) ∙ types_rows text words (stored_headings text words) (headings_at text words)
 
   orphans_built : types_rows_at text words orphan_cards extensions
       ≡ flat_map (adopted_rows (stored_headings text words)) (firsts same_named [] (orphans (stored_headings text words)))
   orphans_built =
-      (λ i. flat_map (type_rows_at text words (x.extensions_are i)) (x.orphans_are i))
+      (λ i. flat_map (type_rows_at text words (extensions_are i)) (orphans_are i))
       ∙ orphans_rows text words (stored_headings text words) (headings_at text words)
 
   built_cut : rows adopt (stored_headings text words) ≡
@@ -60,19 +67,29 @@ module _ {text words headings hashes types orphan_cards extensions : List ℕ} (
   unfolding rows adopted
   built_cut =
       sym (λ i.
-      (ap (schema_rows_at text words adopt) x.headings_are ∙ schema_rows_lem text words (stored_headings text words) (headings_at text words)
-      x.hashed.cards_most adopt) i
-      ++ ((ap (directive_rows_at text words) x.headings_are ∙ directives_rows text words (stored_headings text words) (headings_at text words)) i
+      (ap (schema_rows_at text words adopt) headings_are ∙ schema_rows_lem text words (stored_headings text words) (headings_at text words) most adopt) i
+      ++ ((ap (directive_rows_at text words) headings_are ∙ directives_rows text words (stored_headings text words) (headings_at text words)) i
       ++ (types_built i
       ++ choose adopt (orphans_built i) [])))
 
-  -- all of them are left at the beginning of the slice
+cut_rest : (rs parts : List Row) → rs ≡ parts → (ws : List ℕ) → 3 * length rs ≤ length ws → Rest parts (filled ws 0) (pushed rs (filled ws 0))
+cut_rest rs parts cut ws h = rest_begin _ (filled ws 0) _ (ap (λ (l : List Row). pushed l (filled ws 0)) (sym cut)) (first_capacity ws rs h)
+
+-- All of them are left at the beginning of the slice, by what the index lists of a store that is not too large.
+module _ {text words headings owners types orphan_cards extensions : List ℕ} (x : Listed text words headings owners types orphan_cards extensions)
+    (most : cards_used_of words ≤ card_capacity) (adopt : Bool) where
   pub built_rest : (ws : List ℕ) → 3 * length (rows adopt (stored_headings text words)) ≤ length ws → Rest
       (schema_rows_at text words adopt headings ++ (directive_rows_at text words headings ++ all_types_rows_at text words adopt types orphan_cards extensions))
       (filled ws 0) (pushed (rows adopt (stored_headings text words)) (filled ws 0))
-  built_rest ws h =
-      rest_begin _ (filled ws 0) _ (ap (λ (l : List Row). pushed l (filled ws 0)) (sym built_cut))
-      (first_capacity ws (rows adopt (stored_headings text words)) h)
+  built_rest = cut_rest _ _ (built_cut _ _ x.headings_are x.types_are x.orphans_are x.extensions_are most adopt)
+
+-- The same by the arrays.
+module _ {text words headings hashes types orphan_cards extensions : List ℕ} (x : Arrays text words headings hashes types orphan_cards extensions)
+    (adopt : Bool) where
+  pub arrays_rest : (ws : List ℕ) → 3 * length (rows adopt (stored_headings text words)) ≤ length ws → Rest
+      (schema_rows_at text words adopt headings ++ (directive_rows_at text words headings ++ all_types_rows_at text words adopt types orphan_cards extensions))
+      (filled ws 0) (pushed (rows adopt (stored_headings text words)) (filled ws 0))
+  arrays_rest = cut_rest _ _ (built_cut _ _ x.headings_are x.types_are x.orphans_are x.extensions_are x.hashed.cards_most adopt)
 
 -- From the beginning of the slice.
 pub pushed_first : (ws : List ℕ) (rs : List Row) (out : List ℕ) (r : ℕ) → filled out r ≡ pushed rs (filled ws 0) →

@@ -7,7 +7,7 @@ use mathlib.Core.Option.{Option, none, some}
 use Prim.Native.Nat.{ℕ, zero, suc, ◌+◌, ◌-◌, ◌<◌, ◌≤◌}
 use native.Mathlib.Nat.{add_assoc, zero-add}
 use native.Mathlib.Omega.{arith}
-use borrow.Author.Tests.{eq-eqb, ne_eqb, eqb-true, eqb-false, leb-true}
+use borrow.Author.Tests.{eq-eqb, ne_eqb, eqb-true, eqb-false, leb-true, le-leb}
 use lib.Dec.{eqb, leb}
 use lib.ListN.{length, get_or, drop, length-drop}
 use types.Run.{OneOf}
@@ -61,6 +61,13 @@ escape_size bs =
         omega arith
     go false e true false f = omega arith
     go false e false v f = omega arith
+
+pub and_and : (a b c : Bool) → (a && (b && c)) ≡ (a && b && c)
+and_and true b c = refl
+and_and false b c = refl
+
+pub and_pairs : (a b c d : Bool) → ((a && b) && (c && d)) ≡ (a && b && c && d)
+and_pairs a b c d = and_and (a && b) c d
 
 -- Four digits don't lie in fewer than five bytes.
 pub code_short : (bs : List ℕ) → length bs < 5 → false ≡ is_code bs
@@ -256,6 +263,11 @@ triple_size bs e =
     let l = test_there [] (λ y. eqb y 34) refl 2 bs p.1 in
     omega arith
 
+-- Three quotes, where the first is known.
+pub tripled_then : (bs : List ℕ) → get_or bs 0 0 ≡ 34 → (eqb (get_or bs 1 0) 34 && eqb (get_or bs 2 0) 34) ≡ tripled bs
+unfolding tripled
+tripled_then bs e = rw e
+
 -- Three quotes, however the code has told them.
 pub tripled_told : (bs : List ℕ) → get_or bs 0 0 ≡ 34 → get_or bs 1 0 ≡ 34 → get_or bs 2 0 ≡ 34 → true ≡ tripled bs
 unfolding tripled
@@ -340,6 +352,10 @@ simple b e =
     no_test : (t : Bool) → not t ≡ true → t ≡ false
     no_test true e = clash e
     no_test false e = refl
+
+-- What is none of that stands for itself.
+pub simple_first : (b : ℕ) → 32 ≤ b → b ≤ 127 → (b ≡ 34 → ⊥) → (b ≡ 92 → ⊥) → is_simple b ≡ true
+simple_first b h k q s = rw (le-leb 32 b h, le-leb b 127 k, ne_eqb b 34 q, ne_eqb b 92 s)
 
 plain_one : (bs : List ℕ) → 0 < length bs → is_simple (get_or bs 0 0) ≡ true → plain 0 bs ≡ later 1 (plain 0 (drop 1 bs))
 plain_one [] l e = absurd (omega arith)

@@ -5,7 +5,7 @@ use lib.ListN.{length, drop}
 use Rattle.definition.specs.Names.{same_name}
 use Rattle.from_ast_index.specs.Index.{same_cards}
 use Rattle.from_ast_index.proofs.Search.{hash_at}
-use Rattle.from_ast_indexing.proofs.EntrySearch.{rest_taken, hashes_of_part, part_has, first_hit, first_miss, first_differs, others_beside, none_left, none_beside}
+use Rattle.from_ast_indexing.proofs.EntrySearch.{rest_taken, hashes_of_rest, rest_has, first_hit, first_miss, first_differs, others_beside, none_left, none_beside}
 use Rattle.from_ast_indexing.proofs.entry.KnownCards.find_from.Goals as goal
 use Rattle.from_ast_indexing.proofs.entry.KnownCards.find_from.Goals.{else-other_hash-hash-via-then-other_hash-hash+else-same, else-other_hash-hash-via-else-other_hash-hash}
 
@@ -18,9 +18,9 @@ loop-other-init c =
     let hashes_left : c.into_iter-other-iterator.result.b.rest.now ≡ drop c.args.from k.hashes.now =
     rw c.into_iter-other-iterator.ensures.into_iter_gives (c.zip-other-items.ensures.second.0 ∙ rest_taken c.args.from k.hashes.now) in
     record {
-      left = rw cards_left (part_has t.text.now t.words.now k c.requires.known c.args.from c.requires.most c.args.card _
+      left = rw cards_left (rest_has t.text.now t.words.now k c.requires.known c.args.from c.requires.most c.args.card _
           (hash_at _ _ _ t.hashed c.args.card c.requires.stored) c.requires.passed);
-      beside = rw (cards_left, hashes_left) (hashes_of_part t.text.now t.words.now k c.requires.known c.args.from c.requires.most);
+      beside = rw (cards_left, hashes_left) (hashes_of_rest t.text.now t.words.now k c.requires.known c.args.from c.requires.most);
     }
 
 pub returns-then-same : goal.returns-then-same
